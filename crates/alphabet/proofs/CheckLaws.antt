@@ -1,0 +1,31 @@
+-- Laws of checks in order: what a check that passes or fails makes of the whole. Assumes nothing.
+use mathlib.Core.Path.{_≡_, refl}
+use mathlib.Core.Bool.{Bool, true, false}
+use Prim.Native.Nat.{ℕ}
+use native.Mathlib.Omega.{arith}
+use Rattle.alphabet.specs.Answers.{failsIf, orElse}
+use Rattle.alphabet.specs.declared.answers.Refusal.{Refusal}
+use Rattle.alphabet.specs.declared.answers.Check.{Check}
+use Rattle.alphabet.specs.declared.answers.Check.the-variants.{Passes, Fails}
+
+pub fails-or : {c : Check} {kind : Refusal} {place : ℕ} → c ≡ Fails kind place → (later : Check) → orElse c later ≡ Fails kind place
+fails-or e later = rw e
+
+pub passes-or : {c : Check} → c ≡ Passes → (later : Check) → orElse c later ≡ later
+passes-or e later = rw e
+
+-- where the whole passes, each passes
+pub both-pass : (c later : Check) → orElse c later ≡ Passes → (c ≡ Passes) × (later ≡ Passes)
+both-pass Passes later e = (refl, e)
+both-pass (Fails kind place) later e = absurd (let z : _≡_ {A = ℕ} 0 1 = cc in omega arith)
+
+-- a check passes exactly where its test does not hold
+pub fails-if : {test : Bool} → test ≡ true → (kind : Refusal) (place : ℕ) → failsIf test kind place ≡ Fails kind place
+fails-if e kind place = rw e
+
+pub passes-if : {test : Bool} → test ≡ false → (kind : Refusal) (place : ℕ) → failsIf test kind place ≡ Passes
+passes-if e kind place = rw e
+
+pub passes-not : (test : Bool) (kind : Refusal) (place : ℕ) → failsIf test kind place ≡ Passes → test ≡ false
+passes-not false kind place e = refl
+passes-not true kind place e = absurd (let z : _≡_ {A = ℕ} 0 1 = cc in omega arith)

@@ -1,0 +1,6 @@
+pub mod BoolLaws
+pub mod ListLaws
+pub mod PartLaws
+pub mod DelimiterLaws
+pub mod LimitLaws
+pub mod CheckLaws

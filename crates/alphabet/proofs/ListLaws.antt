@@ -1,0 +1,90 @@
+-- Laws of lists and of `first`, for any test: what a loop that searches cites, and where what it finds stands. Assumes nothing.
+use mathlib.Core.Path.{_≡_, refl, sym, ap, _∙_}
+use mathlib.Core.List.{List, [], _∷_, _++_}
+use mathlib.Core.Bool.{Bool, true, false, cond}
+use Prim.Native.Nat.{ℕ, zero, suc, _+_, _-_, _≤_, _<_}
+use native.Mathlib.Numerals.{add-one}
+use native.Mathlib.Omega.{arith}
+use lib.Dec.{eqb}
+use lib.ListN.{length, getD, take, drop, drop-of-length-le, length-drop, List·getD-eq-default}
+use lib.Seq.{drop-cons, take-all}
+use borrow.Author.Tests.{eqb-true, eqb-false, eq-eqb, ne-eqb}
+use Rattle.alphabet.specs.Lists.{first, find}
+use Rattle.alphabet.proofs.BoolLaws.{false-true}
+
+-- what stands from i on, by its first element
+pub drop-next : (l : List ℕ) (i : ℕ) → i < length l → drop i l ≡ getD l i 0 ∷ drop (i + 1) l
+drop-next l i h = rw (add-one, drop-cons l i 0)
+
+-- the part from i on of a slice, as the code lends it, is what stands from i on
+pub rest-of : (l : List ℕ) (i : ℕ) → take (length l - i) (drop i l) ≡ drop i l
+rest-of l i = take-all (length l - i) (drop i l) (rw (length-drop i l) (omega arith))
+
+module _ (test : ℕ → Bool) where
+  pub first-here : (l : List ℕ) (i : ℕ) → i < length l → test (getD l i 0) ≡ true → first test (drop i l) ≡ 0
+  unfolding first
+  first-here l i h e = rw (drop-next l i) (rw e)
+
+  pub first-past : (l : List ℕ) (i : ℕ) → i < length l → test (getD l i 0) ≡ false → first test (drop i l) ≡ suc (first test (drop (i + 1) l))
+  unfolding first
+  first-past l i h e = rw (drop-next l i) (rw e)
+
+  pub first-end : (l : List ℕ) (i : ℕ) → length l ≤ i → first test (drop i l) ≡ 0
+  unfolding first
+  first-end l i h = rw (drop-of-length-le l h)
+
+  pub first-le : (l : List ℕ) → first test l ≤ length l
+  unfolding first
+  first-le [] = omega arith
+  first-le (x ∷ r) = at (test x) (first-le r)
+    where
+      at : (t : Bool) → first test r ≤ length r → cond t 0 (suc (first test r)) ≤ suc (length r)
+      at true h = omega arith
+      at false h = omega arith
+
+  -- what stands there passes
+  pub first-passes : (l : List ℕ) → first test l < length l → test (getD l (first test l) 0) ≡ true
+  unfolding first
+  first-passes [] h = absurd (omega arith)
+  first-passes (x ∷ r) h = at (test x) refl (first-passes r) h
+    where
+      at : (t : Bool) → test x ≡ t → (first test r < length r → test (getD r (first test r) 0) ≡ true) → cond t 0 (suc (first test r)) < suc (length r)
+          → test (getD (x ∷ r) (cond t 0 (suc (first test r))) 0) ≡ true
+      at true e ih h = e
+      at false e ih h = ih (omega arith)
+
+  -- what stands before it does not
+  pub first-before : (l : List ℕ) (i : ℕ) → i < first test l → test (getD l i 0) ≡ false
+  unfolding first
+  first-before [] i h = absurd (omega arith)
+  first-before (x ∷ r) i h = at (test x) refl (λ j. first-before r j) i h
+    where
+      at : (t : Bool) → test x ≡ t → ((j : ℕ) → j < first test r → test (getD r j 0) ≡ false) → (i : ℕ) → i < cond t 0 (suc (first test r)) → test (getD (x ∷ r) i 0) ≡ false
+      at true e ih i h = absurd (omega arith)
+      at false e ih zero h = e
+      at false e ih (suc i) h = ih i (omega arith)
+
+  -- and where none passes it is the length
+  pub first-none : (l : List ℕ) → ((i : ℕ) → i < length l → test (getD l i 0) ≡ false) → first test l ≡ length l
+  unfolding first
+  first-none [] h = refl
+  first-none (x ∷ r) h = rw (h 0 (omega arith)) (ap suc (first-none r (λ i k. h (suc i) (omega arith))))
+
+  -- a passing element stands at or behind the first one
+  pub first-least : (l : List ℕ) (i : ℕ) → i < length l → test (getD l i 0) ≡ true → first test l ≤ i
+  unfolding first
+  first-least [] i h e = absurd (omega arith)
+  first-least (x ∷ r) zero h e = rw e (omega arith)
+  first-least (x ∷ r) (suc i) h e = at (test x) (first-least r i (omega arith) e)
+    where
+      at : (t : Bool) → first test r ≤ i → cond t 0 (suc (first test r)) ≤ suc i
+      at true ih = omega arith
+      at false ih = omega arith
+
+-- the byte that was looked for stands where it was found
+pub find-is : (b : ℕ) (l : List ℕ) → find b l < length l → getD l (find b l) 0 ≡ b
+find-is b l h = sym (eqb-true b _ (first-passes (eqb b) l h))
+
+-- an element is found at its own place or before
+pub find-own : (l : List ℕ) (i : ℕ) → i < length l → find (getD l i 0) l ≤ i
+find-own l i h = first-least (eqb (getD l i 0)) l i h (eq-eqb (getD l i 0) (getD l i 0) refl)

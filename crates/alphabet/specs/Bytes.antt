@@ -1,0 +1,38 @@
+-- What a byte may be. A byte is a number, and the words are those of document 01, 'Bytes and segments'.
+use Prim.Native.Nat.{ℕ, _+_, _-_}
+use mathlib.Core.Bool.{Bool, cond, not, _&&_, _||_}
+use lib.Dec.{leb, ltb, eqb}
+
+-- at least lo and at most hi
+abbrev pub between : ℕ → ℕ → ℕ → Bool
+between lo hi b = leb lo b && leb b hi
+
+-- "CR, 0x0D"
+abbrev pub carriageReturn : ℕ
+carriageReturn = 13
+
+-- "0x20 to 0x7E, 0xA0 to 0xFF (printable ISO 8859/1)"
+abbrev pub printable : ℕ → Bool
+printable b = between 32 126 b || between 160 255 b
+
+-- "Allowed bytes: CR, 0x20 to 0x7E, 0xA0 to 0xFF"
+abbrev pub allowed : ℕ → Bool
+allowed b = eqb b carriageReturn || printable b
+
+abbrev pub forbidden : ℕ → Bool
+forbidden b = not (allowed b)
+
+-- "a capital", "digits": those of ASCII
+abbrev pub capital : ℕ → Bool
+capital b = between 65 90 b
+
+abbrev pub digit : ℕ → Bool
+digit b = between 48 57 b
+
+-- the number that a hex digit of either case says; 16 for any other byte
+abbrev pub hexOf : ℕ → ℕ
+hexOf b = cond (digit b) (b - 48) (cond (between 65 70 b) (b - 55) (cond (between 97 102 b) (b - 87) 16))
+
+-- the capital hex digit of a number below 16
+abbrev pub hexDigit : ℕ → ℕ
+hexDigit n = cond (ltb n 10) (n + 48) (n + 55)

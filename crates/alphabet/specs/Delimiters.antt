@@ -1,0 +1,32 @@
+-- The five delimiters, as a list in the message's order: field, component, repetition, escape, subcomponent.
+use Prim.Native.Nat.{ℕ}
+use mathlib.Core.List.{List, [], _∷_}
+use mathlib.Core.Bool.{Bool, not, _&&_, _||_}
+use lib.ListN.{getD}
+use lib.Dec.{ltb, eqb}
+use Rattle.alphabet.specs.Bytes.{between}
+use Rattle.alphabet.specs.Lists.{first, find}
+
+-- "ASCII punctuation (0x21-2F, 3A-40, 5B-60, 7B-7E)"
+abbrev pub punctuation : ℕ → Bool
+punctuation b = between 33 47 b || (between 58 64 b || (between 91 96 b || between 123 126 b))
+
+-- "none of `"` `+` `-` `.`"
+abbrev pub kept : ℕ → Bool
+kept b = eqb b 34 || (eqb b 43 || (eqb b 45 || eqb b 46))
+
+-- "each is ASCII punctuation but none of `"` `+` `-` `.`"
+abbrev pub permitted : ℕ → Bool
+permitted b = punctuation b && not (kept b)
+
+-- "not permitted or equal to an earlier one": of the delimiter at place i
+abbrev pub wrong : List ℕ → ℕ → Bool
+wrong ds i = not (permitted (getD ds i 0)) || ltb (find (getD ds i 0) ds) i
+
+-- the places of the five
+abbrev pub places : List ℕ
+places = 0 ∷ 1 ∷ 2 ∷ 3 ∷ 4 ∷ []
+
+-- number 3, "first delimiter byte not permitted or equal to an earlier one": its place, or 5 where all are right
+unfoldable pub wrongDelimiter : List ℕ → ℕ
+wrongDelimiter ds = first (wrong ds) places

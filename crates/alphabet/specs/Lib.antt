@@ -1,0 +1,6 @@
+pub mod Lists
+pub mod Bytes
+pub mod Delimiters
+pub mod Limits
+pub mod Answers
+pub mod Parts

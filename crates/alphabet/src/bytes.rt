@@ -1,0 +1,95 @@
+// What a byte may be, by document 01's 'Bytes and segments', and where a byte first stands.
+// The tests are free of branches and nested as their definitions are, so that they need no proof.
+ghost use mathlib.Core.Path.{_≡_};
+ghost use Prim.Native.Nat.{_%_};
+ghost use lib.ListN.{getD};
+ghost use Rattle.alphabet.specs.Bytes.{printable, allowed, forbidden, capital, digit, hexOf, hexDigit};
+ghost use Rattle.alphabet.specs.Lists.{first, find};
+
+// CR, which ends every segment.
+pub const CARRIAGE_RETURN: u8 = 13;
+
+// Printable ISO 8859/1: what may stand plainly in text.
+pub fn is_printable(b: u8) -> bool
+    ensures { λ r. ⌜ r ≡ printable b ⌝ }
+{
+    ((32 <= b) & (b <= 126)) | ((160 <= b) & (b <= 255))
+}
+
+// What may stand in a message.
+pub fn is_allowed(b: u8) -> bool
+    ensures { λ r. ⌜ r ≡ allowed b ⌝ }
+{
+    (b == CARRIAGE_RETURN) | (((32 <= b) & (b <= 126)) | ((160 <= b) & (b <= 255)))
+}
+
+pub fn is_capital(b: u8) -> bool
+    ensures { λ r. ⌜ r ≡ capital b ⌝ }
+{
+    (65 <= b) & (b <= 90)
+}
+
+pub fn is_digit(b: u8) -> bool
+    ensures { λ r. ⌜ r ≡ digit b ⌝ }
+{
+    (48 <= b) & (b <= 57)
+}
+
+// The number that a hex digit of either case says, or 16 for any other byte.
+pub fn hex_value(b: u8) -> u8
+    ensures { λ r. ⌜ r ≡ hexOf b ⌝ }
+{
+    if is_digit(b) {
+        return b - 48;
+    }
+    if (65 <= b) & (b <= 70) {
+        return b - 55;
+    }
+    if (97 <= b) & (b <= 102) {
+        return b - 87;
+    }
+    16
+}
+
+// The capital hex digit of n's last four bits.
+pub fn hex_digit(n: u8) -> u8
+    ensures { λ r. ⌜ r ≡ hexDigit (n % 16) ⌝ }
+{
+    let low = n % 16;
+    if low < 10 { low + 48 } else { low + 55 }
+}
+
+// The byte at a place, or 0, which no message holds, past the end.
+pub fn byte_at(bytes: &[u8], place: usize) -> u8
+    ensures { λ r. ⌜ r ≡ getD (now (bytes .entry)) place 0 ⌝ }
+{
+    if place < bytes.len() { bytes[place] } else { 0 }
+}
+
+// The place of the first b, or the length where there is none.
+pub fn find(bytes: &[u8], b: u8) -> usize
+    ensures { λ r. ⌜ r ≡ find b (now (bytes .entry)) ⌝ }
+{
+    let mut i = 0;
+    while i < bytes.len() {
+        if bytes[i] == b {
+            return i;
+        }
+        i += 1;
+    }
+    bytes.len()
+}
+
+// The place of the first byte that may not stand in a message, or the length where there is none.
+pub fn first_not_allowed(bytes: &[u8]) -> usize
+    ensures { λ r. ⌜ r ≡ first forbidden (now (bytes .entry)) ⌝ }
+{
+    let mut i = 0;
+    while i < bytes.len() {
+        if !is_allowed(bytes[i]) {
+            return i;
+        }
+        i += 1;
+    }
+    bytes.len()
+}

@@ -1,0 +1,31 @@
+// The limits, once for the whole library. Code asks these functions and proofs cite their names, so a
+// new figure changes this file and specs/Limits.antt and nothing else.
+ghost use mathlib.Core.Path.{_≡_};
+ghost use Rattle.alphabet.specs.Limits.{messageLimit, segmentLimit, idLimit};
+
+const MESSAGE: usize = 32768;
+
+const SEGMENTS: usize = 256;
+
+const ID: usize = 20;
+
+// The most bytes that a message may have.
+pub fn message_limit() -> usize
+    ensures { λ r. ⌜ r ≡ messageLimit ⌝ }
+{
+    MESSAGE
+}
+
+// The most segments that a message may have.
+pub fn segment_limit() -> usize
+    ensures { λ r. ⌜ r ≡ segmentLimit ⌝ }
+{
+    SEGMENTS
+}
+
+// The most bytes that a control ID may have.
+pub fn id_limit() -> usize
+    ensures { λ r. ⌜ r ≡ idLimit ⌝ }
+{
+    ID
+}

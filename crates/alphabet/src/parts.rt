@@ -1,0 +1,33 @@
+// How bytes fall into parts at a separator: the one splitter of segments, fields, repetitions,
+// components and subcomponents.
+use crate::bytes::find;
+ghost use mathlib.Core.Path.{_≡_};
+ghost use Rattle.alphabet.specs.Parts.{partAt};
+
+// Where a part stands, from `start` up to and without `end`; or that there are fewer parts.
+pub enum Part {
+    At { start: usize, end: usize },
+    Absent,
+}
+
+// Where the part of the given index, from 0, stands. It reads no byte behind that part's end.
+pub fn nth_part(bytes: &[u8], separator: u8, index: usize) -> Part
+    ensures { λ r. ⌜ r ≡ partAt separator (now (bytes .entry)) index ⌝ }
+{
+    let mut start = 0;
+    let mut passed = 0;
+    loop {
+        let end = start + find(&bytes[start..], separator);
+        if passed == index {
+            return Part::At {
+                start: start,
+                end: end,
+            };
+        }
+        if end == bytes.len() {
+            return Part::Absent;
+        }
+        start = end + 1;
+        passed += 1;
+    }
+}
