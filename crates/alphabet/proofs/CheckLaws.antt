@@ -1,5 +1,5 @@
 -- Laws of checks in order: what a check that passes or fails makes of the whole. Assumes nothing.
-use mathlib.Core.Path.{_≡_, refl}
+use mathlib.Core.Path.{_≡_, refl, sym, _∙_}
 use mathlib.Core.Bool.{Bool, true, false}
 use Prim.Native.Nat.{ℕ}
 use native.Mathlib.Omega.{arith}
@@ -29,3 +29,18 @@ passes-if e kind place = rw e
 pub passes-not : (test : Bool) (kind : Refusal) (place : ℕ) → failsIf test kind place ≡ Passes → test ≡ false
 passes-not false kind place e = refl
 passes-not true kind place e = absurd (let z : _≡_ {A = ℕ} 0 1 = cc in omega arith)
+
+-- ---- for code that makes checks one after another, where r is what the check c gave
+
+-- r fails, and is the answer
+pub stops : {r c : Check} {kind : Refusal} {place : ℕ} (later : Check) → r ≡ c → r ≡ Fails kind place → r ≡ orElse c later
+stops later e f = f ∙ sym (fails-or (sym e ∙ f) later)
+
+-- r passes, and the answer x is that of the later checks
+pub goes-on : {r c later x : Check} → r ≡ c → r ≡ Passes → x ≡ later → x ≡ orElse c later
+goes-on {later = later} e p q = q ∙ sym (passes-or (sym e ∙ p) later)
+
+-- r is that of the last check
+pub ends : {r c : Check} → r ≡ c → r ≡ orElse c Passes
+ends {c = Passes} e = e
+ends {c = Fails kind place} e = e

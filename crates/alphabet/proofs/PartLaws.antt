@@ -3,6 +3,7 @@
 use mathlib.Core.Path.{_≡_, refl, sym, ap, subst, _∙_}
 use mathlib.Core.List.{List, [], _∷_, _++_, append-nil}
 use mathlib.Core.Bool.{Bool, true, false, cond}
+use mathlib.Core.Logic.{_⊎_, inl, inr, ⊎-elim}
 use Prim.Native.Nat.{ℕ, zero, suc, _+_, _-_, _≤_, _<_}
 use native.Mathlib.Nat.{add-zero, zero-add, add-assoc}
 use native.Mathlib.Numerals.{add-one}
@@ -199,6 +200,25 @@ module _ (sep : ℕ) where
       let i3 = i .3 in
       let n = length-append p (sep ∷ join sep (p′ ∷ ps)) in
       rw join-more (omega arith, omega arith, omega arith, omega arith, piece-behind p (join sep (p′ ∷ ps)) sep at s e (omega arith) ∙ i .4)
+
+  -- the last part, and it alone, ends where the whole does
+  pub joined-end : (at : ℕ) (ps : List (List ℕ)) (k s e : ℕ) → standing at ps k ≡ At s e
+      → ((k + 1 ≡ length ps) × (e ≡ at + length (join sep ps))) ⊎ ((k + 1 < length ps) × (e < at + length (join sep ps)))
+  unfolding standing
+  joined-end at [] k s e q = absurd (let z : _≡_ {A = ℕ} 0 1 = cc in omega arith)
+  joined-end at (p ∷ []) zero s e q = let b = at-same q .1 in rw join-one (inl (omega arith, omega arith))
+  joined-end at (p ∷ []) (suc k) s e q = absurd (let z : _≡_ {A = ℕ} 0 1 = cc in omega arith)
+  joined-end at (p ∷ p′ ∷ ps) zero s e q =
+      let b = at-same q .1 in
+      let n = length-append p (sep ∷ join sep (p′ ∷ ps)) in
+      rw join-more (inr (omega arith, omega arith))
+  joined-end at (p ∷ p′ ∷ ps) (suc k) s e q =
+      let n = length-append p (sep ∷ join sep (p′ ∷ ps)) in
+      rw join-more
+      (⊎-elim
+      (λ w. let a = w .0 in let b = w .1 in inl (omega arith, omega arith))
+      (λ w. let a = w .0 in let b = w .1 in inr (omega arith, omega arith))
+      (joined-end (at + length p + 1) (p′ ∷ ps) k s e q))
 
   -- a part lies within the bytes, and its bytes are exactly those
   pub part-bytes : (l : List ℕ) (k s e : ℕ) → partAt sep l k ≡ At s e → (k < length (split sep l)) × (s ≤ e) × (e ≤ length l) × (take (e - s) (drop s l) ≡ getD (split sep l) k [])

@@ -1,6 +1,6 @@
 // Why something is refused, what one check finds, and the answer that goes back to the caller.
 ghost use mathlib.Core.Path.{_≡_};
-ghost use Rattle.alphabet.specs.Answers.{numberOf, answered};
+ghost use Rattle.alphabet.specs.Answers.{numberOf, failsIf, orElse, answered};
 
 // Each case is one number of the table in document 01; `number` gives it.
 pub enum Refusal {
@@ -82,6 +82,33 @@ pub fn number(kind: Refusal) -> u8
         Refusal::ValueWithoutType => 35,
         Refusal::Repeated => 36,
         Refusal::ValueTooLong => 37,
+    }
+}
+
+// A check that fails where its test holds.
+pub fn fails_if(test: bool, kind: Refusal, place: usize) -> Check
+    ensures { λ r. ⌜ r ≡ failsIf test kind place ⌝ }
+{
+    if test {
+        Check::Fails {
+            kind: kind,
+            place: place,
+        }
+    } else {
+        Check::Passes
+    }
+}
+
+// Two checks in order. Both are made: where the later one is dear, match on the earlier one instead.
+pub fn or_else(check: Check, later: Check) -> Check
+    ensures { λ r. ⌜ r ≡ orElse check later ⌝ }
+{
+    match check {
+        Check::Passes => later,
+        Check::Fails { kind, place } => Check::Fails {
+            kind: kind,
+            place: place,
+        },
     }
 }
 

@@ -1,0 +1,112 @@
+-- Laws of a message's segments, as a walk meets them: from `start`, with the next CR n bytes on, or none. Assumes nothing.
+use mathlib.Core.Path.{_≡_, refl, sym, ap, _∙_}
+use mathlib.Core.List.{List, [], _∷_, _++_}
+use mathlib.Core.Logic.{⊎-elim}
+use Prim.Native.Nat.{ℕ, zero, suc, _+_, _-_, _≤_, _<_}
+use native.Mathlib.Omega.{arith}
+use lib.ListN.{length, take, drop, length-drop}
+use lib.Seq.{length-take-le}
+use Rattle.alphabet.specs.Bytes.{carriageReturn}
+use Rattle.alphabet.specs.Lists.{find}
+use Rattle.alphabet.specs.Parts.{split, join, standing, partAt}
+use Rattle.alphabet.specs.declared.parts.Part.{Part}
+use Rattle.alphabet.specs.declared.parts.Part.the-variants.{At, Absent}
+use Rattle.alphabet.specs.declared.answers.Check.{Check}
+use Rattle.alphabet.proofs.PartLaws.{split-walk, split-last, split-some, join-split, joined-part, joined-end, standing-absent, absent-past}
+use Rattle.reading.specs.Segments.{allButLast, segments, segmentAt}
+use Rattle.reading.specs.Reading.{segmentCheck, segmentChecks}
+
+-- ---- all but the last of some parts
+
+pub but-last-cons : (p : List ℕ) (ps : List (List ℕ)) → 1 ≤ length ps → allButLast (p ∷ ps) ≡ p ∷ allButLast ps
+unfolding allButLast
+but-last-cons p [] h = absurd (omega arith)
+but-last-cons p (q ∷ ps) h = refl
+
+but-last-one : (p : List ℕ) → allButLast (p ∷ []) ≡ []
+unfolding allButLast
+but-last-one p = refl
+
+but-last-length : (p : List ℕ) (ps : List (List ℕ)) → length (allButLast (p ∷ ps)) ≡ length ps
+but-last-length p [] = ap length (but-last-one p)
+but-last-length p (q ∷ ps) = ap length (but-last-cons p (q ∷ ps) (omega arith)) ∙ ap suc (but-last-length q ps)
+
+-- a part that is not the last stands where it stood
+but-last-standing : (at : ℕ) (ps : List (List ℕ)) (k : ℕ) → k + 1 < length ps → standing at (allButLast ps) k ≡ standing at ps k
+unfolding standing
+but-last-standing at [] k h = absurd (omega arith)
+but-last-standing at (p ∷ []) k h = absurd (omega arith)
+but-last-standing at (p ∷ q ∷ ps) zero h = rw (but-last-cons p (q ∷ ps) (omega arith))
+but-last-standing at (p ∷ q ∷ ps) (suc k) h =
+    rw (but-last-cons p (q ∷ ps) (omega arith)) (but-last-standing (at + length p + 1) (q ∷ ps) k (omega arith))
+
+but-last-absent : (at : ℕ) (ps : List (List ℕ)) (k : ℕ) → 1 ≤ length ps → length ps ≤ k + 1 → standing at (allButLast ps) k ≡ Absent
+but-last-absent at [] k h l = absurd (omega arith)
+but-last-absent at (p ∷ ps) k h l = let n = but-last-length p ps in standing-absent at (allButLast (p ∷ ps)) k (omega arith)
+
+-- ---- where segment k stands, from where part k stands
+
+module _ (m : List ℕ) (k : ℕ) where
+  pub segment-absent : partAt carriageReturn m k ≡ Absent → segmentAt m k ≡ Absent
+  unfolding segmentAt segments partAt
+  segment-absent q =
+      let h = absent-past 0 (split carriageReturn m) k q in
+      but-last-absent 0 (split carriageReturn m) k (split-some carriageReturn m) (omega arith)
+
+  module _ (s e : ℕ) (q : partAt carriageReturn m k ≡ At s e) where
+    -- what ends where the message ends is behind the last CR
+    pub segment-none : e ≡ length m → segmentAt m k ≡ Absent
+    unfolding segmentAt segments partAt
+    segment-none h =
+        let j = ap length (join-split carriageReturn m) in
+        let l : length (split carriageReturn m) ≤ k + 1 =
+        ⊎-elim
+        (λ w. let a = w .0 in omega arith)
+        (λ w. let b = w .1 in absurd (omega arith))
+        (joined-end carriageReturn 0 (split carriageReturn m) k s e q) in
+        but-last-absent 0 (split carriageReturn m) k (split-some carriageReturn m) l
+
+    pub segment-some : (e ≡ length m → ⊥) → segmentAt m k ≡ At s e
+    unfolding segmentAt segments partAt
+    segment-some h =
+        let j = ap length (join-split carriageReturn m) in
+        let l : k + 1 < length (split carriageReturn m) =
+        ⊎-elim
+        (λ w. let b = w .1 in absurd (h (omega arith)))
+        (λ w. w .0)
+        (joined-end carriageReturn 0 (split carriageReturn m) k s e q) in
+        but-last-standing 0 (split carriageReturn m) k l ∙ q
+
+-- ---- the segments from `start` on, and their checks: up to the next CR, which stands at `end`, or with none left
+
+module _ (m : List ℕ) (start : ℕ) where
+  module _ (end : ℕ) (found : end ≡ start + find carriageReturn (drop start m)) (inside : end < length m) where
+    whole : length (take (end - start) (drop start m)) ≡ end - start
+    whole = let n = length-drop start m in length-take-le (end - start) (drop start m) (omega arith)
+
+    pub segments-walk : allButLast (split carriageReturn (drop start m)) ≡ take (end - start) (drop start m) ∷ allButLast (split carriageReturn (drop (end + 1) m))
+    segments-walk =
+        let n = length-drop start m in
+        let e : start + (end - start) + 1 ≡ end + 1 = omega arith in
+        ap allButLast (split-walk carriageReturn m start (end - start) (omega arith) (omega arith))
+        ∙ but-last-cons (take (end - start) (drop start m)) (split carriageReturn (drop (start + (end - start) + 1) m)) (split-some carriageReturn (drop (start + (end - start) + 1) m))
+        ∙ ap (λ (i : ℕ). take (end - start) (drop start m) ∷ allButLast (split carriageReturn (drop i m))) e
+
+    pub checks-walk : (sep k : ℕ)
+        → segmentChecks sep k start (allButLast (split carriageReturn (drop start m)))
+        ≡ segmentCheck sep k start (take (end - start) (drop start m)) ∷ segmentChecks sep (k + 1) (end + 1) (allButLast (split carriageReturn (drop (end + 1) m)))
+    unfolding segmentChecks
+    checks-walk sep k =
+        let w = whole in
+        let e : start + length (take (end - start) (drop start m)) + 1 ≡ end + 1 = omega arith in
+        rw segments-walk
+        (ap (λ (i : ℕ). segmentCheck sep k start (take (end - start) (drop start m)) ∷ segmentChecks sep (k + 1) i (allButLast (split carriageReturn (drop (end + 1) m)))) e)
+
+  pub segments-over : length m ≤ start + find carriageReturn (drop start m) → allButLast (split carriageReturn (drop start m)) ≡ []
+  segments-over h =
+      let n = length-drop start m in
+      ap allButLast (split-last carriageReturn (drop start m) (omega arith)) ∙ but-last-one (drop start m)
+
+  pub checks-over : (sep k : ℕ) → length m ≤ start + find carriageReturn (drop start m) → segmentChecks sep k start (allButLast (split carriageReturn (drop start m))) ≡ []
+  unfolding segmentChecks
+  checks-over sep k h = rw (segments-over h)

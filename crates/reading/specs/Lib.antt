@@ -1,0 +1,3 @@
+pub mod Segments
+pub mod Reading
+pub mod Message
