@@ -1,0 +1,72 @@
+//! The model: an independent implementation of document 01, written from the documents alone, that
+//! makes and checks the test vectors of the program `ask`. It shares no code and no table with it.
+//!
+//!     model stored              prints the questions of the stored vectors, always the same
+//!     model fresh SEED COUNT    prints COUNT random questions, the same for the same seed
+//!     model answer              answers questions from standard input, one line for each
+
+mod ask;
+mod chance;
+mod questions;
+mod reading;
+
+use chance::Chance;
+use std::io::{self, BufRead, BufWriter, Write};
+use std::process::ExitCode;
+
+fn main() -> ExitCode {
+    let words: Vec<String> = std::env::args().skip(1).collect();
+    let words: Vec<&str> = words.iter().map(String::as_str).collect();
+    let done = match words[..] {
+        ["stored"] => print_stored(),
+        ["fresh", seed, count] => match (seed.parse(), count.parse()) {
+            (Ok(seed), Ok(count)) => print_fresh(seed, count),
+            _ => return usage(),
+        },
+        ["answer"] => print_answers(),
+        _ => return usage(),
+    };
+    // Only the input or the output can have failed, and then there is nobody left to tell.
+    if done.is_ok() {
+        ExitCode::SUCCESS
+    } else {
+        ExitCode::FAILURE
+    }
+}
+
+fn usage() -> ExitCode {
+    eprintln!("usage: model stored | model fresh SEED COUNT | model answer");
+    ExitCode::from(2)
+}
+
+/// The last line goes without its LF, so that the vectors also hold a line that only the end of the
+/// input ends.
+fn print_stored() -> io::Result<()> {
+    let mut out = BufWriter::new(io::stdout().lock());
+    out.write_all(&questions::stored().join(&b'\n'))?;
+    out.flush()
+}
+
+fn print_fresh(seed: u64, count: usize) -> io::Result<()> {
+    let mut out = BufWriter::new(io::stdout().lock());
+    let mut chance = Chance::of_seed(seed);
+    for _ in 0..count {
+        out.write_all(&questions::fresh(&mut chance))?;
+        out.write_all(b"\n")?;
+    }
+    out.flush()
+}
+
+fn print_answers() -> io::Result<()> {
+    let mut input = io::stdin().lock();
+    let mut out = BufWriter::new(io::stdout().lock());
+    let mut line = Vec::new();
+    while input.read_until(b'\n', &mut line)? > 0 {
+        if line.last() == Some(&b'\n') {
+            line.pop();
+        }
+        writeln!(out, "{}", ask::answer(&line))?;
+        line.clear();
+    }
+    out.flush()
+}

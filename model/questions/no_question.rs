@@ -1,0 +1,87 @@
+//! Lines that are no question of ASK.md, and the lines next to them that are: a word missing or too
+//! many, a bad digit, the wrong space. They test how a line is taken apart, and no rule.
+
+use super::{message, read_question, sound, Bytes};
+use crate::ask::LONGEST_LINE;
+use crate::chance::Chance;
+
+/// No verb here is one that ASK.md has or is likely to get.
+pub fn stored() -> Vec<Bytes> {
+    let texts = [
+        "", " ", "  ", "?", "-", "read", "read ", "read  ", " read -", "read -", "read - ",
+        "read  -", "read - -", "read -  -", "read --", "read -0", "read -4d", "read 4d-", "READ -",
+        "Read -", "rea -", "reads -", "readx4d", "read-", "read4d", "xyzzy", "xyzzy 4d",
+        "xyzzy 4d 4d", "4d", "- read", "4d read", "read 4d 4d", "read 4d 0", "read 4 d", "read 4",
+        "read 4d5", "read 4g", "read g4", "read 0x4d", "read 4d,", "read +4", "read 4D",
+        "read 4d\r", "read\t4d", "read\t-", "\tread -", "read -\t", "read\r", "\r", "\0",
+        "read\0-", "read -\0", "read 4d\0", "\0read -", "read \0\0", "#", "# read -", "read \"\"",
+        "read 0", "read 00",
+    ];
+    let mut lines: Vec<Bytes> = texts.iter().map(|text| text.as_bytes().to_vec()).collect();
+    lines.push(b"read \xFF\xFF".to_vec());
+    lines.push(b"\xEF\xBB\xBFread -".to_vec());
+    lines.extend(digits_of_either_case());
+    for byte in (0..=0xFF).filter(|&byte| byte != b'\n') {
+        lines.push([b"read", &[byte][..], b"4d"].concat());
+        lines.push([b"read ", &[byte][..], b"d"].concat());
+        lines.push([b"read 4", &[byte][..]].concat());
+    }
+    lines
+}
+
+/// One message in small, in capital and in mixed digits, with a word more and with a digit less.
+fn digits_of_either_case() -> Vec<Bytes> {
+    let small = read_question(&message(&[r"MSH|^~\&|", "PID|1|Jörg"]));
+    let mut capital = small.clone();
+    capital[5..].make_ascii_uppercase();
+    let mut mixed = small.clone();
+    mixed[5..].chunks_mut(2).for_each(|pair| pair[0].make_ascii_uppercase());
+    let word_more = [&small[..], b" -"].concat();
+    let digit_less = small[..small.len() - 1].to_vec();
+    vec![small, capital, mixed, word_more, digit_less]
+}
+
+/// A question with damage done to its line, or seldom a line about as long as the line buffer.
+pub fn fresh(chance: &mut Chance) -> Bytes {
+    if chance.one_in(150) {
+        return long_line(chance);
+    }
+    let mut line =
+        if chance.one_in(3) { b"read -".to_vec() } else { read_question(&sound::random(chance)) };
+    for _ in 0..chance.between(1, 2) {
+        let place = match chance.below(3) {
+            0 => chance.below(line.len().min(8) + 1),
+            1 => line.len(),
+            _ => chance.below(line.len() + 1),
+        };
+        match chance.below(6) {
+            0 => line.insert(place, chance.pick(b" \t\r\0-gG0aF\x80\xFFd")),
+            1 => line.insert(place, random_byte(chance)),
+            2 if place < line.len() => drop(line.remove(place)),
+            3 if place < line.len() => line[place] = random_byte(chance),
+            4 => line.extend(b" 4d"),
+            _ => line.truncate(place),
+        }
+    }
+    line
+}
+
+/// Any byte but the one that would end the line.
+fn random_byte(chance: &mut Chance) -> u8 {
+    let byte = chance.byte();
+    if byte == b'\n' {
+        b'\r'
+    } else {
+        byte
+    }
+}
+
+/// A `read` with an even count of digits is a line of odd length: the longest that fits has one byte
+/// less than the line buffer, and the next is `?` for its length alone.
+fn long_line(chance: &mut Chance) -> Bytes {
+    let mut line = b"read ".to_vec();
+    let past = chance.pick(&[1, 1, 3, LONGEST_LINE / 2 + 1]);
+    let length = if chance.one_in(2) { LONGEST_LINE - 1 } else { LONGEST_LINE + past };
+    line.resize(length, b'4');
+    line
+}
