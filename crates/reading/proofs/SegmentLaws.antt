@@ -1,10 +1,13 @@
 -- Laws of a message's segments, as a walk meets them: from `start`, with the next CR n bytes on, or none. Assumes nothing.
 use mathlib.Core.Path.{_≡_, refl, sym, ap, _∙_}
 use mathlib.Core.List.{List, [], _∷_, _++_}
+use mathlib.Core.Bool.{Bool, true, false}
 use mathlib.Core.Logic.{⊎-elim}
+use lib.Dec.{eqb}
+use borrow.Author.Tests.{eqb-true, eqb-false}
 use Prim.Native.Nat.{ℕ, zero, suc, _+_, _-_, _≤_, _<_}
 use native.Mathlib.Omega.{arith}
-use lib.ListN.{length, take, drop, length-drop}
+use lib.ListN.{length, getD, take, drop, length-drop}
 use lib.Seq.{length-take-le}
 use Rattle.alphabet.specs.Bytes.{carriageReturn}
 use Rattle.alphabet.specs.Lists.{find}
@@ -12,7 +15,7 @@ use Rattle.alphabet.specs.Parts.{split, join, standing, partAt}
 use Rattle.alphabet.specs.declared.parts.Part.{Part}
 use Rattle.alphabet.specs.declared.parts.Part.the-variants.{At, Absent}
 use Rattle.alphabet.specs.declared.answers.Check.{Check}
-use Rattle.alphabet.proofs.PartLaws.{split-walk, split-last, split-some, join-split, joined-part, joined-end, standing-absent, absent-past}
+use Rattle.alphabet.proofs.PartLaws.{split-walk, split-last, split-some, join-split, joined-part, joined-end, standing-absent, absent-past, part-bytes}
 use Rattle.reading.specs.Segments.{allButLast, segments, segmentAt}
 use Rattle.reading.specs.Reading.{segmentCheck, segmentChecks}
 
@@ -76,6 +79,55 @@ module _ (m : List ℕ) (k : ℕ) where
         (λ w. w .0)
         (joined-end carriageReturn 0 (split carriageReturn m) k s e q) in
         but-last-standing 0 (split carriageReturn m) k l ∙ q
+
+-- ---- what stands at segment k
+
+but-last-get : (ps : List (List ℕ)) (k : ℕ) → k + 1 < length ps → getD (allButLast ps) k [] ≡ getD ps k []
+but-last-get [] k h = absurd (omega arith)
+but-last-get (p ∷ []) k h = absurd (omega arith)
+but-last-get (p ∷ q ∷ ps) zero h = ap (λ (l : List (List ℕ)). getD l 0 []) (but-last-cons p (q ∷ ps) (omega arith))
+but-last-get (p ∷ q ∷ ps) (suc k) h =
+    ap (λ (l : List (List ℕ)). getD l (suc k) []) (but-last-cons p (q ∷ ps) (omega arith)) ∙ but-last-get (q ∷ ps) k (omega arith)
+
+-- a segment stands where the part of its number stands, before the message's end
+pub segment-part : (m : List ℕ) (k s e : ℕ) → segmentAt m k ≡ At s e → (partAt carriageReturn m k ≡ At s e) × (e < length m)
+segment-part m k s e q = at (partAt carriageReturn m k) refl
+  where
+    at : (p : Part) → partAt carriageReturn m k ≡ p → (partAt carriageReturn m k ≡ At s e) × (e < length m)
+    at Absent r = absurd (let n = segment-absent m k r in let z : _≡_ {A = ℕ} 0 1 = cc in omega arith)
+    at (At a b) r =
+        let i = part-bytes carriageReturn m k a b r .2 in
+        by (eqb b (length m)) refl i
+      where
+        by : (t : Bool) → eqb b (length m) ≡ t → b ≤ length m → (partAt carriageReturn m k ≡ At s e) × (e < length m)
+        by true f i = absurd (let n = segment-none m k a b r (eqb-true b (length m) f) in let z : _≡_ {A = ℕ} 0 1 = cc in omega arith)
+        by false f i =
+            let h = eqb-false b (length m) f in
+            let n = segment-some m k a b r h in
+            let g : b ≡ e = cc in
+            (cc, omega arith)
+
+-- a part that ends before the message does is not the last
+not-last : (m : List ℕ) (k s e : ℕ) → partAt carriageReturn m k ≡ At s e → e < length m → k + 1 < length (split carriageReturn m)
+unfolding partAt
+not-last m k s e q h =
+    let j = ap length (join-split carriageReturn m) in
+    ⊎-elim (λ w. let b = w .1 in absurd (omega arith)) (λ w. w .0) (joined-end carriageReturn 0 (split carriageReturn m) k s e q)
+
+but-last-count : (ps : List (List ℕ)) → 1 ≤ length ps → length (allButLast ps) + 1 ≡ length ps
+but-last-count [] h = absurd (omega arith)
+but-last-count (p ∷ ps) h = let n = but-last-length p ps in omega arith
+
+-- its bytes are the segment's
+pub segment-bytes : (m : List ℕ) (k s e : ℕ) → segmentAt m k ≡ At s e → (k < length (segments m)) × (s ≤ e) × (e < length m) × (take (e - s) (drop s m) ≡ getD (segments m) k [])
+unfolding segments
+segment-bytes m k s e q =
+    let p = segment-part m k s e q in
+    let l = p .1 in
+    let b = part-bytes carriageReturn m k s e (p .0) in
+    let n = not-last m k s e (p .0) l in
+    let c = but-last-count (split carriageReturn m) (split-some carriageReturn m) in
+    (omega arith, b .1, l, b .3 ∙ sym (but-last-get (split carriageReturn m) k n))
 
 -- ---- the segments from `start` on, and their checks: up to the next CR, which stands at `end`, or with none left
 
