@@ -1,0 +1,107 @@
+-- `ask::answer_piece` meets its contract: what is gathered stays within the buffer, and the rest of the piece gets shorter.
+use Prim.Native.Nat.{_≤_, _+_}
+use mathlib.Core.Path.{_≡_, refl, sym, ap, _∙_}
+use native.Mathlib.Omega.{arith}
+use borrow.Author.Needs.{needs}
+use lib.ListN.{length, length-drop}
+use lib.Seq.{length-take-le}
+use denote.Ref.{now}
+use Rattle.ask.specs.Lines.{Within}
+use Rattle.ask.proofs.Lists.{rest-all}
+use Rattle.ask.proofs.answer_piece.Statement.{statement}
+use Rattle.ask.proofs.answer_piece.Tie as tie
+
+abbrev Inv-loop : tie.InvT-loop
+Inv-loop piece buffer₀ message₀ answer₀ line₀ rest₀ buffer message answer line rest =
+    (length rest ≤ length piece) × (length buffer ≡ length buffer₀) × (length message ≡ length message₀) × (length answer ≡ length answer₀) × Within (length buffer) line
+
+abbrev μ-loop : tie.MeasureT-loop
+μ-loop piece buffer₀ message₀ answer₀ line₀ rest₀ buffer message answer line rest = length rest
+
+loop-holds : tie.Need-loop-holds Inv-loop μ-loop
+loop-holds c = (omega arith, refl, refl, refl, c .before .before .before .before .pre .0)
+
+find-requires : tie.Need-find-requires Inv-loop μ-loop
+find-requires c κs = search needs
+
+slice-aggregate-gather : tie.Need-slice-aggregate-gather Inv-loop μ-loop
+slice-aggregate-gather c =
+    sym (length-take-le (c .before .before .find .result) (now (c .before .before .before .before .loop .rest)) (c .before .before .find .ensures .1))
+
+gather-requires : tie.Need-gather-requires Inv-loop μ-loop
+gather-requires c κs = search needs
+
+same-length : tie.Need-same-length Inv-loop μ-loop
+same-length c = omega arith
+
+same-length-2 : tie.Need-same-length-2 Inv-loop μ-loop
+same-length-2 c = omega arith
+
+same-length-3 : tie.Need-same-length-3 Inv-loop μ-loop
+same-length-3 c = omega arith
+
+returns : tie.Need-returns Inv-loop μ-loop
+returns c = c .before .before .before .gather .ensures .0
+
+answer-line-requires : tie.Need-answer-line-requires Inv-loop μ-loop
+answer-line-requires c κs = search needs
+
+add-next : tie.Need-add-next Inv-loop μ-loop
+add-next c = omega arith
+
+sub-rest : tie.Need-sub-rest Inv-loop μ-loop
+sub-rest c = omega arith
+
+part-rest-start : tie.Need-part-rest-start Inv-loop μ-loop
+part-rest-start c = omega arith
+
+part-rest-end : tie.Need-part-rest-end Inv-loop μ-loop
+part-rest-end c = omega arith
+
+loop-less : tie.Need-loop-less Inv-loop μ-loop
+loop-less c = omega arith
+
+loop-again : tie.Need-loop-again Inv-loop μ-loop
+loop-again c =
+    let f = c .before .before .before .before .before .before .before .before .before .before .before .before .before .before .before in
+    let r = now (f .before .before .loop .rest) in
+    let size = ap length (rest-all r (f .find .result + 1)) ∙ length-drop (f .find .result + 1) r in
+    (omega arith, omega arith, omega arith, omega arith, omega arith)
+
+same-length-4 : tie.Need-same-length-4 Inv-loop μ-loop
+same-length-4 c = omega arith
+
+same-length-5 : tie.Need-same-length-5 Inv-loop μ-loop
+same-length-5 c = omega arith
+
+same-length-6 : tie.Need-same-length-6 Inv-loop μ-loop
+same-length-6 c = omega arith
+
+returns-2 : tie.Need-returns-2 Inv-loop μ-loop
+returns-2 c = c .before .loop .inv .4
+
+pub answer-piece-spec : {M : Type 1} → statement M
+answer-piece-spec =
+    tie.close
+    (tie.spec
+    Inv-loop
+    μ-loop
+    loop-holds
+    find-requires
+    slice-aggregate-gather
+    gather-requires
+    same-length
+    same-length-2
+    same-length-3
+    returns
+    answer-line-requires
+    add-next
+    sub-rest
+    part-rest-start
+    part-rest-end
+    loop-less
+    loop-again
+    same-length-4
+    same-length-5
+    same-length-6
+    returns-2)

@@ -1,0 +1,25 @@
+-- `ask::answers::no_question` meets its contract, which is that of `put_word` at a question mark.
+use native.Mathlib.Omega.{arith}
+use mathlib.Core.Path.{sym}
+use lib.Seq.{length-take-le}
+use borrow.Author.Needs.{needs}
+use Rattle.ask.proofs.answers.no_question.Statement.{statement}
+use Rattle.ask.proofs.answers.no_question.Tie as tie
+
+slice-aggregate-put-word : tie.Need-slice-aggregate-put-word
+slice-aggregate-put-word c = search needs
+
+put-word-requires : tie.Need-put-word-requires
+put-word-requires c κs = search needs
+
+same-length : tie.Need-same-length
+same-length c = search needs
+
+returns : tie.Need-returns
+returns c =
+    let p = c .before .before .put-word in
+    ((omega arith, sym (length-take-le (p .result) (p .last .0) (omega arith))), p .ensures .1)
+
+pub no-question-spec : {M : Type 1} → statement M
+no-question-spec =
+    tie.close (tie.spec slice-aggregate-put-word put-word-requires same-length returns)

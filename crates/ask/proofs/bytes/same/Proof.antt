@@ -1,0 +1,64 @@
+-- `ask::bytes::same` meets its contract: the bytes passed are the same, and two texts of one length with the same bytes are one.
+use Prim.Native.Nat.{ℕ, _≤_, _<_, _-_}
+use mathlib.Core.Path.{_≡_, refl, ap}
+use mathlib.Core.List.{List}
+use native.Mathlib.Omega.{arith}
+use borrow.Author.Count.{below-none, below-more}
+use lib.ListN.{length, getD}
+use lib.Seq.{ext-getD}
+use denote.Ref.{now}
+use Rattle.ask.proofs.Lists.{false-true}
+use Rattle.ask.proofs.bytes.same.Statement.{statement}
+use Rattle.ask.proofs.bytes.same.Tie as tie
+
+abbrev Inv-loop : tie.InvT-loop
+Inv-loop one other i₀ i = (i ≤ length one) × ((k : ℕ) → k < i → getD one k 0 ≡ getD other k 0)
+
+abbrev μ-loop : tie.MeasureT-loop
+μ-loop one other i₀ i = length one - i
+
+returns : tie.Need-returns Inv-loop μ-loop
+returns c = (false-true, λ e. absurd (c .if1 .taken (ap length e)))
+
+loop-holds : tie.Need-loop-holds Inv-loop μ-loop
+loop-holds c = (omega arith, below-none _)
+
+shared-slice-read-if2 : tie.Need-shared-slice-read-if2 Inv-loop μ-loop
+shared-slice-read-if2 c = omega arith
+
+shared-slice-read-if2-2 : tie.Need-shared-slice-read-if2-2 Inv-loop μ-loop
+shared-slice-read-if2-2 c = omega arith
+
+returns-2 : tie.Need-returns-2 Inv-loop μ-loop
+returns-2 c = (false-true, λ e. absurd (c .if2 .taken (ap (λ (l : List ℕ). getD l (c .before .before .before .before .loop .i) 0) e)))
+
+add-i : tie.Need-add-i Inv-loop μ-loop
+add-i c = omega arith
+
+loop-less : tie.Need-loop-less Inv-loop μ-loop
+loop-less c = omega arith
+
+loop-again : tie.Need-loop-again Inv-loop μ-loop
+loop-again c = (omega arith, below-more _ _ (c .before .before .before .before .loop .inv .1) (c .if2 .left))
+
+returns-3 : tie.Need-returns-3 Inv-loop μ-loop
+returns-3 c =
+    let l = c .before in
+    let a = l .before .before .args in
+    (λ _. ext-getD 0 (now (a .one)) (now (a .other)) (c .before .before .if1 .left) (λ k h. l .loop .inv .1 k (omega arith)), λ _. refl)
+
+pub same-spec : {M : Type 1} → statement M
+same-spec =
+    tie.close
+    (tie.spec
+    Inv-loop
+    μ-loop
+    returns
+    loop-holds
+    shared-slice-read-if2
+    shared-slice-read-if2-2
+    returns-2
+    add-i
+    loop-less
+    loop-again
+    returns-3)

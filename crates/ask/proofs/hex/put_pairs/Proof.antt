@@ -1,0 +1,118 @@
+-- `ask::hex::put_pairs` meets its contract: the buffer's front and what the rest of the word says are always what the whole word says.
+use Prim.Native.Nat.{ℕ, _*_, _+_, _-_, _≤_, _<_}
+use mathlib.Core.Path.{_≡_, refl, sym, ap, _∙_}
+use mathlib.Core.Bool.{true}
+use mathlib.Core.List.{List, _∷_, _++_, append-nil}
+use native.Mathlib.Omega.{arith}
+use borrow.Author.Needs.{needs}
+use lib.ListN.{length, getD, take, drop, length-set}
+use lib.Seq.{length-take-le}
+use denote.Ref.{now}
+use Rattle.alphabet.specs.Bytes.{hexOf}
+use Rattle.ask.specs.Hex.{isPairs, pairs}
+use Rattle.ask.proofs.Lists.{front-more}
+use Rattle.ask.proofs.Pairs.{pair-here, byte-next, byte-end}
+use Rattle.ask.proofs.hex.put_pairs.Statement.{statement}
+use Rattle.ask.proofs.hex.put_pairs.Tie as tie
+
+abbrev Inv-loop : tie.InvT-loop
+Inv-loop word buffer₀ i₀ next₀ buffer i next =
+    (i ≤ length word) × (next * 2 ≡ i) × (length buffer ≡ length buffer₀) × (isPairs (drop i word) ≡ true) × (pairs word ≡ take next buffer ++ pairs (drop i word))
+
+abbrev μ-loop : tie.MeasureT-loop
+μ-loop word buffer₀ i₀ next₀ buffer i next = length word - i
+
+-- at each turn there is a pair of digits
+pair : (k : tie.In-loop Inv-loop μ-loop)
+    → let l = now (k .before .before .before .before .args .word) in let i = k .before .loop .i in
+    (i + 1 < length l) × (hexOf (getD l i 0) < 16) × (hexOf (getD l (i + 1) 0) < 16) × (isPairs (drop (i + 2) l) ≡ true)
+pair k = pair-here (now (k .before .before .before .before .args .word)) (k .before .loop .i) (k .loop-test .taken) (k .before .loop .inv .3)
+
+loop-holds : tie.Need-loop-holds Inv-loop μ-loop
+loop-holds c = (omega arith, omega arith, refl, c .before .before .pre .0, refl)
+
+shared-slice-read-hex-value : tie.Need-shared-slice-read-hex-value Inv-loop μ-loop
+shared-slice-read-hex-value c = omega arith
+
+hex-value-requires : tie.Need-hex-value-requires Inv-loop μ-loop
+hex-value-requires c κs = search needs
+
+add-hex-value : tie.Need-add-hex-value Inv-loop μ-loop
+add-hex-value c = omega arith
+
+shared-slice-read-hex-value-2 : tie.Need-shared-slice-read-hex-value-2 Inv-loop μ-loop
+shared-slice-read-hex-value-2 c = pair (c .before .before .before) .0
+
+hex-value-requires-2 : tie.Need-hex-value-requires-2 Inv-loop μ-loop
+hex-value-requires-2 c κs = search needs
+
+mul-buffer : tie.Need-mul-buffer Inv-loop μ-loop
+mul-buffer c = let p = pair (c .before .before .before .before) in omega (arith, c .before .before .hex-value .ensures)
+
+add-buffer : tie.Need-add-buffer Inv-loop μ-loop
+add-buffer c = let p = pair (c .before .before .before .before) in omega (arith, c .before .before .hex-value .ensures)
+
+slice-write-buffer : tie.Need-slice-write-buffer Inv-loop μ-loop
+slice-write-buffer c =
+    let l = c .before .before .before .before .before in
+    omega (arith, pair (c .before .before .before .before) .0, l .before .before .before .pre .1)
+
+add-next : tie.Need-add-next Inv-loop μ-loop
+add-next c = omega arith
+
+add-i : tie.Need-add-i Inv-loop μ-loop
+add-i c = omega arith
+
+loop-less : tie.Need-loop-less Inv-loop μ-loop
+loop-less c = omega arith
+
+loop-again : tie.Need-loop-again Inv-loop μ-loop
+loop-again c =
+    let l = c .before .before .before .before .before in
+    let w = now (l .before .before .before .args .word) in
+    let i = l .loop .i in
+    let b = l .loop .buffer in
+    let n = l .loop .next in
+    let p = pair (c .before .before .before .before) in
+    let v = c .before .before .hex-value .result * 16 + c .hex-value2 .result in
+    let e : hexOf (getD w i 0) * 16 + hexOf (getD w (i + 1) 0) ≡ v = omega (arith, c .before .before .hex-value .ensures) in (
+      omega arith,
+      omega arith,
+      simp length-set (l .loop .inv .2),
+      p .3,
+      l .loop .inv .4 ∙ ap (λ (t : List ℕ). take n b ++ t) (byte-next w i (p .0) ∙ ap (λ (k : ℕ). k ∷ pairs (drop (i + 2) w)) e) ∙ sym (front-more b (pairs (drop (i + 2) w)) n v (slice-write-buffer c)),
+    )
+
+same-length : tie.Need-same-length Inv-loop μ-loop
+same-length c = omega arith
+
+returns : tie.Need-returns Inv-loop μ-loop
+returns c =
+    let l = c .before in
+    let w = now (l .before .before .before .args .word) in
+    let n = l .loop .next in
+    let b = l .loop .buffer in
+    let e : take n b ≡ pairs w = sym (l .loop .inv .4 ∙ ap (λ (t : List ℕ). take n b ++ t) (byte-end w (l .loop .i) (omega arith)) ∙ append-nil (take n b)) in
+    (sym (length-take-le n b (omega (arith, l .before .before .before .pre .1))) ∙ ap length e, e)
+
+pub put-pairs-spec : {M : Type 1} → statement M
+put-pairs-spec =
+    tie.close
+    (tie.spec
+    Inv-loop
+    μ-loop
+    loop-holds
+    shared-slice-read-hex-value
+    hex-value-requires
+    add-hex-value
+    shared-slice-read-hex-value-2
+    hex-value-requires-2
+    mul-buffer
+    add-buffer
+    slice-write-buffer
+    add-next
+    add-i
+    loop-less
+    loop-again
+    same-length
+    returns)

@@ -1,0 +1,98 @@
+-- `ask::numbers::decode` meets its contract: the value of the digits passed, and the rest, say what the whole word says.
+use Prim.Native.Nat.{ℕ, _+_, _*_, _-_, _^_, _≤_, _<_}
+use mathlib.Core.Path.{_≡_, refl, sym, ap, _∙_}
+use native.Mathlib.Omega.{arith}
+use borrow.Author.Needs.{needs}
+use lib.ListN.{length, getD, drop}
+use denote.Ref.{now}
+use Rattle.ask.specs.Numbers.{counted, number}
+use Rattle.ask.proofs.Digits.{number-none, number-some, counted-end, counted-below, counted-above, counted-large, counted-next}
+use Rattle.ask.proofs.numbers.decode.Statement.{statement}
+use Rattle.ask.proofs.numbers.decode.Tie as tie
+
+abbrev Inv-loop : tie.InvT-loop
+Inv-loop word value₀ i₀ value i = (i ≤ length word) × (value < 2 ^ 64) × (counted 0 word ≡ counted value (drop i word))
+
+abbrev μ-loop : tie.MeasureT-loop
+μ-loop word value₀ i₀ value i = length word - i
+
+-- what the whole word says, at the loop's head
+whole : (l : tie.At-loop Inv-loop μ-loop) → let w = now (l .before .before .before .args .word) in number w ≡ counted (l .loop .value) (drop (l .loop .i) w)
+whole l = number-some (now (l .before .before .before .args .word)) (l .before .if1 .left) ∙ l .loop .inv .2
+
+returns : tie.Need-returns Inv-loop μ-loop
+returns c = sym (number-none (now (c .before .before .args .word)) (c .if1 .taken))
+
+loop-holds : tie.Need-loop-holds Inv-loop μ-loop
+loop-holds c = (omega arith, omega arith, refl)
+
+shared-slice-read-byte : tie.Need-shared-slice-read-byte Inv-loop μ-loop
+shared-slice-read-byte c = omega arith
+
+returns-2 : tie.Need-returns-2 Inv-loop μ-loop
+returns-2 c =
+    let l = c .before .before .before in
+    sym (whole l ∙ counted-below (l .loop .value) (now (l .before .before .before .args .word)) (l .loop .i) (omega arith) (c .if2 .taken))
+
+returns-3 : tie.Need-returns-3 Inv-loop μ-loop
+returns-3 c =
+    let l = c .before .before .before .before in
+    sym (whole l ∙ counted-above (l .loop .value) (now (l .before .before .before .args .word)) (l .loop .i) (omega arith) (c .if3 .taken))
+
+wide-requires : tie.Need-wide-requires Inv-loop μ-loop
+wide-requires c κs = search needs
+
+sub-if4 : tie.Need-sub-if4 Inv-loop μ-loop
+sub-if4 c = omega arith
+
+returns-4 : tie.Need-returns-4 Inv-loop μ-loop
+returns-4 c =
+    let l = c .before .before .before .before .before .before in
+    sym (whole l ∙ counted-large (l .loop .value) (now (l .before .before .before .args .word)) (l .loop .i) (omega arith) (omega arith))
+
+mul-value : tie.Need-mul-value Inv-loop μ-loop
+mul-value c = omega arith
+
+add-value : tie.Need-add-value Inv-loop μ-loop
+add-value c = omega arith
+
+add-i : tie.Need-add-i Inv-loop μ-loop
+add-i c = omega arith
+
+loop-less : tie.Need-loop-less Inv-loop μ-loop
+loop-less c = omega arith
+
+loop-again : tie.Need-loop-again Inv-loop μ-loop
+loop-again c =
+    let l = c .before .before .before .before .before .before in
+    let w = now (l .before .before .before .args .word) in
+    let i = l .loop .i in
+    let n = l .loop .value in
+    let e : n * 10 + (getD w i 0 - 48) ≡ n * 10 + c .before .wide .result = omega arith in
+    (omega arith, omega arith, l .loop .inv .2 ∙ counted-next n w i (omega arith) (omega arith) (omega arith) ∙ ap (λ (k : ℕ). counted k (drop (i + 1) w)) e)
+
+returns-5 : tie.Need-returns-5 Inv-loop μ-loop
+returns-5 c =
+    let l = c .before in
+    sym (whole l ∙ counted-end (l .loop .value) (now (l .before .before .before .args .word)) (l .loop .i) (omega arith) (omega arith))
+
+pub decode-spec : {M : Type 1} → statement M
+decode-spec =
+    tie.close
+    (tie.spec
+    Inv-loop
+    μ-loop
+    returns
+    loop-holds
+    shared-slice-read-byte
+    returns-2
+    returns-3
+    wide-requires
+    sub-if4
+    returns-4
+    mul-value
+    add-value
+    add-i
+    loop-less
+    loop-again
+    returns-5)

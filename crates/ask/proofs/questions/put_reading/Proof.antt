@@ -1,0 +1,47 @@
+-- `ask::questions::put_reading` meets its contract: it puts two numbers, whatever the library says, and there is room for both.
+use Prim.Native.Nat.{_≤_}
+use mathlib.Core.Path.{sym}
+use native.Mathlib.Omega.{arith}
+use lib.ListN.{length}
+use lib.Seq.{length-take-le}
+use Rattle.ask.proofs.Asking.{two-put}
+use borrow.Author.Needs.{needs}
+use Rattle.ask.proofs.questions.put_reading.Statement.{statement}
+use Rattle.ask.proofs.questions.put_reading.Tie as tie
+
+read-requires : tie.Need-read-requires
+read-requires c κs = search needs
+
+number-requires : tie.Need-number-requires
+number-requires c κs = search needs
+
+cast-put-number : tie.Need-cast-put-number
+cast-put-number c = search needs
+
+put-number-requires : tie.Need-put-number-requires
+put-number-requires c κs = omega (arith, c .before .before .before .before .before .pre)
+
+put-number-requires-2 : tie.Need-put-number-requires-2
+put-number-requires-2 c κs = omega (arith, c .before .before .before .before .before .before .before .before .before .pre, c .before .before .before .put-number)
+
+same-length : tie.Need-same-length
+same-length c = search needs
+
+returns : tie.Need-returns
+returns c =
+    let one = c .before .before .before .before .before .before .put-number in
+    let two = c .before .before .put-number2 in
+    let h : two .result ≤ length (two .last .0) = omega (arith, c .before .before .before .before .before .before .before .before .before .before .before .before .pre, one, two) in
+    ((h, sym (length-take-le (two .result) (two .last .0) h)), two-put (one .ensures) (two .ensures))
+
+pub put-reading-spec : {M : Type 1} → statement M
+put-reading-spec =
+    tie.close
+    (tie.spec
+    read-requires
+    number-requires
+    cast-put-number
+    put-number-requires
+    put-number-requires-2
+    same-length
+    returns)

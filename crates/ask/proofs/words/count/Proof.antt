@@ -1,0 +1,65 @@
+-- `ask::words::count` meets its contract: the words of the whole are the spaces passed and the words of the rest.
+use Prim.Native.Nat.{_≤_, _+_, _-_}
+use mathlib.Core.Path.{_≡_}
+use mathlib.Core.Logic.{⊎-elim}
+use native.Mathlib.Omega.{arith}
+use lib.ListN.{length, drop}
+use denote.Ref.{now}
+use Rattle.ask.specs.Words.{words}
+use Rattle.ask.proofs.Cutting.{count-space, count-other, count-end}
+use Rattle.ask.proofs.words.count.Statement.{statement}
+use Rattle.ask.proofs.words.count.Tie as tie
+
+abbrev Inv-loop : tie.InvT-loop
+Inv-loop line spaces₀ i₀ spaces i = (i ≤ length line) × (spaces ≤ i) × (length (words line) ≡ spaces + length (words (drop i line)))
+
+abbrev μ-loop : tie.MeasureT-loop
+μ-loop line spaces₀ i₀ spaces i = length line - i
+
+loop-holds : tie.Need-loop-holds Inv-loop μ-loop
+loop-holds c = omega arith
+
+shared-slice-read-if1 : tie.Need-shared-slice-read-if1 Inv-loop μ-loop
+shared-slice-read-if1 c = omega arith
+
+add-spaces : tie.Need-add-spaces Inv-loop μ-loop
+add-spaces c = omega arith
+
+add-i : tie.Need-add-i Inv-loop μ-loop
+add-i c = omega arith
+
+loop-less : tie.Need-loop-less Inv-loop μ-loop
+loop-less c = omega arith
+
+loop-again : tie.Need-loop-again Inv-loop μ-loop
+loop-again c =
+    let l = c .before .before .before in
+    let a = l .before .args in
+    ⊎-elim
+    (λ w. omega (arith, count-space (now (a .line)) (l .loop .i) (omega arith) (w .0 .taken)))
+    (λ w. omega (arith, count-other (now (a .line)) (l .loop .i) (omega arith) (w .0 .left)))
+    (c .if1 .came)
+
+add-result : tie.Need-add-result Inv-loop μ-loop
+add-result c = omega arith
+
+returns : tie.Need-returns Inv-loop μ-loop
+returns c =
+    let l = c .before in
+    let a = l .before .args in
+    omega (arith, count-end (now (a .line)) (l .loop .i) (omega arith))
+
+pub count-spec : {M : Type 1} → statement M
+count-spec =
+    tie.close
+    (tie.spec
+    Inv-loop
+    μ-loop
+    loop-holds
+    shared-slice-read-if1
+    add-spaces
+    add-i
+    loop-less
+    loop-again
+    add-result
+    returns)

@@ -1,0 +1,43 @@
+-- The bytes that a word of a question says. Assumes nothing.
+use Prim.Native.Nat.{ℕ, _+_, _*_}
+use mathlib.Core.Path.{_≡_}
+use mathlib.Core.Bool.{Bool, true, false, cond, _&&_}
+use mathlib.Core.List.{List, [], _∷_}
+use lib.Dec.{eqb, ltb, leb}
+use lib.ListN.{length, take}
+use Rattle.alphabet.specs.Bytes.{hexOf}
+use Rattle.ask.specs.declared.hex.Decoded.{Decoded}
+use Rattle.ask.specs.declared.hex.Decoded.the-variants.{Length, Refused}
+
+-- pairs of hex digits and nothing else
+unfoldable pub isPairs : List ℕ → Bool
+isPairs [] = true
+isPairs (a ∷ []) = false
+isPairs (a ∷ b ∷ r) = (ltb (hexOf a) 16 && ltb (hexOf b) 16) && isPairs r
+
+-- a byte for each pair of digits, the high digit first
+unfoldable pub pairs : List ℕ → List ℕ
+pairs [] = []
+pairs (a ∷ []) = []
+pairs (a ∷ b ∷ r) = (hexOf a * 16 + hexOf b) ∷ pairs r
+
+-- what a word says
+pub data Said : Type 0 where
+  bytes : List ℕ → Said
+  nothing : Said
+
+-- `-` says no bytes, and pairs of digits a byte each. An empty word says nothing
+unfoldable pub said : List ℕ → Said
+said [] = nothing
+said (a ∷ []) = cond (eqb a 45) (bytes []) nothing
+said (a ∷ b ∷ r) = cond (isPairs (a ∷ b ∷ r)) (bytes (pairs (a ∷ b ∷ r))) nothing
+
+-- more bytes than there is room for are as good as nothing
+unfoldable pub fitting : ℕ → Said → Said
+fitting room (bytes xs) = cond (leb (length xs) room) (bytes xs) nothing
+fitting room nothing = nothing
+
+-- an answer that tells what was said: how many bytes, which are at the buffer's front, or that there are none
+pub data Told : Said → Decoded → List ℕ → Type 0 where
+  front : {xs buffer : List ℕ} → take (length xs) buffer ≡ xs → Told (bytes xs) (Length (length xs)) buffer
+  refused : {buffer : List ℕ} → Told nothing Refused buffer

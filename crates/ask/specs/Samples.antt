@@ -1,0 +1,36 @@
+-- The definitions at samples, each computed: what is a word, what a word says, and the bytes of the program's own words. Assumes nothing.
+use Prim.Native.Nat.{ℕ}
+use Prim.Native.Char.{code}
+use Prim.Native.String.{String}
+use Prim.Native.String as S
+use mathlib.Core.Path.{_≡_, refl}
+use mathlib.Core.List.{List, [], _∷_}
+use Rattle.ask.specs.Words.{longer, words}
+use Rattle.ask.specs.Hex.{isPairs, pairs, bytes, nothing, said}
+use Rattle.ask.specs.Numbers.{isDigits, onwards, counted, number}
+use Rattle.ask.specs.Questions.{readVerb, noQuestion, readAsked}
+use Rattle.ask.specs.declared.numbers.Number.the-variants.{Value, Refused}
+
+-- the bytes of an ASCII text
+abbrev ascii : String → List ℕ
+ascii S.[] = []
+ascii (S._∷_ c s) = code c ∷ ascii s
+
+own-words : (readVerb ≡ ascii "read") × (noQuestion ≡ ascii "?\n")
+own-words = (refl, refl)
+
+cut : (words (ascii "") ≡ [] ∷ []) × (words (ascii "read 4d") ≡ ascii "read" ∷ ascii "4d" ∷ []) × (words (ascii "a  b ") ≡ ascii "a" ∷ [] ∷ ascii "b" ∷ [] ∷ [])
+unfolding words longer
+cut = (refl, refl, refl)
+
+bytes-said : (said (ascii "-") ≡ bytes []) × (said (ascii "4D5a") ≡ bytes (77 ∷ 90 ∷ [])) × (said (ascii "4D5") ≡ nothing) × (said (ascii "4g") ≡ nothing) × (said (ascii "--") ≡ nothing) × (said [] ≡ nothing)
+unfolding said isPairs pairs
+bytes-said = (refl, refl, refl, refl, refl, refl)
+
+numbers-said : (number (ascii "007") ≡ Value 7) × (number (ascii "18446744073709551615") ≡ Value 18446744073709551615) × (number (ascii "18446744073709551616") ≡ Refused) × (number (ascii "+1") ≡ Refused) × (number [] ≡ Refused)
+unfolding number counted isDigits onwards
+numbers-said = (refl, refl, refl, refl, refl)
+
+asked : (readAsked (words (ascii "read -")) ≡ bytes []) × (readAsked (words (ascii "read")) ≡ nothing) × (readAsked (words (ascii "read - ")) ≡ nothing)
+unfolding readAsked words longer said
+asked = (refl, refl, refl)

@@ -1,0 +1,74 @@
+// A word that says bytes: `-` says none, and otherwise each pair of hex digits says one. They are decoded into a buffer
+// that the caller lends, and a word that says more than fits says nothing.
+ghost use Prim.Native.Nat.{_/_, _≤_};
+ghost use mathlib.Core.Path.{_≡_};
+ghost use mathlib.Core.Bool.{true};
+ghost use lib.ListN.{length, take};
+ghost use Rattle.ask.specs.Hex.{isPairs, pairs, said, fitting, Told};
+
+// What a word says: so many bytes, which are at the front of the buffer now, or nothing.
+pub enum Decoded {
+    Length(usize),
+    Refused,
+}
+
+// Whether a word is made of pairs of hex digits.
+fn is_pairs(word: &[u8]) -> bool
+    ensures { λ r. ⌜ r ≡ isPairs (now (word .entry)) ⌝ }
+{
+    let mut i = 0;
+    while i < word.len() {
+        if word.len() - i < 2 {
+            return false;
+        }
+        if alphabet::hex_value(word[i]) >= 16 {
+            return false;
+        }
+        if alphabet::hex_value(word[i + 1]) >= 16 {
+            return false;
+        }
+        i += 2;
+    }
+    true
+}
+
+// Writes the bytes that pairs of hex digits say to the front of a buffer.
+fn put_pairs(word: &[u8], buffer: &mut [u8]) -> usize
+    requires { ⌜ isPairs (now word) ≡ true ⌝ }
+    requires { ⌜ length (now word) / 2 ≤ length (now buffer) ⌝ }
+    ensures { λ r. ⌜ (r ≡ length (pairs (now (word .entry)))) × (take r (now (buffer .exit)) ≡ pairs (now (word .entry))) ⌝ }
+{
+    let mut i = 0;
+    let mut next = 0;
+    while i < word.len() {
+        let high = alphabet::hex_value(word[i]);
+        let low = alphabet::hex_value(word[i + 1]);
+        buffer[next] = high * 16 + low;
+        next += 1;
+        i += 2;
+    }
+    next
+}
+
+// Writes the bytes that a word says to the front of a buffer. The word is judged first, so that the writing loop has
+// nothing to refuse.
+pub fn decode(word: &[u8], buffer: &mut [u8]) -> Decoded
+    ensures { λ r. ⌜ Told (fitting (length (now (buffer .entry))) (said (now (word .entry)))) r (now (buffer .exit)) ⌝ }
+{
+    if word.len() == 0 {
+        return Decoded::Refused;
+    }
+    if word.len() == 1 {
+        if word[0] == b'-' {
+            return Decoded::Length(0);
+        }
+        return Decoded::Refused;
+    }
+    if !is_pairs(word) {
+        return Decoded::Refused;
+    }
+    if buffer.len() < word.len() / 2 {
+        return Decoded::Refused;
+    }
+    Decoded::Length(put_pairs(word, buffer))
+}

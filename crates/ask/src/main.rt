@@ -1,0 +1,125 @@
+// `ask` answers questions about messages, so that the library can be compared with others: one question to a line of
+// standard input, one line of standard output for each, in order, until the input ends. This file is the frame: it reads
+// the input in pieces, gathers the lines, and writes the answers out.
+mod answers;
+mod bytes;
+mod hex;
+mod lines;
+mod numbers;
+mod questions;
+mod words;
+
+ghost use lib.ListN.{length};
+ghost use Rattle.io.specs.Counts.{Counts};
+ghost use Rattle.ask.specs.Answers.{Roomy};
+ghost use Rattle.ask.specs.Lines.{Within};
+use libc::STDIN_FILENO;
+use libc::STDOUT_FILENO;
+use lines::Line;
+
+// A longer line is answered as no question. It has room for a message of more than 64 KiB, at two digits a byte.
+const LONGEST_LINE: usize = 200_000;
+
+// All the bytes that a line of that length can say.
+const LONGEST_MESSAGE: usize = 100_000;
+
+// Two numbers, each of at most 20 digits and a byte that ends it, take 42 bytes.
+const LONGEST_ANSWER: usize = 64;
+
+// Puts the answer to a line into `answer`, and returns its length.
+fn reply(line: Line, buffer: &[u8], message: &mut [u8], answer: &mut [u8]) -> usize
+    requires { ⌜ Within (length (now buffer)) line ⌝ }
+    requires { ⌜ Roomy (now answer) ⌝ }
+    ensures { λ r. ⌜ Counts r (now (answer .exit)) ⌝ }
+{
+    match line {
+        Line::Holds(length) => questions::answer(&buffer[..length], message, answer),
+        Line::TooLong => answers::no_question(answer),
+    }
+}
+
+// Answers a line. The answer is written out whole, since a call for each of its bytes would take most of the time.
+fn answer_line(line: Line, buffer: &[u8], message: &mut [u8], answer: &mut [u8])
+    requires { ⌜ Within (length (now buffer)) line ⌝ }
+    requires { ⌜ Roomy (now answer) ⌝ }
+{
+    let size = reply(line, buffer, message, answer);
+    io::write_all(STDOUT_FILENO, &answer[..size]);
+}
+
+// Answers each line that ends in a piece of the input, and returns what is gathered of the line that does not.
+fn answer_piece(
+    piece: &[u8],
+    begun: Line,
+    buffer: &mut [u8],
+    message: &mut [u8],
+    answer: &mut [u8],
+) -> Line
+    requires { ⌜ Within (length (now buffer)) begun ⌝ }
+    requires { ⌜ Roomy (now answer) ⌝ }
+    ensures { λ r. ⌜ Within (length (now (buffer .exit))) r ⌝ }
+{
+    let mut line = begun;
+    let mut rest = piece;
+    while 0 < rest.len() {
+        let end = bytes::find(rest, b'\n');
+        line = lines::gather(line, buffer, &rest[..end]);
+        if end == rest.len() {
+            return line;
+        }
+        answer_line(line, buffer, message, answer);
+        line = Line::Holds(0);
+        let next = end + 1;
+        rest = &rest[next..];
+    }
+    line
+}
+
+// Answers what is left when the input ends: a line without its end is a line, and no bytes are none.
+fn answer_last(line: Line, buffer: &[u8], message: &mut [u8], answer: &mut [u8])
+    requires { ⌜ Within (length (now buffer)) line ⌝ }
+    requires { ⌜ Roomy (now answer) ⌝ }
+{
+    match line {
+        Line::Holds(length) => {
+            if 0 < length {
+                answer_line(line, buffer, message, answer);
+            }
+        }
+        Line::TooLong => answer_line(line, buffer, message, answer),
+    }
+}
+
+// Reads a piece of the input, and returns how many bytes came: none where the input has ended or cannot be read.
+fn read_piece(piece: &mut [u8]) -> usize
+    ensures { λ r. ⌜ Counts r (now (piece .exit)) ⌝ }
+{
+    let got = libc::read(STDIN_FILENO, piece);
+    io::count(got, piece)
+}
+
+// Answers the whole input. A proved loop has to end, and nothing says that an input does: so the loop counts its turns
+// down, from a number that no run uses up.
+fn answer_input(piece: &mut [u8], buffer: &mut [u8], message: &mut [u8], answer: &mut [u8])
+    requires { ⌜ Roomy (now answer) ⌝ }
+{
+    let mut line = Line::Holds(0);
+    let mut turns = u64::MAX;
+    while 0 < turns {
+        let count = read_piece(piece);
+        if count == 0 {
+            answer_last(line, buffer, message, answer);
+            return;
+        }
+        line = answer_piece(&piece[..count], line, buffer, message, answer);
+        turns -= 1;
+    }
+}
+
+fn main() {
+    let mut piece = io::large_buffer();
+    let mut buffer = [0u8; LONGEST_LINE];
+    let mut message = [0u8; LONGEST_MESSAGE];
+    let mut answer = [0u8; LONGEST_ANSWER];
+    answer_input(&mut piece, &mut buffer, &mut message, &mut answer);
+}
