@@ -8,7 +8,7 @@ use lib.ListN.{length, getD, drop, drop-of-length-le}
 use borrow.Author.Tests.{le-leb, lt-leb, lt-ltb, le-ltb}
 use Rattle.ask.specs.declared.numbers.Number.the-variants.{Value, Refused}
 use Rattle.ask.specs.Numbers.{isDigits, onwards, counted, number}
-use Rattle.ask.proofs.Lists.{drop-next}
+use Rattle.alphabet.proofs.ListLaws.{drop-next}
 
 pub number-none : (l : List ℕ) → length l ≡ 0 → number l ≡ Refused
 unfolding number

@@ -11,7 +11,8 @@ use Rattle.alphabet.specs.Bytes.{hexOf}
 use Rattle.ask.specs.declared.hex.Decoded.{Decoded}
 use Rattle.ask.specs.declared.hex.Decoded.the-variants.{Length, Refused}
 use Rattle.ask.specs.Hex.{isPairs, pairs, Said, bytes, nothing, said, fitting, Told, front, refused}
-use Rattle.ask.proofs.Lists.{false-true, and-both, drop-next}
+use Rattle.alphabet.proofs.BoolLaws.{false-true, and-both}
+use Rattle.alphabet.proofs.ListLaws.{drop-next}
 
 -- ---- the digits at a place
 

@@ -5,7 +5,8 @@ use Prim.Native.String.{String}
 use Prim.Native.String as S
 use mathlib.Core.Path.{_≡_, refl}
 use mathlib.Core.List.{List, [], _∷_}
-use Rattle.ask.specs.Words.{longer, words}
+use Rattle.alphabet.specs.Parts.{split}
+use Rattle.ask.specs.Words.{words}
 use Rattle.ask.specs.Hex.{isPairs, pairs, bytes, nothing, said}
 use Rattle.ask.specs.Numbers.{isDigits, onwards, counted, number}
 use Rattle.ask.specs.Questions.{readVerb, noQuestion, readAsked}
@@ -20,7 +21,7 @@ own-words : (readVerb ≡ ascii "read") × (noQuestion ≡ ascii "?\n")
 own-words = (refl, refl)
 
 cut : (words (ascii "") ≡ [] ∷ []) × (words (ascii "read 4d") ≡ ascii "read" ∷ ascii "4d" ∷ []) × (words (ascii "a  b ") ≡ ascii "a" ∷ [] ∷ ascii "b" ∷ [] ∷ [])
-unfolding words longer
+unfolding split
 cut = (refl, refl, refl)
 
 bytes-said : (said (ascii "-") ≡ bytes []) × (said (ascii "4D5a") ≡ bytes (77 ∷ 90 ∷ [])) × (said (ascii "4D5") ≡ nothing) × (said (ascii "4g") ≡ nothing) × (said (ascii "--") ≡ nothing) × (said [] ≡ nothing)
@@ -32,5 +33,5 @@ unfolding number counted isDigits onwards
 numbers-said = (refl, refl, refl, refl, refl)
 
 asked : (readAsked (words (ascii "read -")) ≡ bytes []) × (readAsked (words (ascii "read")) ≡ nothing) × (readAsked (words (ascii "read - ")) ≡ nothing)
-unfolding readAsked words longer said
+unfolding readAsked split said
 asked = (refl, refl, refl)

@@ -1,26 +1,10 @@
-// What the other files do with bytes: look for one, copy some, compare two texts. Lines, words and answers are all made of
-// these three.
+// What the other files do with bytes: copy some, and compare two texts. Lines and answers are made by the one, and verbs
+// known by the other.
 ghost use mathlib.Core.Path.{_≡_};
 ghost use mathlib.Core.Bool.{true};
 ghost use mathlib.Core.List.{_++_};
 ghost use Prim.Native.Nat.{_+_, _≤_};
 ghost use lib.ListN.{length, take};
-ghost use Rattle.ask.specs.Words.{find as Words·find};
-
-// The place of the first `wanted` in `text`, or the text's length where there is none.
-pub fn find(text: &[u8], wanted: u8) -> usize
-    ensures { λ r. ⌜ r ≡ Words·find wanted (now (text .entry)) ⌝ }
-    ensures { λ r. ⌜ r ≤ length (now (text .entry)) ⌝ }
-{
-    let mut i = 0;
-    while i < text.len() {
-        if text[i] == wanted {
-            return i;
-        }
-        i += 1;
-    }
-    i
-}
 
 // Copies `text` into `buffer` from place `at` on, and returns the place behind it.
 pub fn put(buffer: &mut [u8], at: usize, text: &[u8]) -> usize

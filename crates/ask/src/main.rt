@@ -62,7 +62,7 @@ fn answer_piece(
     let mut line = begun;
     let mut rest = piece;
     while 0 < rest.len() {
-        let end = bytes::find(rest, b'\n');
+        let end = alphabet::find(rest, b'\n');
         line = lines::gather(line, buffer, &rest[..end]);
         if end == rest.len() {
             return line;

@@ -4,7 +4,7 @@ ghost use mathlib.Core.Path.{_≡_};
 ghost use mathlib.Core.List.{[]};
 ghost use lib.ListN.{length, getD};
 ghost use Rattle.ask.specs.Words.{words};
-use crate::bytes;
+use alphabet::Part;
 
 // How many words a line has.
 pub fn count(line: &[u8]) -> usize
@@ -25,17 +25,9 @@ pub fn count(line: &[u8]) -> usize
 pub fn word(line: &[u8], place: usize) -> &[u8]
     ensures { λ r. ⌜ now r ≡ getD (words (now (line .entry))) place [] ⌝ }
 {
-    let mut rest = line;
-    let mut passed = 0;
-    while passed < place {
-        let end = bytes::find(rest, b' ');
-        if end == rest.len() {
-            return &rest[end..];
-        }
-        let next = end + 1;
-        rest = &rest[next..];
-        passed += 1;
-    }
-    let end = bytes::find(rest, b' ');
-    &rest[..end]
+    let part = alphabet::nth_part(line, b' ', place);
+    let Part::At { start, end } = part else {
+        return &line[..0];
+    };
+    &line[start..end]
 }

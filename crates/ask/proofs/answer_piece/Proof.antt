@@ -7,7 +7,8 @@ use lib.ListN.{length, length-drop}
 use lib.Seq.{length-take-le}
 use denote.Ref.{now}
 use Rattle.ask.specs.Lines.{Within}
-use Rattle.ask.proofs.Lists.{rest-all}
+use lib.Dec.{eqb}
+use Rattle.alphabet.proofs.ListLaws.{first-le, rest-of}
 use Rattle.ask.proofs.answer_piece.Statement.{statement}
 use Rattle.ask.proofs.answer_piece.Tie as tie
 
@@ -21,12 +22,16 @@ abbrev μ-loop : tie.MeasureT-loop
 loop-holds : tie.Need-loop-holds Inv-loop μ-loop
 loop-holds c = (omega arith, refl, refl, refl, c .before .before .before .before .pre .0)
 
+-- the line's end stands within the rest of the piece
+within : (c : tie.After-find Inv-loop μ-loop) → c .find .result ≤ length (now (c .before .before .loop .rest))
+within c = let u = first-le (eqb 10) (now (c .before .before .loop .rest)) in omega (arith, c .find .ensures)
+
 find-requires : tie.Need-find-requires Inv-loop μ-loop
 find-requires c κs = search needs
 
 slice-aggregate-gather : tie.Need-slice-aggregate-gather Inv-loop μ-loop
 slice-aggregate-gather c =
-    sym (length-take-le (c .before .before .find .result) (now (c .before .before .before .before .loop .rest)) (c .before .before .find .ensures .1))
+    sym (length-take-le (c .before .before .find .result) (now (c .before .before .before .before .loop .rest)) (within (c .before .before)))
 
 gather-requires : tie.Need-gather-requires Inv-loop μ-loop
 gather-requires c κs = search needs
@@ -47,13 +52,13 @@ answer-line-requires : tie.Need-answer-line-requires Inv-loop μ-loop
 answer-line-requires c κs = search needs
 
 add-next : tie.Need-add-next Inv-loop μ-loop
-add-next c = omega arith
+add-next c = let w = within (c .before .before .before .before .before .before .before .before .before .before .before .before .before .before) in omega arith
 
 sub-rest : tie.Need-sub-rest Inv-loop μ-loop
-sub-rest c = omega arith
+sub-rest c = let w = within (c .before .before .before .before .before .before .before .before .before .before .before .before .before .before) in omega arith
 
 part-rest-start : tie.Need-part-rest-start Inv-loop μ-loop
-part-rest-start c = omega arith
+part-rest-start c = let w = within (c .before .before .before .before .before .before .before .before .before .before .before .before .before .before) in omega arith
 
 part-rest-end : tie.Need-part-rest-end Inv-loop μ-loop
 part-rest-end c = omega arith
@@ -65,7 +70,7 @@ loop-again : tie.Need-loop-again Inv-loop μ-loop
 loop-again c =
     let f = c .before .before .before .before .before .before .before .before .before .before .before .before .before .before .before in
     let r = now (f .before .before .loop .rest) in
-    let size = ap length (rest-all r (f .find .result + 1)) ∙ length-drop (f .find .result + 1) r in
+    let size = ap length (rest-of r (f .find .result + 1)) ∙ length-drop (f .find .result + 1) r in
     (omega arith, omega arith, omega arith, omega arith, omega arith)
 
 same-length-4 : tie.Need-same-length-4 Inv-loop μ-loop

@@ -5,7 +5,8 @@ use mathlib.Core.List.{List, _++_, append-nil}
 use native.Mathlib.Omega.{arith}
 use lib.ListN.{length, getD, take, drop, length-set, drop-of-length-le}
 use denote.Ref.{now}
-use Rattle.ask.proofs.Lists.{drop-next, front-more}
+use Rattle.alphabet.proofs.ListLaws.{drop-next}
+use Rattle.ask.proofs.Lists.{front-more}
 use Rattle.ask.proofs.bytes.put.Statement.{statement}
 use Rattle.ask.proofs.bytes.put.Tie as tie
 

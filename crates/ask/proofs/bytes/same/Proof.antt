@@ -7,7 +7,7 @@ use borrow.Author.Count.{below-none, below-more}
 use lib.ListN.{length, getD}
 use lib.Seq.{ext-getD}
 use denote.Ref.{now}
-use Rattle.ask.proofs.Lists.{false-true}
+use Rattle.alphabet.proofs.BoolLaws.{false-true}
 use Rattle.ask.proofs.bytes.same.Statement.{statement}
 use Rattle.ask.proofs.bytes.same.Tie as tie
 
