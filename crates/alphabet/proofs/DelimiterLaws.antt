@@ -1,7 +1,7 @@
 -- Laws of the five delimiters: what the check of number 3 cites, and what holds of five that pass it. Assumes nothing.
-use mathlib.Core.Path.{_≡_, refl, sym, ap, subst, _∙_}
-use mathlib.Core.List.{List, [], _∷_}
-use mathlib.Core.Bool.{Bool, true, false, not, _&&_, _||_}
+use mathlib.Core.Path.{_≡_, refl, sym, ap, _∙_}
+use mathlib.Core.List.{List}
+use mathlib.Core.Bool.{true, false, not}
 use Prim.Native.Nat.{ℕ, zero, suc, _+_, _≤_, _<_}
 use native.Mathlib.Omega.{arith}
 use lib.Dec.{ltb}
@@ -9,7 +9,7 @@ use lib.ListN.{length, getD, drop}
 use borrow.Author.Tests.{not-false, lt-ltb, le-ltb, ltb-false}
 use Rattle.alphabet.specs.Lists.{first, find}
 use Rattle.alphabet.specs.Delimiters.{permitted, wrong, places, wrongDelimiter}
-use Rattle.alphabet.proofs.BoolLaws.{false-true, or-neither}
+use Rattle.alphabet.proofs.BoolLaws.{or-neither}
 use Rattle.alphabet.proofs.ListLaws.{first-here, first-past, first-end, first-before, first-le, find-own}
 
 place-own : (i : ℕ) → i < 5 → getD places i 0 ≡ i

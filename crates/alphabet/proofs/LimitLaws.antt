@@ -1,5 +1,5 @@
 -- What arithmetic needs of the limits, whatever the figures: each is at least 1, and far below what a usize holds. Assumes nothing.
-use Prim.Native.Nat.{ℕ, _≤_, _<_, _^_}
+use Prim.Native.Nat.{_≤_, _<_, _^_}
 use lib.Dec.{lit<, lit≤}
 use Rattle.alphabet.specs.Limits.{messageLimit, segmentLimit, idLimit}
 

@@ -1,22 +1,19 @@
 -- Laws of splitting, over the separator: what one step along the bytes does, where the k-th part stands, and that splitting and joining undo each other.
 -- Every level and the segments cite these. Assumes nothing.
-use mathlib.Core.Path.{_≡_, refl, sym, ap, subst, _∙_}
+use mathlib.Core.Path.{_≡_, refl, sym, ap, _∙_}
 use mathlib.Core.List.{List, [], _∷_, _++_, append-nil}
 use mathlib.Core.Bool.{Bool, true, false, cond}
 use mathlib.Core.Logic.{_⊎_, inl, inr, ⊎-elim}
 use Prim.Native.Nat.{ℕ, zero, suc, _+_, _-_, _≤_, _<_}
-use native.Mathlib.Nat.{add-zero, zero-add, add-assoc}
 use native.Mathlib.Numerals.{add-one}
 use native.Mathlib.Omega.{arith}
 use lib.Dec.{eqb, ltb}
-use lib.ListN.{length, getD, take, drop, length-append, length-drop}
+use lib.ListN.{length, getD, take, drop, length-append}
 use lib.Seq.{drop-drop, drop-append-add, take-append-seam, length-take-le}
 use borrow.Author.Tests.{ltb-true, ltb-false, eqb-true, eq-eqb}
 use Rattle.alphabet.specs.Lists.{first, find}
 use Rattle.alphabet.specs.Parts.{grown, split, join, standing, partAt}
-use Rattle.alphabet.specs.declared.parts.Part.{Part}
 use Rattle.alphabet.specs.declared.parts.Part.the-variants.{At, Absent}
-use Rattle.alphabet.proofs.BoolLaws.{false-true}
 use Rattle.alphabet.proofs.ListLaws.{first-le}
 
 -- ---- a piece of a list that is put together of two

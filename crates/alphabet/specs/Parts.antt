@@ -1,7 +1,7 @@
 -- How bytes fall into parts at a separator, and where each part stands. One definition for every level.
 use Prim.Native.Nat.{ℕ, zero, suc, _+_}
 use mathlib.Core.List.{List, [], _∷_, _++_}
-use mathlib.Core.Bool.{Bool, cond}
+use mathlib.Core.Bool.{cond}
 use lib.ListN.{length}
 use lib.Dec.{eqb}
 use Rattle.alphabet.specs.declared.parts.Part.{Part}

@@ -2,7 +2,7 @@
 -- message that was read. Assumes nothing.
 use mathlib.Core.Path.{_≡_, refl, sym, ap, subst, _∙_}
 use mathlib.Core.List.{List, [], _∷_, _++_}
-use mathlib.Core.Bool.{Bool, true, false, not, cond, _&&_, _||_}
+use mathlib.Core.Bool.{Bool, true, false, not, cond, _&&_}
 use Prim.Native.Nat.{ℕ, zero, suc, _+_, _-_, _≤_, _<_}
 use native.Mathlib.Nat.{add-zero}
 use native.Mathlib.Omega.{arith}
@@ -16,10 +16,9 @@ use Rattle.alphabet.specs.Delimiters.{wrongDelimiter}
 use Rattle.alphabet.specs.Limits.{messageLimit, segmentLimit}
 use Rattle.alphabet.specs.Lists.{first}
 use Rattle.alphabet.specs.Parts.{grown, split}
-use Rattle.alphabet.specs.declared.answers.Check.{Check}
 use Rattle.alphabet.specs.declared.answers.Check.the-variants.{Passes, Fails}
 use Rattle.alphabet.specs.declared.answers.Refusal.the-variants.{Length, Header, Delimiter, NotAllowed, NotEnded, SegmentName, SecondHeader, TooManySegments}
-use Rattle.alphabet.proofs.BoolLaws.{false-true, and-both, both-and, or-neither, neither-or}
+use Rattle.alphabet.proofs.BoolLaws.{and-both, both-and, or-neither, neither-or}
 use Rattle.alphabet.proofs.CheckLaws.{both-pass, passes-if, passes-not, passes-or}
 use Rattle.alphabet.proofs.DelimiterLaws.{wrong-most}
 use Rattle.alphabet.proofs.ListLaws.{first-before, first-none}

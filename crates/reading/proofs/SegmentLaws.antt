@@ -1,6 +1,6 @@
 -- Laws of a message's segments, as a walk meets them: from `start`, with the next CR n bytes on, or none. Assumes nothing.
 use mathlib.Core.Path.{_≡_, refl, sym, ap, _∙_}
-use mathlib.Core.List.{List, [], _∷_, _++_}
+use mathlib.Core.List.{List, [], _∷_}
 use mathlib.Core.Bool.{Bool, true, false}
 use mathlib.Core.Logic.{⊎-elim}
 use lib.Dec.{eqb}
@@ -11,11 +11,10 @@ use lib.ListN.{length, getD, take, drop, length-drop}
 use lib.Seq.{length-take-le}
 use Rattle.alphabet.specs.Bytes.{carriageReturn}
 use Rattle.alphabet.specs.Lists.{find}
-use Rattle.alphabet.specs.Parts.{split, join, standing, partAt}
+use Rattle.alphabet.specs.Parts.{split, standing, partAt}
 use Rattle.alphabet.specs.declared.parts.Part.{Part}
 use Rattle.alphabet.specs.declared.parts.Part.the-variants.{At, Absent}
-use Rattle.alphabet.specs.declared.answers.Check.{Check}
-use Rattle.alphabet.proofs.PartLaws.{split-walk, split-last, split-some, join-split, joined-part, joined-end, standing-absent, absent-past, part-bytes}
+use Rattle.alphabet.proofs.PartLaws.{split-walk, split-last, split-some, join-split, joined-end, standing-absent, absent-past, part-bytes}
 use Rattle.reading.specs.Segments.{allButLast, segments, segmentAt}
 use Rattle.reading.specs.Reading.{segmentCheck, segmentChecks}
 

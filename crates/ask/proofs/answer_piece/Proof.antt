@@ -26,30 +26,9 @@ loop-holds c = (omega arith, refl, refl, refl, c .before .before .before .before
 within : (c : tie.After-find Inv-loop μ-loop) → c .find .result ≤ length (now (c .before .before .loop .rest))
 within c = let u = first-le (eqb 10) (now (c .before .before .loop .rest)) in omega (arith, c .find .ensures)
 
-find-requires : tie.Need-find-requires Inv-loop μ-loop
-find-requires c κs = search needs
-
 slice-aggregate-gather : tie.Need-slice-aggregate-gather Inv-loop μ-loop
 slice-aggregate-gather c =
     sym (length-take-le (c .before .before .find .result) (now (c .before .before .before .before .loop .rest)) (within (c .before .before)))
-
-gather-requires : tie.Need-gather-requires Inv-loop μ-loop
-gather-requires c κs = search needs
-
-same-length : tie.Need-same-length Inv-loop μ-loop
-same-length c = omega arith
-
-same-length-2 : tie.Need-same-length-2 Inv-loop μ-loop
-same-length-2 c = omega arith
-
-same-length-3 : tie.Need-same-length-3 Inv-loop μ-loop
-same-length-3 c = omega arith
-
-returns : tie.Need-returns Inv-loop μ-loop
-returns c = c .before .before .before .gather .ensures .0
-
-answer-line-requires : tie.Need-answer-line-requires Inv-loop μ-loop
-answer-line-requires c κs = search needs
 
 add-next : tie.Need-add-next Inv-loop μ-loop
 add-next c = let w = within (c .before .before .before .before .before .before .before .before .before .before .before .before .before .before) in omega arith
@@ -60,30 +39,12 @@ sub-rest c = let w = within (c .before .before .before .before .before .before .
 part-rest-start : tie.Need-part-rest-start Inv-loop μ-loop
 part-rest-start c = let w = within (c .before .before .before .before .before .before .before .before .before .before .before .before .before .before) in omega arith
 
-part-rest-end : tie.Need-part-rest-end Inv-loop μ-loop
-part-rest-end c = omega arith
-
-loop-less : tie.Need-loop-less Inv-loop μ-loop
-loop-less c = omega arith
-
 loop-again : tie.Need-loop-again Inv-loop μ-loop
 loop-again c =
     let f = c .before .before .before .before .before .before .before .before .before .before .before .before .before .before .before in
     let r = now (f .before .before .loop .rest) in
     let size = ap length (rest-of r (f .find .result + 1)) ∙ length-drop (f .find .result + 1) r in
     (omega arith, omega arith, omega arith, omega arith, omega arith)
-
-same-length-4 : tie.Need-same-length-4 Inv-loop μ-loop
-same-length-4 c = omega arith
-
-same-length-5 : tie.Need-same-length-5 Inv-loop μ-loop
-same-length-5 c = omega arith
-
-same-length-6 : tie.Need-same-length-6 Inv-loop μ-loop
-same-length-6 c = omega arith
-
-returns-2 : tie.Need-returns-2 Inv-loop μ-loop
-returns-2 c = c .before .loop .inv .4
 
 pub answer-piece-spec : {M : Type 1} → statement M
 answer-piece-spec =
@@ -92,21 +53,21 @@ answer-piece-spec =
     Inv-loop
     μ-loop
     loop-holds
-    find-requires
+    (λ c κs. search needs)
     slice-aggregate-gather
-    gather-requires
-    same-length
-    same-length-2
-    same-length-3
-    returns
-    answer-line-requires
+    (λ c κs. search needs)
+    (λ c. omega arith)
+    (λ c. omega arith)
+    (λ c. omega arith)
+    (λ c. c .before .before .before .gather .ensures .0)
+    (λ c κs. search needs)
     add-next
     sub-rest
     part-rest-start
-    part-rest-end
-    loop-less
+    (λ c. omega arith)
+    (λ c. omega arith)
     loop-again
-    same-length-4
-    same-length-5
-    same-length-6
-    returns-2)
+    (λ c. omega arith)
+    (λ c. omega arith)
+    (λ c. omega arith)
+    (λ c. c .before .loop .inv .4))

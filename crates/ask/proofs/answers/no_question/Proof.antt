@@ -6,15 +6,6 @@ use borrow.Author.Needs.{needs}
 use Rattle.ask.proofs.answers.no_question.Statement.{statement}
 use Rattle.ask.proofs.answers.no_question.Tie as tie
 
-slice-aggregate-put-word : tie.Need-slice-aggregate-put-word
-slice-aggregate-put-word c = search needs
-
-put-word-requires : tie.Need-put-word-requires
-put-word-requires c κs = search needs
-
-same-length : tie.Need-same-length
-same-length c = search needs
-
 returns : tie.Need-returns
 returns c =
     let p = c .before .before .put-word in
@@ -22,4 +13,9 @@ returns c =
 
 pub no-question-spec : {M : Type 1} → statement M
 no-question-spec =
-    tie.close (tie.spec slice-aggregate-put-word put-word-requires same-length returns)
+    tie.close
+    (tie.spec
+    (λ c. search needs)
+    (λ c κs. search needs)
+    (λ c. search needs)
+    returns)

@@ -25,23 +25,11 @@ few n k h f = at (ltb 20 k) refl
         absurd (omega (arith, f .2 (omega arith)))
     at false q = ltb-false 20 k q
 
-decimal-requires : tie.Need-decimal-requires
-decimal-requires c κs = search needs
-
-array-share-prefix-digits : tie.Need-array-share-prefix-digits
-array-share-prefix-digits c = search needs
-
-slice-aggregate-put-word : tie.Need-slice-aggregate-put-word
-slice-aggregate-put-word c = search needs
-
 put-word-requires : tie.Need-put-word-requires
 put-word-requires c κs =
     let d = c .before .before .decimal in
     let a = c .before .before .before .before .before .args in
     omega (arith, d .ensures .0 .1, few (a .number) (d .result) (omega arith) (d .ensures .1 .0))
-
-same-length : tie.Need-same-length
-same-length c = search needs
 
 returns : tie.Need-returns
 returns c =
@@ -60,9 +48,9 @@ pub put-number-spec : {M : Type 1} → statement M
 put-number-spec =
     tie.close
     (tie.spec
-    decimal-requires
-    array-share-prefix-digits
-    slice-aggregate-put-word
+    (λ c κs. search needs)
+    (λ c. search needs)
+    (λ c. search needs)
     put-word-requires
-    same-length
+    (λ c. search needs)
     returns)

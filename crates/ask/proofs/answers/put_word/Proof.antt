@@ -10,17 +10,8 @@ use Rattle.ask.proofs.Lists.{front-more}
 use Rattle.ask.proofs.answers.put_word.Statement.{statement}
 use Rattle.ask.proofs.answers.put_word.Tie as tie
 
-put-requires : tie.Need-put-requires
-put-requires c κs = search needs
-
 slice-write-answer : tie.Need-slice-write-answer
 slice-write-answer c = search needs
-
-add-result : tie.Need-add-result
-add-result c = search needs
-
-same-length : tie.Need-same-length
-same-length c = search needs
 
 returns : tie.Need-returns
 returns c =
@@ -30,4 +21,10 @@ returns c =
     (omega arith, sym (append-nil _) ∙ e ∙ ap (λ (l : List ℕ). l ++ (a .end ∷ [])) (p .ensures .1) ∙ append-assoc (take (a .at) (now (a .answer))) (now (a .word)) (a .end ∷ []))
 
 pub put-word-spec : {M : Type 1} → statement M
-put-word-spec = tie.close (tie.spec put-requires slice-write-answer add-result same-length returns)
+put-word-spec = tie.close
+    (tie.spec
+    (λ c κs. search needs)
+    slice-write-answer
+    (λ c. search needs)
+    (λ c. search needs)
+    returns)

@@ -17,24 +17,6 @@ Inv-loop buffer₀ at text i₀ next₀ buffer i next =
 abbrev μ-loop : tie.MeasureT-loop
 μ-loop buffer₀ at text i₀ next₀ buffer i next = length text - i
 
-loop-holds : tie.Need-loop-holds Inv-loop μ-loop
-loop-holds c = (omega arith, omega arith, refl, refl)
-
-shared-slice-read-buffer : tie.Need-shared-slice-read-buffer Inv-loop μ-loop
-shared-slice-read-buffer c = omega arith
-
-slice-write-buffer : tie.Need-slice-write-buffer Inv-loop μ-loop
-slice-write-buffer c = omega arith
-
-add-next : tie.Need-add-next Inv-loop μ-loop
-add-next c = omega arith
-
-add-i : tie.Need-add-i Inv-loop μ-loop
-add-i c = omega arith
-
-loop-less : tie.Need-loop-less Inv-loop μ-loop
-loop-less c = omega arith
-
 loop-again : tie.Need-loop-again Inv-loop μ-loop
 loop-again c =
     let l = c .before .before in
@@ -44,9 +26,6 @@ loop-again c =
     let n = l .loop .next in
     let next = ap (λ (r : List ℕ). take n b ++ r) (drop-next t i (omega arith)) ∙ sym (front-more b (drop (i + 1) t) n (getD t i 0) (omega arith)) in
     (omega arith, omega arith, simp length-set (l .loop .inv .2), l .loop .inv .3 ∙ next)
-
-same-length : tie.Need-same-length Inv-loop μ-loop
-same-length c = omega arith
 
 returns : tie.Need-returns Inv-loop μ-loop
 returns c =
@@ -62,12 +41,12 @@ put-spec =
     (tie.spec
     Inv-loop
     μ-loop
-    loop-holds
-    shared-slice-read-buffer
-    slice-write-buffer
-    add-next
-    add-i
-    loop-less
+    (λ c. (omega arith, omega arith, refl, refl))
+    (λ c. omega arith)
+    (λ c. omega arith)
+    (λ c. omega arith)
+    (λ c. omega arith)
+    (λ c. omega arith)
     loop-again
-    same-length
+    (λ c. omega arith)
     returns)

@@ -15,9 +15,6 @@ returns c =
     let a = c .before .before .before .args in
     told-nothing (said (now (a .word))) _ _ (said-empty (now (a .word)) (c .if1 .taken))
 
-shared-slice-read-if3 : tie.Need-shared-slice-read-if3
-shared-slice-read-if3 c = search needs
-
 returns-2 : tie.Need-returns-2
 returns-2 c =
     let a = c .before .before .before .before .before .before .args in
@@ -27,9 +24,6 @@ returns-3 : tie.Need-returns-3
 returns-3 c =
     let a = c .before .before .before .before .before .before .args in
     told-nothing (said (now (a .word))) _ _ (said-one (now (a .word)) (c .before .before .if2 .taken) (c .if3 .left))
-
-is-pairs-requires : tie.Need-is-pairs-requires
-is-pairs-requires c κs = search needs
 
 returns-4 : tie.Need-returns-4
 returns-4 c =
@@ -44,9 +38,6 @@ returns-5 c =
 put-pairs-requires : tie.Need-put-pairs-requires
 put-pairs-requires c κs = (sym (c .before .before .before .is-pairs .ensures) ∙ not-false _ (c .before .before .if4 .left), omega arith)
 
-same-length : tie.Need-same-length
-same-length c = search needs
-
 returns-6 : tie.Need-returns-6
 returns-6 c =
     let p = c .before .before .put-pairs in
@@ -59,12 +50,12 @@ decode-spec =
     tie.close
     (tie.spec
     returns
-    shared-slice-read-if3
+    (λ c. search needs)
     returns-2
     returns-3
-    is-pairs-requires
+    (λ c κs. search needs)
     returns-4
     returns-5
     put-pairs-requires
-    same-length
+    (λ c. search needs)
     returns-6)

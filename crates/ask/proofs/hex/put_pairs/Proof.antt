@@ -28,24 +28,6 @@ pair : (k : tie.In-loop Inv-loop μ-loop)
     (i + 1 < length l) × (hexOf (getD l i 0) < 16) × (hexOf (getD l (i + 1) 0) < 16) × (isPairs (drop (i + 2) l) ≡ true)
 pair k = pair-here (now (k .before .before .before .before .args .word)) (k .before .loop .i) (k .loop-test .taken) (k .before .loop .inv .3)
 
-loop-holds : tie.Need-loop-holds Inv-loop μ-loop
-loop-holds c = (omega arith, omega arith, refl, c .before .before .pre .0, refl)
-
-shared-slice-read-hex-value : tie.Need-shared-slice-read-hex-value Inv-loop μ-loop
-shared-slice-read-hex-value c = omega arith
-
-hex-value-requires : tie.Need-hex-value-requires Inv-loop μ-loop
-hex-value-requires c κs = search needs
-
-add-hex-value : tie.Need-add-hex-value Inv-loop μ-loop
-add-hex-value c = omega arith
-
-shared-slice-read-hex-value-2 : tie.Need-shared-slice-read-hex-value-2 Inv-loop μ-loop
-shared-slice-read-hex-value-2 c = pair (c .before .before .before) .0
-
-hex-value-requires-2 : tie.Need-hex-value-requires-2 Inv-loop μ-loop
-hex-value-requires-2 c κs = search needs
-
 mul-buffer : tie.Need-mul-buffer Inv-loop μ-loop
 mul-buffer c = let p = pair (c .before .before .before .before) in omega (arith, c .before .before .hex-value .ensures)
 
@@ -56,15 +38,6 @@ slice-write-buffer : tie.Need-slice-write-buffer Inv-loop μ-loop
 slice-write-buffer c =
     let l = c .before .before .before .before .before in
     omega (arith, pair (c .before .before .before .before) .0, l .before .before .before .pre .1)
-
-add-next : tie.Need-add-next Inv-loop μ-loop
-add-next c = omega arith
-
-add-i : tie.Need-add-i Inv-loop μ-loop
-add-i c = omega arith
-
-loop-less : tie.Need-loop-less Inv-loop μ-loop
-loop-less c = omega arith
 
 loop-again : tie.Need-loop-again Inv-loop μ-loop
 loop-again c =
@@ -83,9 +56,6 @@ loop-again c =
       l .loop .inv .4 ∙ ap (λ (t : List ℕ). take n b ++ t) (byte-next w i (p .0) ∙ ap (λ (k : ℕ). k ∷ pairs (drop (i + 2) w)) e) ∙ sym (front-more b (pairs (drop (i + 2) w)) n v (slice-write-buffer c)),
     )
 
-same-length : tie.Need-same-length Inv-loop μ-loop
-same-length c = omega arith
-
 returns : tie.Need-returns Inv-loop μ-loop
 returns c =
     let l = c .before in
@@ -101,18 +71,18 @@ put-pairs-spec =
     (tie.spec
     Inv-loop
     μ-loop
-    loop-holds
-    shared-slice-read-hex-value
-    hex-value-requires
-    add-hex-value
-    shared-slice-read-hex-value-2
-    hex-value-requires-2
+    (λ c. (omega arith, omega arith, refl, c .before .before .pre .0, refl))
+    (λ c. omega arith)
+    (λ c κs. search needs)
+    (λ c. omega arith)
+    (λ c. pair (c .before .before .before) .0)
+    (λ c κs. search needs)
     mul-buffer
     add-buffer
     slice-write-buffer
-    add-next
-    add-i
-    loop-less
+    (λ c. omega arith)
+    (λ c. omega arith)
+    (λ c. omega arith)
     loop-again
-    same-length
+    (λ c. omega arith)
     returns)

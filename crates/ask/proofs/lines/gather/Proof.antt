@@ -7,9 +7,6 @@ use Rattle.ask.proofs.Gathering.{held, still-long, grown-long, grown}
 use Rattle.ask.proofs.lines.gather.Statement.{statement}
 use Rattle.ask.proofs.lines.gather.Tie as tie
 
-enum-known-line : tie.Need-enum-known-line
-enum-known-line c = search needs
-
 enum-told : tie.Need-enum-told
 enum-told c = search needs
 
@@ -29,12 +26,6 @@ returns-2 c =
     let a = k .before .before .before .before .before .args in
     (tt, grown-long (a .line) (now (a .buffer)) (now (a .part)) (k .before .line .given .0 .0) (k .before .line .given .1) (sub-if1 k) (c .if1 .taken))
 
-put-requires : tie.Need-put-requires
-put-requires c κs = omega (arith, sub-if1 (c .before .before))
-
-same-length : tie.Need-same-length
-same-length c = search needs
-
 returns-3 : tie.Need-returns-3
 returns-3 c =
     let p = c .before .before .put in
@@ -46,11 +37,11 @@ pub gather-spec : {M : Type 1} → statement M
 gather-spec =
     tie.close
     (tie.spec
-    enum-known-line
+    (λ c. search needs)
     enum-told
     returns
     sub-if1
     returns-2
-    put-requires
-    same-length
+    (λ c κs. omega (arith, sub-if1 (c .before .before)))
+    (λ c. search needs)
     returns-3)

@@ -23,12 +23,6 @@ whole l = number-some (now (l .before .before .before .args .word)) (l .before .
 returns : tie.Need-returns Inv-loop μ-loop
 returns c = sym (number-none (now (c .before .before .args .word)) (c .if1 .taken))
 
-loop-holds : tie.Need-loop-holds Inv-loop μ-loop
-loop-holds c = (omega arith, omega arith, refl)
-
-shared-slice-read-byte : tie.Need-shared-slice-read-byte Inv-loop μ-loop
-shared-slice-read-byte c = omega arith
-
 returns-2 : tie.Need-returns-2 Inv-loop μ-loop
 returns-2 c =
     let l = c .before .before .before in
@@ -39,28 +33,10 @@ returns-3 c =
     let l = c .before .before .before .before in
     sym (whole l ∙ counted-above (l .loop .value) (now (l .before .before .before .args .word)) (l .loop .i) (omega arith) (c .if3 .taken))
 
-wide-requires : tie.Need-wide-requires Inv-loop μ-loop
-wide-requires c κs = search needs
-
-sub-if4 : tie.Need-sub-if4 Inv-loop μ-loop
-sub-if4 c = omega arith
-
 returns-4 : tie.Need-returns-4 Inv-loop μ-loop
 returns-4 c =
     let l = c .before .before .before .before .before .before in
     sym (whole l ∙ counted-large (l .loop .value) (now (l .before .before .before .args .word)) (l .loop .i) (omega arith) (omega arith))
-
-mul-value : tie.Need-mul-value Inv-loop μ-loop
-mul-value c = omega arith
-
-add-value : tie.Need-add-value Inv-loop μ-loop
-add-value c = omega arith
-
-add-i : tie.Need-add-i Inv-loop μ-loop
-add-i c = omega arith
-
-loop-less : tie.Need-loop-less Inv-loop μ-loop
-loop-less c = omega arith
 
 loop-again : tie.Need-loop-again Inv-loop μ-loop
 loop-again c =
@@ -83,16 +59,16 @@ decode-spec =
     Inv-loop
     μ-loop
     returns
-    loop-holds
-    shared-slice-read-byte
+    (λ c. (omega arith, omega arith, refl))
+    (λ c. omega arith)
     returns-2
     returns-3
-    wide-requires
-    sub-if4
+    (λ c κs. search needs)
+    (λ c. omega arith)
     returns-4
-    mul-value
-    add-value
-    add-i
-    loop-less
+    (λ c. omega arith)
+    (λ c. omega arith)
+    (λ c. omega arith)
+    (λ c. omega arith)
     loop-again
     returns-5)

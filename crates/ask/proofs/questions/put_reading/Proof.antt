@@ -9,23 +9,8 @@ use borrow.Author.Needs.{needs}
 use Rattle.ask.proofs.questions.put_reading.Statement.{statement}
 use Rattle.ask.proofs.questions.put_reading.Tie as tie
 
-read-requires : tie.Need-read-requires
-read-requires c κs = search needs
-
-number-requires : tie.Need-number-requires
-number-requires c κs = search needs
-
-cast-put-number : tie.Need-cast-put-number
-cast-put-number c = search needs
-
-put-number-requires : tie.Need-put-number-requires
-put-number-requires c κs = omega (arith, c .before .before .before .before .before .pre)
-
 put-number-requires-2 : tie.Need-put-number-requires-2
 put-number-requires-2 c κs = omega (arith, c .before .before .before .before .before .before .before .before .before .pre, c .before .before .before .put-number)
-
-same-length : tie.Need-same-length
-same-length c = search needs
 
 returns : tie.Need-returns
 returns c =
@@ -38,10 +23,10 @@ pub put-reading-spec : {M : Type 1} → statement M
 put-reading-spec =
     tie.close
     (tie.spec
-    read-requires
-    number-requires
-    cast-put-number
-    put-number-requires
+    (λ c κs. search needs)
+    (λ c κs. search needs)
+    (λ c. search needs)
+    (λ c κs. omega (arith, c .before .before .before .before .before .pre))
     put-number-requires-2
-    same-length
+    (λ c. search needs)
     returns)

@@ -21,15 +21,6 @@ asked k =
     let two = sym (k .before .before .before .before .count .ensures) ∙ k .before .before .before .if1 .left in
     ap (fitting (length (now (a .message)))) (asked-two (words (now (a .line))) two ∙ ap said (sym (k .before .before .word .ensures)))
 
-count-requires : tie.Need-count-requires
-count-requires c κs = search needs
-
-no-question-requires : tie.Need-no-question-requires
-no-question-requires c κs = search needs
-
-same-length : tie.Need-same-length
-same-length c = search needs
-
 returns : tie.Need-returns
 returns c =
     let n = c .before .before .no-question in
@@ -37,26 +28,8 @@ returns c =
     let a = c .before .before .before .before .before .before .before .before .before .args in
     (n .ensures .0, answer-other (words (now (a .line))) (length (now (a .message))) (λ e. k .if1 .taken (k .before .count .ensures ∙ e)) (n .ensures .1))
 
-word-requires : tie.Need-word-requires
-word-requires c κs = search needs
-
-decode-requires : tie.Need-decode-requires
-decode-requires c κs = search needs
-
-enum-known-decoded : tie.Need-enum-known-decoded
-enum-known-decoded c = search needs
-
 enum-told : tie.Need-enum-told
 enum-told c = search needs
-
-no-question-requires-2 : tie.Need-no-question-requires-2
-no-question-requires-2 c κs = search needs
-
-same-length-2 : tie.Need-same-length-2
-same-length-2 c = search needs
-
-same-length-3 : tie.Need-same-length-3
-same-length-3 c = search needs
 
 returns-2 : tie.Need-returns-2
 returns-2 c =
@@ -70,15 +43,6 @@ slice-reshare-prefix-put-reading c = told-within (c .before .before .before .bef
 slice-aggregate-put-reading : tie.Need-slice-aggregate-put-reading
 slice-aggregate-put-reading c = sym (length-take-le _ _ (slice-reshare-prefix-put-reading (c .before)))
 
-put-reading-requires : tie.Need-put-reading-requires
-put-reading-requires c κs = search needs
-
-same-length-4 : tie.Need-same-length-4
-same-length-4 c = search needs
-
-same-length-5 : tie.Need-same-length-5
-same-length-5 c = search needs
-
 returns-3 : tie.Need-returns-3
 returns-3 c =
     let p = c .before .before .put-reading in
@@ -90,21 +54,21 @@ pub read-spec : {M : Type 1} → statement M
 read-spec =
     tie.close
     (tie.spec
-    count-requires
-    no-question-requires
-    same-length
+    (λ c κs. search needs)
+    (λ c κs. search needs)
+    (λ c. search needs)
     returns
-    word-requires
-    decode-requires
-    enum-known-decoded
+    (λ c κs. search needs)
+    (λ c κs. search needs)
+    (λ c. search needs)
     enum-told
-    no-question-requires-2
-    same-length-2
-    same-length-3
+    (λ c κs. search needs)
+    (λ c. search needs)
+    (λ c. search needs)
     returns-2
     slice-reshare-prefix-put-reading
     slice-aggregate-put-reading
-    put-reading-requires
-    same-length-4
-    same-length-5
+    (λ c κs. search needs)
+    (λ c. search needs)
+    (λ c. search needs)
     returns-3)

@@ -16,21 +16,6 @@ Inv-loop line spaces₀ i₀ spaces i = (i ≤ length line) × (spaces ≤ i) ×
 abbrev μ-loop : tie.MeasureT-loop
 μ-loop line spaces₀ i₀ spaces i = length line - i
 
-loop-holds : tie.Need-loop-holds Inv-loop μ-loop
-loop-holds c = omega arith
-
-shared-slice-read-if1 : tie.Need-shared-slice-read-if1 Inv-loop μ-loop
-shared-slice-read-if1 c = omega arith
-
-add-spaces : tie.Need-add-spaces Inv-loop μ-loop
-add-spaces c = omega arith
-
-add-i : tie.Need-add-i Inv-loop μ-loop
-add-i c = omega arith
-
-loop-less : tie.Need-loop-less Inv-loop μ-loop
-loop-less c = omega arith
-
 loop-again : tie.Need-loop-again Inv-loop μ-loop
 loop-again c =
     let l = c .before .before .before in
@@ -39,9 +24,6 @@ loop-again c =
     (λ w. omega (arith, count-space (now (a .line)) (l .loop .i) (omega arith) (w .0 .taken)))
     (λ w. omega (arith, count-other (now (a .line)) (l .loop .i) (omega arith) (w .0 .left)))
     (c .if1 .came)
-
-add-result : tie.Need-add-result Inv-loop μ-loop
-add-result c = omega arith
 
 returns : tie.Need-returns Inv-loop μ-loop
 returns c =
@@ -55,11 +37,11 @@ count-spec =
     (tie.spec
     Inv-loop
     μ-loop
-    loop-holds
-    shared-slice-read-if1
-    add-spaces
-    add-i
-    loop-less
+    (λ c. omega arith)
+    (λ c. omega arith)
+    (λ c. omega arith)
+    (λ c. omega arith)
+    (λ c. omega arith)
     loop-again
-    add-result
+    (λ c. omega arith)
     returns)

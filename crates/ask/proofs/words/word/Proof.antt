@@ -1,10 +1,10 @@
 -- Rests on where the part at a space stands, and on its bytes.
 use borrow.Author.Needs.{needs}
-use Prim.Native.Nat.{_-_, _≤_, _<_}
+use Prim.Native.Nat.{_-_, _≤_}
 use mathlib.Core.Path.{_≡_, sym, _∙_}
 use mathlib.Core.List.{[]}
 use lib.ListN.{length, getD, take, drop, List·getD-eq-default}
-use Rattle.alphabet.specs.Parts.{split, partAt}
+use Rattle.alphabet.specs.Parts.{partAt}
 use Rattle.alphabet.proofs.PartLaws.{part-bytes, absent-past}
 use Rattle.ask.specs.Words.{words}
 use denote.Ref.{now}

@@ -1,21 +1,20 @@
 -- Rests on the laws of the walk: the checks left are those of the segments from `start` on.
 use borrow.Author.Needs.{needs}
-use Prim.Native.Nat.{ℕ, _≤_, _<_, _+_, _-_}
+use Prim.Native.Nat.{ℕ, _≤_, _+_, _-_}
 use mathlib.Core.Path.{_≡_, refl, sym, ap, _∙_}
-use mathlib.Core.List.{List, _∷_}
+use mathlib.Core.List.{List}
 use lib.Dec.{eqb}
-use lib.ListN.{length, take, drop, length-drop, drop-of-length-le}
+use lib.ListN.{length, drop, length-drop}
 use native.Mathlib.Omega.{arith}
 use denote.Ref.{now}
 use Rattle.alphabet.specs.Answers.{orElse, inOrder}
 use Rattle.alphabet.specs.Bytes.{carriageReturn}
-use Rattle.alphabet.specs.Lists.{find}
 use Rattle.alphabet.specs.Parts.{split}
 use Rattle.alphabet.specs.declared.answers.Check.{Check}
 use Rattle.alphabet.proofs.ListLaws.{first-le}
 use Rattle.alphabet.proofs.CheckLaws.{stops, goes-on}
 use Rattle.reading.specs.Segments.{allButLast, segments}
-use Rattle.reading.specs.Reading.{segmentCheck, segmentChecks, segmentsCheck}
+use Rattle.reading.specs.Reading.{segmentChecks, segmentsCheck}
 use Rattle.reading.proofs.SegmentLaws.{checks-walk, checks-over}
 use Rattle.reading.proofs.checks.check_segments.Statement.{statement}
 use Rattle.reading.proofs.checks.check_segments.Tie as tie
