@@ -1,0 +1,73 @@
+-- Laws of the answer to a question for an element: what a lookup that passes rests on, and where what it finds lies. Assumes nothing.
+use mathlib.Core.Path.{_≡_, refl, sym, ap, subst, _∙_}
+use mathlib.Core.List.{List, [], _∷_}
+use Prim.Native.Nat.{ℕ, _≤_}
+use native.Mathlib.Omega.{arith}
+use lib.ListN.{length}
+use Rattle.alphabet.specs.Answers.{inOrder, answered}
+use Rattle.alphabet.specs.declared.answers.Refusal.{Refusal}
+use Rattle.alphabet.specs.declared.answers.Check.{Check}
+use Rattle.alphabet.specs.declared.answers.Check.the-variants.{Passes, Fails}
+use Rattle.alphabet.specs.declared.parts.Part.{Part}
+use Rattle.alphabet.specs.declared.parts.Part.the-variants.{At, Absent}
+use Rattle.alphabet.proofs.CheckLaws.{both-pass}
+use Rattle.reading.specs.Segments.{delimitersOf, segmentAt}
+use Rattle.reading.specs.Reading.{reading}
+use Rattle.reading.specs.Message.{Message}
+use Rattle.reading.proofs.Accepted.{accepted}
+use Rattle.element.specs.Addresses.{addressCheck}
+use Rattle.element.specs.States.{stateOf}
+use Rattle.element.specs.declared.states.State.{State}
+use Rattle.element.specs.Levels.{between, Within, fixed, fieldIn, repetitionAt, componentAt, elementAt}
+use Rattle.element.specs.Finding.{lookupCheck, elementIn, elementOf, elementIf, nowhere, found}
+use Rattle.element.specs.declared.Element.{Element}
+use Rattle.element.specs.declared.address.Address.{Address}
+use Rattle.element.proofs.LevelLaws.{within-segment, within-field, within-below}
+
+-- an element lies within the message
+pub within-element : (m : List ℕ) (a : Address) → 4 ≤ length m → Within m (elementAt m a)
+unfolding repetitionAt componentAt elementAt
+within-element m a h =
+    within-below _ _ m _ (a .subcomponent)
+    (within-below _ _ m _ (a .component)
+    (within-below _ _ m _ (a .repetition) (within-field m (a .segment) _ (a .field) h (within-segment m (a .segment)))))
+
+-- a lookup that passes is of a message that was read
+pub lookup-read : (m : List ℕ) (a : Address) → lookupCheck m a ≡ Passes → Message m
+unfolding lookupCheck
+lookup-read m a e = accepted m (both-pass (reading m) _ e .0)
+
+pub lookup-long : (m : List ℕ) (a : Address) → lookupCheck m a ≡ Passes → 9 ≤ length m
+lookup-long m a e = lookup-read m a e .opened .nine-bytes
+
+-- where the answer says that the element stands lies within the message
+in-message : (m : List ℕ) (part : Part) → Within m part → (elementIn m part .start ≤ elementIn m part .end) × (elementIn m part .end ≤ length m)
+in-message m Absent w = (omega arith, omega arith)
+in-message m (At s e) w = w
+
+pub found-within : (m : List ℕ) (a : Address) → (found m a .element .start ≤ found m a .element .end) × (found m a .element .end ≤ length m)
+unfolding found elementOf
+found-within m a = at (lookupCheck m a) refl
+  where
+    at : (c : Check) → lookupCheck m a ≡ c → (elementIf c (elementOf m a) .start ≤ elementIf c (elementOf m a) .end) × (elementIf c (elementOf m a) .end ≤ length m)
+    at (Fails kind place) e = (omega arith, omega arith)
+    at Passes e =
+        let n = lookup-long m a e in
+        in-message m (elementAt m a) (within-element m a (omega arith))
+
+-- ---- the answer, case by case, where c is what the lookup gave
+
+pub found-fails : (m : List ℕ) (a : Address) (c : Check) (kind : Refusal) (place : ℕ) → c ≡ lookupCheck m a → c ≡ Fails kind place
+    → record { answer = answered c; element = nowhere } ≡ found m a
+unfolding found
+found-fails m a c kind place e f = rw (← e, f)
+
+pub found-passes : (m : List ℕ) (a : Address) (c : Check) → c ≡ lookupCheck m a → c ≡ Passes → record { answer = answered c; element = elementOf m a } ≡ found m a
+unfolding found
+found-passes m a c e f = rw (← e, f)
+
+-- an element that stands from s to e
+pub element-at : (m : List ℕ) (a : Address) (state : State) (ds : List ℕ) (s e : ℕ) → elementAt m a ≡ At s e → ds ≡ delimitersOf m → state ≡ stateOf ds (between m s e)
+    → record { state = state; start = s; end = e } ≡ elementOf m a
+unfolding elementOf
+element-at m a state ds s e q d t = rw (q, t, d)

@@ -1,0 +1,41 @@
+-- Rests on the laws that each level lies within the message, and on what the levels give.
+use borrow.Author.Needs.{needs}
+use mathlib.Core.Path.{sym, subst}
+use Rattle.element.specs.Levels.{Within, repetitionAt, componentAt, elementAt}
+use Rattle.element.proofs.LevelLaws.{within-segment, within-field, within-below}
+use denote.Ref.{now}
+use Rattle.element.proofs.levels.part_of.Statement.{statement}
+use Rattle.element.proofs.levels.part_of.Tie as tie
+
+segment-within : (c : tie.After-segment-at) → Within (now (c .before .before .args .message)) (c .segment-at .result)
+segment-within c = subst (Within (now (c .before .before .args .message))) (sym (c .segment-at .ensures)) (within-segment (now (c .before .before .args .message)) (c .before .before .args .address .segment))
+
+field-within : (c : tie.After-field-in) → Within (now (c .before .before .before .args .message)) (c .field-in .result)
+field-within c =
+    let a = c .before .before .before .args in
+    let m = now (a .message) in
+    subst (Within m) (sym (c .field-in .ensures)) (within-field m (a .address .segment) (c .before .segment-at .result) (a .address .field) (c .before .before .before .pre) (segment-within (c .before)))
+
+repetition-within : (c : tie.After-part-below) → Within (now (c .before .before .before .before .before .before .before .before .before .args .message)) (c .part-below .result)
+repetition-within c = subst (Within (now (c .before .before .before .before .before .before .before .before .before .args .message))) (sym (c .part-below .ensures)) (within-below _ _ _ _ _ (field-within (c .before .before .before .before .before .before)))
+
+component-within : (c : tie.After-part-below2) → Within (now (c .before .before .before .before .before .before .before .before .before .before .args .message)) (c .part-below2 .result)
+component-within c = subst (Within (now (c .before .before .before .before .before .before .before .before .before .before .args .message))) (sym (c .part-below2 .ensures)) (within-below _ _ _ _ _ (repetition-within (c .before)))
+
+returns : tie.Need-returns
+unfolding repetitionAt componentAt elementAt
+returns c = cc
+
+pub part-of-spec : {M : Type 1} → statement M
+part-of-spec =
+    tie.close
+    (tie.spec
+    (λ c κs. search needs)
+    (λ c κs. segment-within c)
+    (λ c κs. search needs)
+    (λ c κs. search needs)
+    (λ c κs. search needs)
+    (λ c κs. field-within (c .before .before .before .before .before))
+    (λ c κs. repetition-within c)
+    (λ c κs. component-within c)
+    returns)

@@ -1,0 +1,4 @@
+pub mod Addresses
+pub mod States
+pub mod Levels
+pub mod Finding
