@@ -7,8 +7,11 @@
 
 mod ask;
 mod chance;
+mod element;
+mod numbers;
 mod questions;
 mod reading;
+mod times;
 
 use chance::Chance;
 use std::io::{self, BufRead, BufWriter, Write};

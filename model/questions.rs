@@ -1,28 +1,46 @@
 //! The questions of the vectors. Each verb has a set of stored questions and a maker of fresh ones:
 //! a new verb adds its modules below and a line in each of the two functions.
 
+mod find_stored;
+mod lookup_fresh;
+mod lookup_stored;
 mod no_question;
+mod number_stored;
 mod read_fresh;
 mod read_stored;
 mod sound;
+mod time_stored;
+mod value_fresh;
 
 use crate::chance::Chance;
 
 pub type Bytes = Vec<u8>;
 
+/// The verbs that ask for one element of a message, by the same words.
+const LOOKUPS: [&str; 6] = ["find", "nm", "si", "dt", "tm", "ts"];
+
+/// An address by its five numbers: segment, field, repetition, component, subcomponent.
+type Numbers = [u64; 5];
+
 /// The questions of the stored vectors, in order, each a line without its LF.
 pub fn stored() -> Vec<Bytes> {
     let mut lines = no_question::stored();
     lines.extend(read_stored::stored());
+    lines.extend(find_stored::stored());
+    lines.extend(lookup_stored::stored());
+    lines.extend(number_stored::stored());
+    lines.extend(time_stored::stored());
     lines
 }
 
-/// One random question, a line without its LF.
+/// One random question, a line without its LF: as many of each verb, and some damaged lines.
 pub fn fresh(chance: &mut Chance) -> Bytes {
     if chance.one_in(12) {
-        no_question::fresh(chance)
-    } else {
-        read_fresh::fresh(chance)
+        return no_question::fresh(chance);
+    }
+    match chance.below(1 + LOOKUPS.len()) {
+        0 => read_fresh::fresh(chance),
+        lookup => lookup_fresh::fresh(chance, LOOKUPS[lookup - 1]),
     }
 }
 
@@ -36,6 +54,40 @@ fn hex(bytes: &[u8]) -> String {
 
 fn read_question(message: &[u8]) -> Bytes {
     format!("read {}", hex(message)).into_bytes()
+}
+
+fn lookup_question(verb: &str, message: &[u8], address: Numbers) -> Bytes {
+    let [segment, field, repetition, component, subcomponent] = address;
+    let address = format!("{segment} {field} {repetition} {component} {subcomponent}");
+    format!("{verb} {} {address}", hex(message)).into_bytes()
+}
+
+/// The shortest message that holds a field, and the address of that field.
+fn in_header(field: &[u8]) -> (Bytes, Numbers) {
+    let message = [br"MSH|^~\&|", field, b"\r"].concat();
+    (message, [0, 3, 0, 0, 0])
+}
+
+/// The question of a verb for a field alone in its message.
+fn field_question(verb: &str, field: &[u8]) -> Bytes {
+    let (message, address) = in_header(field);
+    lookup_question(verb, &message, address)
+}
+
+/// Repetition, component and subcomponent of every address of a field that splits into at most so
+/// many of each, and of one more of each.
+fn addresses(repetitions: u64, components: u64, subcomponents: u64) -> Vec<[u64; 3]> {
+    let mut addresses = vec![[0, 0, 0]];
+    for repetition in 1..=repetitions + 1 {
+        addresses.push([repetition, 0, 0]);
+        for component in 1..=components + 1 {
+            addresses.push([repetition, component, 0]);
+            for subcomponent in 1..=subcomponents + 1 {
+                addresses.push([repetition, component, subcomponent]);
+            }
+        }
+    }
+    addresses
 }
 
 /// The bytes of a text in ISO 8859/1, where a character's number is its byte.

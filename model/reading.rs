@@ -10,17 +10,20 @@ pub const CR: u8 = 0x0D;
 
 /// "Byte 3 is the field separator; bytes 4 to 7 are component, repetition, escape and subcomponent
 /// separator. Byte 8 is the field separator or CR."
-const FIELD_SEPARATOR: usize = 3;
+pub const FIELD_SEPARATOR: usize = 3;
+pub const COMPONENT_SEPARATOR: usize = 4;
+pub const REPETITION_SEPARATOR: usize = 5;
+pub const SUBCOMPONENT_SEPARATOR: usize = 7;
 const LAST_DELIMITER: usize = 7;
 const BEHIND_DELIMITERS: usize = 8;
 
-/// Why a message is refused: the paper's number, and where.
+/// Why a message, or what is asked of it, is refused: the paper's number, and where.
 pub struct Refusal {
     pub number: u32,
     pub place: usize,
 }
 
-fn refuse(number: u32, place: usize) -> Result<(), Refusal> {
+pub fn refuse<Answer>(number: u32, place: usize) -> Result<Answer, Refusal> {
     Err(Refusal { number, place })
 }
 

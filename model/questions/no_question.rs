@@ -1,7 +1,9 @@
 //! Lines that are no question of ASK.md, and the lines next to them that are: a word missing or too
 //! many, a bad digit, the wrong space. They test how a line is taken apart, and no rule.
 
-use super::{message, read_question, sound, Bytes};
+use super::{
+    field_question, lookup_fresh, message, read_question, sound, Bytes, LOOKUPS,
+};
 use crate::ask::LONGEST_LINE;
 use crate::chance::Chance;
 
@@ -26,7 +28,71 @@ pub fn stored() -> Vec<Bytes> {
         lines.push([b"read ", &[byte][..], b"d"].concat());
         lines.push([b"read 4", &[byte][..]].concat());
     }
+    lines.extend(words_of_lookups());
+    lines.extend(numbers_of_addresses());
     lines
+}
+
+/// Each verb of a lookup with each count of words, and with its words and spaces damaged.
+fn words_of_lookups() -> Vec<Bytes> {
+    let mut lines = Vec::new();
+    for verb in LOOKUPS {
+        let whole = text(field_question(verb, b"1200"));
+        let words: Vec<&str> = whole.split(' ').collect();
+        for count in 1..=words.len() {
+            lines.push(words[..count].join(" "));
+        }
+        for behind in [" ", " 0", " 0 0", " -", "\r", "\0"] {
+            lines.push(format!("{whole}{behind}"));
+        }
+        lines.push(format!(" {whole}"));
+        lines.push(whole.replacen(' ', "  ", 1));
+        lines.push(whole.replacen(' ', "\t", 1));
+        lines.push(whole.to_uppercase());
+        lines.push(format!("{verb}{whole}"));
+        lines.push(format!("{verb} - 0 3 0 0 0"));
+        lines.push(format!("{verb} 4 0 3 0 0 0"));
+        lines.push(format!("{verb} 4g 0 3 0 0 0"));
+        lines.push(format!("{verb} 0 3 0 0 0 {}", words[1]));
+        lines.push(format!("{verb} {} {}", words[1], words[1]));
+    }
+    lines.into_iter().map(String::into_bytes).collect()
+}
+
+/// Words that are a number and words that are none, at each place of an address. Some come out as the
+/// number that stood there if they are read with a wrap or to the first bad digit only.
+fn numbers_of_addresses() -> Vec<Bytes> {
+    let telling = [
+        "", "-", "+", "-0", "-1", "+0", "+1", "0x1", "1x", "a", "f", "1.0", "1,", "1e0", "0 ", "00",
+        "01", "003", "\"1\"", "1\t", "\01", "²", "4294967296", "4294967297", "4294967299",
+        "18446744073709551614", "18446744073709551615", "18446744073709551616",
+        "18446744073709551617", "18446744073709551619", "28446744073709551615",
+        "36893488147419103235", "99999999999999999999", "184467440737095516160",
+        "184467440737095516163", "340282366920938463463374607431768211459",
+        "000000000000000000000000000000000000000000000000000000000000000000000000000003",
+        "0000000000000000000018446744073709551616",
+    ];
+    let whole = text(field_question("find", b"a"));
+    let words: Vec<&str> = whole.split(' ').collect();
+    let mut lines = Vec::new();
+    for place in 2..words.len() {
+        for number in telling {
+            let mut words = words.clone();
+            words[place] = number;
+            lines.push(words.join(" ").into_bytes());
+        }
+    }
+    for verb in LOOKUPS {
+        for number in ["18446744073709551615", "18446744073709551616", "-1", "03"] {
+            let line = text(field_question(verb, b"1200"));
+            lines.push(line.replacen(" 3 ", &format!(" {number} "), 1).into_bytes());
+        }
+    }
+    lines
+}
+
+fn text(line: Bytes) -> String {
+    String::from_utf8(line).expect("a question is written in ASCII")
 }
 
 /// One message in small, in capital and in mixed digits, with a word more and with a digit less.
@@ -46,12 +112,16 @@ pub fn fresh(chance: &mut Chance) -> Bytes {
     if chance.one_in(150) {
         return long_line(chance);
     }
-    let mut line =
-        if chance.one_in(3) { b"read -".to_vec() } else { read_question(&sound::random(chance)) };
+    let mut line = match chance.below(9) {
+        0 => b"read -".to_vec(),
+        1..=2 => read_question(&sound::random(chance)),
+        lookup => lookup_fresh::fresh(chance, LOOKUPS[lookup - 3]),
+    };
     for _ in 0..chance.between(1, 2) {
-        let place = match chance.below(3) {
+        let place = match chance.below(4) {
             0 => chance.below(line.len().min(8) + 1),
-            1 => line.len(),
+            1 => line.len() - chance.below(line.len().min(12)),
+            2 => line.len(),
             _ => chance.below(line.len() + 1),
         };
         match chance.below(6) {

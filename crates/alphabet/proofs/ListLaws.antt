@@ -1,5 +1,5 @@
 -- Laws of lists and of `first`, for any test: what a loop that searches cites, and where what it finds stands. Assumes nothing.
-use mathlib.Core.Path.{_≡_, refl, sym, ap}
+use mathlib.Core.Path.{_≡_, refl, sym, ap, _∙_}
 use mathlib.Core.List.{List, [], _∷_}
 use mathlib.Core.Bool.{Bool, true, false, cond}
 use Prim.Native.Nat.{ℕ, zero, suc, _+_, _-_, _≤_, _<_}
@@ -7,7 +7,8 @@ use native.Mathlib.Numerals.{add-one}
 use native.Mathlib.Omega.{arith}
 use lib.Dec.{eqb}
 use lib.ListN.{length, getD, take, drop, drop-of-length-le, length-drop}
-use lib.Seq.{drop-cons, take-all}
+use lib.Seq.{drop-cons, take-all, take-nil, take-take, drop-drop}
+use native.Mathlib.Nat.{sub-zero, zero-sub}
 use borrow.Author.Tests.{eqb-true, eq-eqb}
 use Rattle.alphabet.specs.Lists.{first, find}
 
@@ -18,6 +19,17 @@ drop-next l i h = rw (add-one, drop-cons l i 0)
 -- the part from i on of a slice, as the code lends it, is what stands from i on
 pub rest-of : (l : List ℕ) (i : ℕ) → take (length l - i) (drop i l) ≡ drop i l
 rest-of l i = take-all (length l - i) (drop i l) (rw (length-drop i l) (omega arith))
+
+-- a piece of a piece is a piece of the whole
+drop-take : (n a : ℕ) (l : List ℕ) → drop a (take n l) ≡ take (n - a) (drop a l)
+drop-take n zero l = ap (λ (i : ℕ). take i l) (sym (sub-zero n))
+drop-take zero (suc a) l = ap (λ (i : ℕ). take i (drop (suc a) l)) (sym (zero-sub (suc a)))
+drop-take (suc n) (suc a) [] = sym (take-nil (suc n - suc a))
+drop-take (suc n) (suc a) (x ∷ l) = let e : n - a ≡ suc n - suc a = omega arith in drop-take n a l ∙ ap (λ (i : ℕ). take i (drop a l)) e
+
+pub piece-of-piece : (l : List ℕ) (s n a k : ℕ) → a + k ≤ n → take k (drop a (take n (drop s l))) ≡ take k (drop (s + a) l)
+piece-of-piece l s n a k h =
+    ap (take k) (drop-take n a (drop s l)) ∙ take-take k (n - a) (drop a (drop s l)) (omega arith) ∙ ap (take k) (drop-drop a s l)
 
 module _ (test : ℕ → Bool) where
   pub first-here : (l : List ℕ) (i : ℕ) → i < length l → test (getD l i 0) ≡ true → first test (drop i l) ≡ 0

@@ -1,3 +1,4 @@
 pub mod LevelLaws
 pub mod StateLaws
 pub mod FindingLaws
+pub mod ElementLaws

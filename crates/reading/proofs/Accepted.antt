@@ -194,11 +194,15 @@ accepted m e =
       one-header = λ k z h. each k h .no-second (omega arith);
     }
 
+-- a message ends in CR
+pub message-last : (m : List ℕ) → Message m → getD m (length m - 1) 0 ≡ carriageReturn
+message-last m g =
+    subst (λ (x : List ℕ). getD x (length x - 1) 0 ≡ carriageReturn) (g .all-ended) (ended-last (segments m) (g .some-segments) .1)
+
 pub accepting : (m : List ℕ) → Message m → reading m ≡ Passes
 unfolding reading segmentsCheck
 accepting m g =
-    let l = ended-last (segments m) (g .some-segments) .1 in
-    let last : getD m (length m - 1) 0 ≡ carriageReturn = subst (λ (x : List ℕ). getD x (length x - 1) 0 ≡ carriageReturn) (g .all-ended) l in
+    let last = message-last m g in
     let end = passes-if (ap not (eq-eqb (getD m (length m - 1) 0) carriageReturn last)) NotEnded (length m - 1) in
     let each = checks-pass (fieldSeparator m) 0 0 (segments m)
     (λ j h.

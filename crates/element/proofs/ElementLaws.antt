@@ -1,0 +1,200 @@
+-- What is promised of elements: each lies inside its segment, absent means past the last part, which bytes each state means, and the whole of a
+-- level with one part is that part. Assumes nothing.
+use mathlib.Core.Path.{_≡_, refl, sym, ap, subst, _∙_}
+use mathlib.Core.List.{List, [], _∷_}
+use mathlib.Core.Bool.{Bool, true, false, not, cond, _&&_, _||_}
+use Prim.Native.Nat.{ℕ, zero, suc, _+_, _-_, _≤_, _<_}
+use native.Mathlib.Nat.{add-zero}
+use native.Mathlib.Omega.{arith}
+use lib.Dec.{leb, ltb, eqb}
+use lib.ListN.{length, getD, take, drop}
+use borrow.Author.Tests.{eqb-true, eqb-false, eq-eqb, ne-eqb, not-true, not-false}
+use Rattle.alphabet.specs.Bytes.{carriageReturn}
+use Rattle.alphabet.specs.Lists.{first, find}
+use Rattle.alphabet.specs.Parts.{split, standing, partAt}
+use Rattle.alphabet.specs.declared.parts.Part.{Part}
+use Rattle.alphabet.specs.declared.parts.Part.the-variants.{At, Absent}
+use Rattle.alphabet.proofs.BoolLaws.{false-true, and-both}
+use Rattle.alphabet.proofs.ListLaws.{piece-of-piece, first-before, first-none}
+use Rattle.alphabet.proofs.PartLaws.{part-bytes, standing-first, standing-absent, absent-past}
+use Rattle.reading.specs.Segments.{fieldSeparator, segmentAt}
+use Rattle.element.specs.States.{isNull, blank, isEmpty, stateOf}
+use Rattle.element.specs.Levels.{between, Within, moved, partIn, fieldIn, below, repetitionAt, componentAt, elementAt}
+use Rattle.element.specs.declared.address.Address.{Address}
+use Rattle.element.specs.declared.states.State.{State}
+use Rattle.element.specs.declared.states.State.the-variants.{Empty, Null, Present}
+use Rattle.reading.specs.Message.{Message}
+use Rattle.reading.proofs.HeaderLaws.{first-segment}
+use Rattle.element.proofs.LevelLaws.{between-length, in-absent, within-segment, within-field, within-below}
+use Rattle.element.proofs.StateLaws.{state-null, state-empty, state-present}
+
+-- ---- the states and their bytes
+
+-- a null is the two bytes `""`
+two-quotes : (bytes : List ℕ) → isNull bytes ≡ true → bytes ≡ 34 ∷ 34 ∷ []
+two-quotes [] e = false-true e
+two-quotes (a ∷ []) e = false-true e
+two-quotes (a ∷ b ∷ []) e =
+    let q = and-both (eqb a 34) (eqb b 34) e in
+    rw (eqb-true a 34 (q .0), eqb-true b 34 (q .1))
+two-quotes (a ∷ b ∷ c ∷ r) e =
+    let q = and-both (eqb (length (a ∷ b ∷ c ∷ r)) 2) _ e in
+    let n = eqb-true (length (a ∷ b ∷ c ∷ r)) 2 (q .0) in
+    absurd (omega arith)
+
+-- empty: every byte is a component, repetition or subcomponent separator
+all-blank : (ds bytes : List ℕ) → isEmpty ds bytes ≡ true → (i : ℕ) → i < length bytes → blank ds (getD bytes i 0) ≡ true
+all-blank ds bytes e i h =
+    let n = eqb-true (first (λ (b : ℕ). not (blank ds b)) bytes) (length bytes) e in
+    not-false (blank ds (getD bytes i 0)) (first-before (λ (b : ℕ). not (blank ds b)) bytes i (omega arith))
+
+blank-all : (ds bytes : List ℕ) → ((i : ℕ) → i < length bytes → blank ds (getD bytes i 0) ≡ true) → isEmpty ds bytes ≡ true
+blank-all ds bytes h =
+    eq-eqb (first (λ (b : ℕ). not (blank ds b)) bytes) (length bytes) (first-none (λ (b : ℕ). not (blank ds b)) bytes (λ i k. ap not (h i k)))
+
+-- what each state says of the bytes of an element that is there: exactly one of the three
+pub data Means (ds bytes : List ℕ) : State → Type 0 where
+  null : bytes ≡ 34 ∷ 34 ∷ [] → Means ds bytes Null
+  empty : (bytes ≡ 34 ∷ 34 ∷ [] → ⊥) → ((i : ℕ) → i < length bytes → blank ds (getD bytes i 0) ≡ true) → Means ds bytes Empty
+  present : (bytes ≡ 34 ∷ 34 ∷ [] → ⊥) → (((i : ℕ) → i < length bytes → blank ds (getD bytes i 0) ≡ true) → ⊥) → Means ds bytes Present
+
+not-quotes : (bytes : List ℕ) → isNull bytes ≡ false → bytes ≡ 34 ∷ 34 ∷ [] → ⊥
+not-quotes bytes e q = false-true (sym e ∙ ap isNull q)
+
+pub state-means : (ds bytes : List ℕ) → Means ds bytes (stateOf ds bytes)
+state-means ds bytes = at (isNull bytes) refl (isEmpty ds bytes) refl
+  where
+    at : (t : Bool) → isNull bytes ≡ t → (u : Bool) → isEmpty ds bytes ≡ u → Means ds bytes (stateOf ds bytes)
+    at true e u f = subst (Means ds bytes) (sym (state-null ds bytes e)) (null (two-quotes bytes e))
+    at false e true f = subst (Means ds bytes) (sym (state-empty ds bytes e f)) (empty (not-quotes bytes e) (all-blank ds bytes f))
+    at false e false f =
+        subst (Means ds bytes) (sym (state-present ds bytes e f))
+        (present (not-quotes bytes e) (λ (h : (i : ℕ) → i < length bytes → blank ds (getD bytes i 0) ≡ true). false-true (sym f ∙ blank-all ds bytes h)))
+
+-- no other state says that of them
+pub one-state : (ds bytes : List ℕ) (s t : State) → Means ds bytes s → Means ds bytes t → s ≡ t
+one-state ds bytes Null Null (null p) (null q) = refl
+one-state ds bytes Null Empty (null p) (empty q r) = absurd (q p)
+one-state ds bytes Null Present (null p) (present q r) = absurd (q p)
+one-state ds bytes Empty Null (empty q r) (null p) = absurd (q p)
+one-state ds bytes Empty Empty (empty p q) (empty r s) = refl
+one-state ds bytes Empty Present (empty p q) (present r s) = absurd (s q)
+one-state ds bytes Present Null (present q r) (null p) = absurd (q p)
+one-state ds bytes Present Empty (present r s) (empty p q) = absurd (s q)
+one-state ds bytes Present Present (present p q) (present r s) = refl
+
+-- ---- absent means past the last part
+
+pub absent-means : (sep : ℕ) (m : List ℕ) (s e k : ℕ) → partIn sep m (At s e) k ≡ Absent → length (split sep (between m s e)) ≤ k
+unfolding partIn partAt
+absent-means sep m s e k q = at (standing 0 (split sep (between m s e)) k) refl q
+  where
+    at : (p : Part) → standing 0 (split sep (between m s e)) k ≡ p → moved s p ≡ Absent → length (split sep (between m s e)) ≤ k
+    at Absent r q = absent-past 0 (split sep (between m s e)) k r
+    at (At a b) r q = absurd (let z : _≡_ {A = ℕ} 0 1 = cc in omega arith)
+
+pub means-absent : (sep : ℕ) (m : List ℕ) (s e k : ℕ) → length (split sep (between m s e)) ≤ k → partIn sep m (At s e) k ≡ Absent
+unfolding partIn partAt
+means-absent sep m s e k h = rw (standing-absent 0 (split sep (between m s e)) k h)
+
+-- ---- a part's bytes are exactly the part of the split
+
+pub part-means : (sep : ℕ) (m : List ℕ) (s e k b f : ℕ) → s ≤ e → e ≤ length m → partIn sep m (At s e) k ≡ At b f
+    → (s ≤ b) × (b ≤ f) × (f ≤ e) × (between m b f ≡ getD (split sep (between m s e)) k [])
+unfolding partIn
+part-means sep m s e k b f h l q = at (partAt sep (between m s e) k) refl q
+  where
+    at : (p : Part) → partAt sep (between m s e) k ≡ p → moved s p ≡ At b f → (s ≤ b) × (b ≤ f) × (f ≤ e) × (between m b f ≡ getD (split sep (between m s e)) k [])
+    at Absent r q = absurd (let z : _≡_ {A = ℕ} 0 1 = cc in omega arith)
+    at (At x y) r q =
+        let g : s + x ≡ b = cc in
+        let j : s + y ≡ f = cc in
+        let i = part-bytes sep (between m s e) k x y r in
+        let i1 = i .1 in
+        let i2 = i .2 in
+        let n = between-length m s e h l in
+        let w : f - b ≡ y - x = omega arith in (
+          omega arith,
+          omega arith,
+          omega arith,
+          ap (λ (z : ℕ). take z (drop b m)) w ∙ ap (λ (z : ℕ). take (y - x) (drop z m)) (sym g)
+              ∙ sym (piece-of-piece m s (e - s) x (y - x) (omega arith)) ∙ i .3,
+        )
+
+-- ---- the whole of a level that has one part is that part
+
+pub whole-is-part : (sep : ℕ) (m : List ℕ) (s e : ℕ) → s ≤ e → e ≤ length m → find sep (between m s e) ≡ length (between m s e)
+    → below false sep m (At s e) 1 ≡ below false sep m (At s e) 0
+unfolding below partIn partAt
+whole-is-part sep m s e h k n =
+    let l = between-length m s e h k in
+    let a : s + 0 ≡ s = omega arith in
+    let b : s + (0 + find sep (between m s e)) ≡ e = omega arith in
+    rw (standing-first sep 0 (between m s e)) (rw (a, b))
+
+-- ---- an element lies inside its segment
+
+-- q lies inside p; what is absent lies anywhere
+abbrev pub Inside : Part → Part → Type 0
+Inside p Absent = Unit {0}
+Inside Absent (At b f) = ⊥
+Inside (At s e) (At b f) = (s ≤ b) × (b ≤ f) × (f ≤ e)
+
+inside-in : (sep : ℕ) (m : List ℕ) (p q : Part) (k : ℕ) → Within m q → Inside p q → Inside p (partIn sep m q k)
+inside-in sep m p Absent k w h = subst (Inside p) (sym (in-absent sep m Absent k refl)) tt
+inside-in sep m Absent (At s e) k w h = absurd h
+inside-in sep m (At a z) (At s e) k w h = at (partIn sep m (At s e) k) refl
+  where
+    at : (r : Part) → partIn sep m (At s e) k ≡ r → Inside (At a z) r
+    at Absent q = tt
+    at (At b f) q =
+        let g = part-means sep m s e k b f (w .0) (w .1) q in
+        let g0 = g .0 in
+        let g2 = g .2 in
+        let h0 = h .0 in
+        let h2 = h .2 in
+        (omega arith, g .1, omega arith)
+
+inside-either : (p : Part) (t : Bool) (q r : Part) → Inside p q → Inside p r → Inside p (cond t q r)
+inside-either p true q r a b = a
+inside-either p false q r a b = b
+
+inside-below : (whole : Bool) (sep : ℕ) (m : List ℕ) (p q : Part) (k : ℕ) → Within m q → Inside p q → Inside p (below whole sep m q k)
+unfolding below
+inside-below whole sep m p q k w h =
+    inside-either p (eqb k 0) q _ h
+    (inside-either p whole (cond (eqb k 1) q Absent) _ (inside-either p (eqb k 1) q Absent h tt) (inside-in sep m p q (k - 1) w h))
+
+inside-own : (m : List ℕ) (p : Part) → Within m p → Inside p p
+inside-own m Absent w = tt
+inside-own m (At s e) w = (omega arith, w .0, omega arith)
+
+inside-field : (m : List ℕ) → Message m → (k f : ℕ) → Inside (segmentAt m k) (fieldIn m k (segmentAt m k) f)
+unfolding fieldIn
+inside-field m g k f = at (eqb k 0) refl
+  where
+    p : Part
+    p = segmentAt m k
+
+    in-part : (i : ℕ) → Inside p (partIn (fieldSeparator m) m p i)
+    in-part i = inside-in (fieldSeparator m) m p p i (within-segment m k) (inside-own m p (within-segment m k))
+
+    separator : k ≡ 0 → Inside p (At 3 4)
+    separator e =
+        let s = first-segment m g in
+        let l = s .1 in
+        subst (λ (q : Part). Inside q (At 3 4)) (sym (ap (segmentAt m) e ∙ s .0)) (omega arith, omega arith, omega arith)
+
+    at : (t : Bool) → eqb k 0 ≡ t → Inside p (cond t (cond (eqb f 1) (At 3 4) (partIn (fieldSeparator m) m p (f - 1))) (partIn (fieldSeparator m) m p f))
+    at true e = inside-either p (eqb f 1) (At 3 4) _ (separator (eqb-true k 0 e)) (in-part (f - 1))
+    at false e = in-part f
+
+pub element-inside : (m : List ℕ) → Message m → (a : Address) → Inside (segmentAt m (a .segment)) (elementAt m a)
+unfolding repetitionAt componentAt elementAt
+element-inside m g a =
+    let n = g .opened .nine-bytes in
+    let field = within-field m (a .segment) _ (a .field) (omega arith) (within-segment m (a .segment)) in
+    let repetition = within-below _ _ m _ (a .repetition) field in
+    let component = within-below _ _ m _ (a .component) repetition in
+    inside-below _ _ m _ _ (a .subcomponent) component
+    (inside-below _ _ m _ _ (a .component) repetition (inside-below _ _ m _ _ (a .repetition) field (inside-field m g (a .segment) (a .field))))
