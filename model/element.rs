@@ -118,8 +118,7 @@ fn fields(message: &[u8], segment: Part, is_header: bool) -> Vec<Part> {
 /// MSH-1 and MSH-2: "neither split further (repetition, component and subcomponent 0 or 1 give the
 /// whole, more is absent)".
 fn unsplit(field: Part, address: &Address) -> Option<Part> {
-    let whole =
-        address.repetition <= 1 && address.component <= 1 && address.subcomponent <= 1;
+    let whole = address.repetition <= 1 && address.component <= 1 && address.subcomponent <= 1;
     whole.then_some(field)
 }
 

@@ -13,6 +13,7 @@ mod time_stored;
 mod value_fresh;
 
 use crate::chance::Chance;
+use std::collections::HashSet;
 
 pub type Bytes = Vec<u8>;
 
@@ -26,10 +27,15 @@ type Numbers = [u64; 5];
 pub fn stored() -> Vec<Bytes> {
     let mut lines = no_question::stored();
     lines.extend(read_stored::stored());
-    lines.extend(find_stored::stored());
-    lines.extend(lookup_stored::stored());
-    lines.extend(number_stored::stored());
-    lines.extend(time_stored::stored());
+    let lookups = [
+        find_stored::stored(),
+        lookup_stored::stored(),
+        number_stored::stored(),
+        time_stored::stored(),
+    ];
+    // Two sets may hold the same question: once is enough.
+    let mut asked = HashSet::new();
+    lines.extend(lookups.concat().into_iter().filter(|line| asked.insert(line.clone())));
     lines
 }
 
@@ -75,18 +81,22 @@ fn field_question(verb: &str, field: &[u8]) -> Bytes {
 }
 
 /// Repetition, component and subcomponent of every address of a field that splits into at most so
-/// many of each, and of one more of each.
+/// many of each, and of the next one past the last at each level, whole and by its first part.
 fn addresses(repetitions: u64, components: u64, subcomponents: u64) -> Vec<[u64; 3]> {
     let mut addresses = vec![[0, 0, 0]];
-    for repetition in 1..=repetitions + 1 {
+    for repetition in 1..=repetitions {
         addresses.push([repetition, 0, 0]);
-        for component in 1..=components + 1 {
+        for component in 1..=components {
             addresses.push([repetition, component, 0]);
             for subcomponent in 1..=subcomponents + 1 {
                 addresses.push([repetition, component, subcomponent]);
             }
         }
+        addresses.push([repetition, components + 1, 0]);
+        addresses.push([repetition, components + 1, 1]);
     }
+    addresses.push([repetitions + 1, 0, 0]);
+    addresses.push([repetitions + 1, 1, 1]);
     addresses
 }
 

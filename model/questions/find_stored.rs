@@ -25,9 +25,9 @@ fn find(message: &[u8], address: Numbers) -> Bytes {
 /// Fields that split, or are null or empty, at one level and not at another.
 const FIELDS: [&str; 41] = [
     "", "a", "^", "^^", "&", "&&", "~", "~~", "^&~", "~&^", "&~^&", r#""""#, r#"""^"#, r#"^"""#,
-    r#"""~"#, r#"~"""#, r#"""&"#, r#"&"""#, r#"""^"""#, r#"""~"""#, r#"""&"""#, r#"""^^"""#, r#"""#,
-    r#"""""#, r#""""""#, r#""a""#, r#""^""#, "a^b&c~d", "a~~b", "a^^b", "a&&b", "a^", "^a", "a~",
-    "&a", "a&b^c~d^e&f", r"\", r"\S\", r"a\T\b&c", r"\X2222\", " ",
+    r#"""~"#, r#"~"""#, r#"""&"#, r#"&"""#, r#"""^"""#, r#"""~"""#, r#"""&"""#, r#"""^^"""#,
+    r#"""#, r#"""""#, r#""""""#, r#""a""#, r#""^""#, "a^b&c~d", "a~~b", "a^^b", "a&&b", "a^", "^a",
+    "a~", "&a", "a&b^c~d^e&f", r"\", r"\S\", r"a\T\b&c", r"\X2222\", " ",
 ];
 
 /// Every address of a field that is the first of its segment, and one past its last part at every
@@ -52,35 +52,23 @@ fn every_address() -> Vec<Bytes> {
     lines
 }
 
-/// Some of these fields written in other delimiters; and the same bytes where the usual delimiters
-/// have other meanings, or none.
+/// Fields where the usual delimiters have other meanings, or none.
 fn other_delimiters() -> Vec<Bytes> {
-    let fields = ["^&~", r#"""^"#, r#"""~"""#, "a^b&c~d", "a~~b", "a&b^c~d", r"a\^"];
     let mut lines = Vec::new();
-    for field in fields {
-        let other = latin(field).into_iter().map(in_other_delimiter).collect::<Bytes>();
-        let message = [b"MSH#$%*@\rPID#", &other[..], b"#z\r"].concat();
-        lines.extend(addresses_of(&message, &other, b"#$%*@"));
-        for delimiters in [br"|~&\^", br"|\^&~"] {
-            let header = [b"MSH", &delimiters[..], b"\r"].concat();
-            let message = [&header[..], b"PID|", &latin(field), b"|z\r"].concat();
+    for (delimiters, fields) in [
+        (b"#$%*@", ["$@%", r#"""$"#, r#"""%"""#, "a$b@c%d", "a^b&c~d", r"a\S\"]),
+        (br"|~&\^", ["^&~", r#"""^"#, r#"""~"""#, "a&b~c", "a^b&c~d", r"a\~"]),
+        (br"|\^&~", ["^&~", r#"""^"#, r#"""\"""#, "a&b~c", r"a\b~c^d", r"&S&"]),
+    ] {
+        for field in fields {
+            let separator = char::from(delimiters[0]);
+            let header = format!("MSH{}", delimiters.map(char::from).iter().collect::<String>());
+            let segment = format!("PID{separator}{field}{separator}z");
+            let message = message(&[&header, &segment]);
             lines.extend(addresses_of(&message, &latin(field), delimiters));
         }
-        let message = message(&["MSH#$%*@", &format!("PID#{field}#z")]);
-        lines.extend(addresses_of(&message, &latin(field), b"#$%*@"));
     }
     lines
-}
-
-fn in_other_delimiter(byte: u8) -> u8 {
-    match byte {
-        b'|' => b'#',
-        b'^' => b'$',
-        b'~' => b'%',
-        b'\\' => b'*',
-        b'&' => b'@',
-        other => other,
-    }
 }
 
 /// Every field of up to three bytes of these six, whole.
@@ -104,14 +92,14 @@ fn every_segment_and_field() -> Vec<Bytes> {
         message(&[r"MSH|^~\&"]),
         message(&[r"MSH|^~\&|"]),
         message(&[r"MSH|^~\&||"]),
-        message(&[r"MSH|^~\&|a||b", "PID", "PID|", "PV1||", r#"OBX|1|""|^|x~y|"#, "ZZZ|é"]),
-        message(&["MSH!,:;/!a!!b", "PID", "PID!", "PV1!!", r#"OBX!1!""!,!x:y!"#, "ZZZ!|"]),
+        message(&[r"MSH|^~\&|a||b", "PID", "PID|", "PV1||", r#"OBX|1|""|^|x~y|"#]),
+        message(&["MSH!,:;/!a", "PID", "PID!", r#"OBX!|!""!,"#]),
     ];
     let mut lines = Vec::new();
     for message in messages {
         let segments = message.iter().filter(|&&byte| byte == b'\r').count() as u64;
         for segment in 0..=segments + 1 {
-            for field in 0..=7 {
+            for field in 0..=6 {
                 lines.push(find(&message, [segment, field, 0, 0, 0]));
             }
         }
@@ -119,11 +107,11 @@ fn every_segment_and_field() -> Vec<Bytes> {
     lines
 }
 
-/// MSH-1 to MSH-4 with every repetition, component and subcomponent from 0 to 2, good and bad.
+/// The fields of MSH with every repetition, component and subcomponent from 0 to 2, good and bad.
 fn fields_of_the_header() -> Vec<Bytes> {
     let mut lines = Vec::new();
-    for header in [r"MSH|^~\&|a^b&c~d", "MSH#$%*@#a$b@c%d"] {
-        for field in 1..=4 {
+    for (header, fields) in [(r"MSH|^~\&|a^b&c~d", 1..=4), ("MSH#$%*@", 1..=2)] {
+        for field in fields {
             for rest in 0..27 {
                 let (repetition, component, subcomponent) = (rest / 9, rest / 3 % 3, rest % 3);
                 let address = [0, field, repetition, component, subcomponent];
@@ -171,30 +159,29 @@ fn huge_numbers() -> Vec<Bytes> {
     lines
 }
 
-/// As many segments as may be, and more than 256 parts at each other level: the last ones have two
-/// bytes, so that no number from 256 on may be taken for a lower one.
+/// As many segments as may be, and more than 256 parts at each other level: a number that is cut to
+/// one byte finds another part.
 fn many_parts() -> Vec<Bytes> {
     let mut segments = vec![r"MSH|^~\&"];
     segments.resize(MOST_SEGMENTS - 1, "ZZZ");
     segments.push("ZZZ|a");
     let all_segments = message(&segments);
     let last = MOST_SEGMENTS as u64 - 1;
-    let mut lines: Vec<Bytes> = [last - 1, last, last + 1, last + 2]
-        .iter()
-        .map(|&segment| find(&all_segments, [segment, 1, 0, 0, 0]))
-        .collect();
+    let mut lines =
+        vec![find(&all_segments, [last, 1, 0, 0, 0]), find(&all_segments, [last + 1, 1, 0, 0, 0])];
     let separators = 259;
-    for (place, separator) in [(1, b'|'), (2, b'~'), (3, b'^'), (4, b'&')] {
-        let parts = [&vec![separator; separators][..], b"bc"].concat();
-        let message = [br"MSH|^~\&".as_slice(), b"\rPID|a", &parts, b"\r"].concat();
-        let last = separators as u64 + 1;
-        for number in [1, 256, 257, last, last + 1] {
-            let mut address = [1, 1, 0, 0, 0];
-            address[2..=place.max(2)].fill(1);
+    let last = separators as u64 + 1;
+    for (separator, place, address) in [
+        (b'|', 1, [1, 1, 0, 0, 0]),
+        (b'~', 2, [1, 1, 1, 0, 0]),
+        (b'^', 3, [1, 1, 1, 1, 0]),
+        (b'&', 4, [1, 1, 1, 1, 1]),
+    ] {
+        let parts = [b"a", &vec![separator; separators][..], b"bc"].concat();
+        let message = [br"MSH|^~\&".as_slice(), b"\rPID|", &parts, b"\r"].concat();
+        for number in [256, 257, last, last + 1] {
+            let mut address: Numbers = address;
             address[place] = number;
-            if place == 1 {
-                address[2] = 0;
-            }
             lines.push(find(&message, address));
         }
     }

@@ -40,7 +40,7 @@ pub fn damaged_message(chance: &mut Chance) -> Bytes {
 }
 
 /// Does one of six kinds of damage, `times` times.
-fn damage(chance: &mut Chance, message: &mut Bytes, times: usize) {
+pub fn damage(chance: &mut Chance, message: &mut Bytes, times: usize) {
     for _ in 0..times {
         let place = random_place(chance, message);
         if place >= message.len() {

@@ -91,7 +91,7 @@ pub fn random(chance: &mut Chance) -> Bytes {
 }
 
 /// Five that differ and are permitted; the usual ones three times in four.
-fn random_delimiters(chance: &mut Chance) -> [u8; 5] {
+pub fn random_delimiters(chance: &mut Chance) -> [u8; 5] {
     if !chance.one_in(4) {
         return USUAL_DELIMITERS;
     }

@@ -1,6 +1,7 @@
 pub mod Lists
 pub mod Bytes
 pub mod Delimiters
+pub mod Digits
 pub mod Limits
 pub mod Answers
 pub mod Parts

@@ -8,7 +8,8 @@ use mathlib.Core.List.{List, [], _∷_}
 use Rattle.alphabet.specs.Parts.{split}
 use Rattle.ask.specs.Words.{words}
 use Rattle.ask.specs.Hex.{isPairs, pairs, bytes, nothing, said}
-use Rattle.ask.specs.Numbers.{isDigits, onwards, counted, number}
+use Rattle.alphabet.specs.Digits.{allDigits, counted}
+use Rattle.ask.specs.Numbers.{held, number}
 use Rattle.ask.specs.Questions.{readVerb, noQuestion, readAsked}
 use Rattle.ask.specs.declared.numbers.Number.the-variants.{Value, Refused}
 
@@ -29,7 +30,7 @@ unfolding said isPairs pairs
 bytes-said = (refl, refl, refl, refl, refl, refl)
 
 numbers-said : (number (ascii "007") ≡ Value 7) × (number (ascii "18446744073709551615") ≡ Value 18446744073709551615) × (number (ascii "18446744073709551616") ≡ Refused) × (number (ascii "+1") ≡ Refused) × (number [] ≡ Refused)
-unfolding number counted isDigits onwards
+unfolding number held allDigits counted
 numbers-said = (refl, refl, refl, refl, refl)
 
 asked : (readAsked (words (ascii "read -")) ≡ bytes []) × (readAsked (words (ascii "read")) ≡ nothing) × (readAsked (words (ascii "read - ")) ≡ nothing)

@@ -5,19 +5,19 @@ use native.Mathlib.Omega.{arith}
 use borrow.Author.Needs.{needs}
 use lib.ListN.{length, getD, drop}
 use denote.Ref.{now}
-use Rattle.ask.specs.Numbers.{counted, number}
-use Rattle.ask.proofs.Digits.{number-none, number-some, counted-end, counted-below, counted-above, counted-large, counted-next}
+use Rattle.ask.specs.Numbers.{held, number}
+use Rattle.ask.proofs.Digits.{number-none, number-some, held-end, held-below, held-above, held-large, held-next}
 use Rattle.ask.proofs.numbers.decode.Statement.{statement}
 use Rattle.ask.proofs.numbers.decode.Tie as tie
 
 abbrev Inv-loop : tie.InvT-loop
-Inv-loop word value₀ i₀ value i = (i ≤ length word) × (value < 2 ^ 64) × (counted 0 word ≡ counted value (drop i word))
+Inv-loop word value₀ i₀ value i = (i ≤ length word) × (value < 2 ^ 64) × (held 0 word ≡ held value (drop i word))
 
 abbrev μ-loop : tie.MeasureT-loop
 μ-loop word value₀ i₀ value i = length word - i
 
 -- what the whole word says, at the loop's head
-whole : (l : tie.At-loop Inv-loop μ-loop) → let w = now (l .before .before .before .args .word) in number w ≡ counted (l .loop .value) (drop (l .loop .i) w)
+whole : (l : tie.At-loop Inv-loop μ-loop) → let w = now (l .before .before .before .args .word) in number w ≡ held (l .loop .value) (drop (l .loop .i) w)
 whole l = number-some (now (l .before .before .before .args .word)) (l .before .if1 .left) ∙ l .loop .inv .2
 
 returns : tie.Need-returns Inv-loop μ-loop
@@ -26,17 +26,17 @@ returns c = sym (number-none (now (c .before .before .args .word)) (c .if1 .take
 returns-2 : tie.Need-returns-2 Inv-loop μ-loop
 returns-2 c =
     let l = c .before .before .before in
-    sym (whole l ∙ counted-below (l .loop .value) (now (l .before .before .before .args .word)) (l .loop .i) (omega arith) (c .if2 .taken))
+    sym (whole l ∙ held-below (l .loop .value) (now (l .before .before .before .args .word)) (l .loop .i) (omega arith) (c .if2 .taken))
 
 returns-3 : tie.Need-returns-3 Inv-loop μ-loop
 returns-3 c =
     let l = c .before .before .before .before in
-    sym (whole l ∙ counted-above (l .loop .value) (now (l .before .before .before .args .word)) (l .loop .i) (omega arith) (c .if3 .taken))
+    sym (whole l ∙ held-above (l .loop .value) (now (l .before .before .before .args .word)) (l .loop .i) (omega arith) (c .if3 .taken))
 
 returns-4 : tie.Need-returns-4 Inv-loop μ-loop
 returns-4 c =
     let l = c .before .before .before .before .before .before in
-    sym (whole l ∙ counted-large (l .loop .value) (now (l .before .before .before .args .word)) (l .loop .i) (omega arith) (omega arith))
+    sym (whole l ∙ held-large (l .loop .value) (now (l .before .before .before .args .word)) (l .loop .i) (omega arith) (omega arith))
 
 loop-again : tie.Need-loop-again Inv-loop μ-loop
 loop-again c =
@@ -45,12 +45,12 @@ loop-again c =
     let i = l .loop .i in
     let n = l .loop .value in
     let e : n * 10 + (getD w i 0 - 48) ≡ n * 10 + c .before .wide .result = omega arith in
-    (omega arith, omega arith, l .loop .inv .2 ∙ counted-next n w i (omega arith) (omega arith) (omega arith) ∙ ap (λ (k : ℕ). counted k (drop (i + 1) w)) e)
+    (omega arith, omega arith, l .loop .inv .2 ∙ held-next n w i (omega arith) (omega arith) (omega arith) ∙ ap (λ (k : ℕ). held k (drop (i + 1) w)) e)
 
 returns-5 : tie.Need-returns-5 Inv-loop μ-loop
 returns-5 c =
     let l = c .before in
-    sym (whole l ∙ counted-end (l .loop .value) (now (l .before .before .before .args .word)) (l .loop .i) (omega arith) (omega arith))
+    sym (whole l ∙ held-end (l .loop .value) (now (l .before .before .before .args .word)) (l .loop .i) (omega arith) (omega arith))
 
 pub decode-spec : {M : Type 1} → statement M
 decode-spec =
