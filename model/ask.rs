@@ -44,8 +44,8 @@ fn answer_read(words: &[&[u8]]) -> Option<String> {
     })
 }
 
-/// `find MSG S F R C U` is answered `NUMBER PLACE STATE START END`, "`0 0` where absent" and after a
-/// refusal.
+/// `find MSG S F R C U` is answered `NUMBER PLACE STATE START END`, the last two "`0 0` where absent"
+/// and after a refusal.
 fn answer_find(words: &[&[u8]]) -> Option<String> {
     let (message, address) = message_and_address(words)?;
     Some(match element::find(&message, &address) {
@@ -57,8 +57,8 @@ fn answer_find(words: &[&[u8]]) -> Option<String> {
     })
 }
 
-/// `nm`, `si`, `dt`, `tm` and `ts` are answered `NUMBER PLACE STATE` and the words of the value: those
-/// of the default value where the element is not present or was refused.
+/// `nm`, `si`, `dt`, `tm` and `ts` are answered `NUMBER PLACE STATE` and the words of the value. A
+/// default value, which is 0 or has no part, stands where the element is not present or was refused.
 fn answer_value<Value: Default>(
     words: &[&[u8]],
     read_value: fn(&[u8]) -> Result<Value, Refusal>,
@@ -104,8 +104,8 @@ fn numeric_words(numeric: &Numeric) -> String {
     format!("{} {}", numeric.value, numeric.decimals)
 }
 
-/// `YEAR MONTH DAY HOUR MINUTE SECOND FRACTION DIGITS OFFSET`; "FRACTION is the fraction's digits as
-/// a number and DIGITS their count; OFFSET is a sign and four digits, as `+1000`".
+/// `YEAR MONTH DAY HOUR MINUTE SECOND FRACTION DIGITS OFFSET`; "FRACTION is the fraction's digits
+/// as a number and DIGITS their count; OFFSET is a sign and four digits, as `+1000`".
 fn time_words(time: &Time) -> String {
     let fraction = time.fraction.as_ref();
     [

@@ -8,8 +8,8 @@ use crate::reading::{
 };
 use std::ops::Range;
 
-/// "An element is asked for by segment (from 0), field (from 1), repetition, component, subcomponent
-/// (from 1; 0 means the whole, and after a 0 only 0 may stand)."
+/// "An element is asked for by segment (from 0), field (from 1), repetition, component,
+/// subcomponent (from 1; 0 means the whole, and after a 0 only 0 may stand)."
 pub struct Address {
     pub segment: u64,
     pub field: u64,

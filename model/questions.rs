@@ -68,16 +68,10 @@ fn lookup_question(verb: &str, message: &[u8], address: Numbers) -> Bytes {
     format!("{verb} {} {address}", hex(message)).into_bytes()
 }
 
-/// The shortest message that holds a field, and the address of that field.
-fn in_header(field: &[u8]) -> (Bytes, Numbers) {
-    let message = [br"MSH|^~\&|", field, b"\r"].concat();
-    (message, [0, 3, 0, 0, 0])
-}
-
-/// The question of a verb for a field alone in its message.
+/// The question of a verb for a field that stands in the shortest message that can hold one.
 fn field_question(verb: &str, field: &[u8]) -> Bytes {
-    let (message, address) = in_header(field);
-    lookup_question(verb, &message, address)
+    let message = [br"MSH|^~\&|", field, b"\r"].concat();
+    lookup_question(verb, &message, [0, 3, 0, 0, 0])
 }
 
 /// Repetition, component and subcomponent of every address of a field that splits into at most so

@@ -1,6 +1,6 @@
-//! Times: the types DT, TM and TS of document 01, read off raw bytes with no unescaping (ruling 11).
-//! "A time keeps how much was sent": a part that was not sent is none, and not 0. What breaks a
-//! type's form is 32.
+//! Times: the types DT, TM and TS of document 01, read off raw bytes with no unescaping
+//! (ruling 11). "A time keeps how much was sent": a part that was not sent is none, and not 0. What
+//! breaks a type's form is 32.
 
 use crate::numbers::{is_digits, whole_number};
 use crate::reading::{refuse, Refusal};

@@ -122,8 +122,8 @@ fn fields_of_the_header() -> Vec<Bytes> {
     lines
 }
 
-/// A 0 at each place of an address but the first, in all ways, of a field that is there, of one that
-/// is not, and of a segment that is not.
+/// A 0 at each place of an address but the first, in all ways, of a field that is there, of one
+/// that is not, and of a segment that is not.
 fn zeros() -> Vec<Bytes> {
     let message = message(&[r"MSH|^~\&", "PID|a^b&c~d"]);
     let mut lines = Vec::new();

@@ -1,11 +1,18 @@
-//! Fresh questions of the verbs that look an element up: a random message with a value of the verb's
-//! type somewhere in it, asked by the address of that value, by one near it, or by a huge one.
+//! Fresh questions of the verbs that look an element up: a random message with a value of the
+//! verb's type somewhere in it, asked by the address of that value, by one near it, or by a huge
+//! one.
 
 use super::{lookup_question, read_fresh, sound, value_fresh, Bytes, Numbers};
 use crate::chance::Chance;
-use crate::reading::CR;
+use crate::reading::{CR, MOST_SEGMENTS};
 
 pub fn fresh(chance: &mut Chance, verb: &str) -> Bytes {
+    if chance.one_in(100) {
+        return in_many_segments(chance, verb);
+    }
+    if chance.one_in(2000) {
+        return in_many_bytes(chance, verb);
+    }
     let delimiters = sound::random_delimiters(chance);
     let value = value_fresh::random(chance, verb, delimiters);
     let (mut message, mut address) = random_message(chance, delimiters, &value);
@@ -17,6 +24,24 @@ pub fn fresh(chance: &mut Chance, verb: &str) -> Bytes {
         read_fresh::damage(chance, &mut message, times);
     }
     lookup_question(verb, &message, address)
+}
+
+/// About as many segments as may be, asked for one of the last, for one that is not there, or for
+/// the header.
+fn in_many_segments(chance: &mut Chance, verb: &str) -> Bytes {
+    let message = read_fresh::many_segments(chance);
+    let last = MOST_SEGMENTS as u64 - 1;
+    let segment = chance.pick(&[0, last - 4, last - 1, last, last + 1, last + 2]);
+    let field = chance.below(4) as u64;
+    lookup_question(verb, &message, [segment, field, 0, 0, 0])
+}
+
+/// About as many bytes as may be, asked for any of its segments.
+fn in_many_bytes(chance: &mut Chance, verb: &str) -> Bytes {
+    let message = read_fresh::long_message(chance);
+    let segment = chance.below(140) as u64;
+    let field = chance.between(1, 3) as u64;
+    lookup_question(verb, &message, [segment, field, 0, 0, 0])
 }
 
 /// A message of up to four segments that holds the value, and the value's address.
@@ -70,7 +95,7 @@ fn other_part(chance: &mut Chance) -> Bytes {
 }
 
 /// The value as a whole field or with other parts around it, and its repetition, component and
-/// subcomponent. The last of these are mostly 0 where the value is all there is at their level.
+/// subcomponent. At a level where the value is all there is the number is 1, or every other time 0.
 fn holding_field(chance: &mut Chance, delimiters: [u8; 5], value: &[u8]) -> (Bytes, [u64; 3]) {
     let [_, component, repetition, _, subcomponent] = delimiters;
     let levels = [repetition, component, subcomponent];
@@ -103,7 +128,7 @@ fn move_address(chance: &mut Chance, address: &mut Numbers) {
         let place = chance.below(address.len());
         let number = address[place];
         address[place] = match chance.below(10) {
-            0..=2 => number + 1,
+            0..=2 => number.saturating_add(1),
             3..=4 => number.saturating_sub(1),
             5 => 0,
             6..=7 => chance.below(5) as u64,
@@ -114,9 +139,9 @@ fn move_address(chance: &mut Chance, address: &mut Numbers) {
 
 /// A number that comes out as this one, or as 0, where it is cut to fewer bits; or any at all.
 fn huge_number(chance: &mut Chance, number: u64) -> u64 {
-    let power = 1 << chance.pick(&[8, 16, 31, 32, 33, 63]);
+    let power = 1u64 << chance.pick(&[8, 16, 31, 32, 33, 63]);
     match chance.below(5) {
-        0..=1 => power + number,
+        0..=1 => number.saturating_add(power),
         2 => power,
         3 => u64::MAX - chance.below(3) as u64,
         _ => chance.below(usize::MAX) as u64,

@@ -109,7 +109,7 @@ fn values_by_address() -> Vec<Bytes> {
     lines
 }
 
-/// MSH-1 and MSH-2 are present, and neither a number nor a time; MSH-3 is the first that can be one.
+/// MSH-1 and MSH-2 are present, and neither a number nor a time; MSH-3 is the first to hold one.
 fn header_fields() -> Vec<Bytes> {
     let message = message(&[r"MSH|^~\&|2024|1200"]);
     let mut lines = Vec::new();

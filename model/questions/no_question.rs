@@ -57,54 +57,29 @@ fn words_of_lookups() -> Vec<Bytes> {
     lines.into_iter().map(String::into_bytes).collect()
 }
 
-/// Words that are a number and words that are none, at each place of an address. Some come out as the
-/// number that stood there if they are read with a wrap or to the first bad digit only.
+/// Words that are a number and words that are none, at each place of an address. Some come out as
+/// the number that stood there if they are read with a wrap or to the first bad digit only.
 fn numbers_of_addresses() -> Vec<Bytes> {
     let telling = [
-        "",
-        "-",
-        "+",
-        "-0",
-        "-1",
-        "+0",
-        "+1",
-        "0x1",
-        "1x",
-        "a",
-        "f",
-        "1.0",
-        "1,",
-        "1e0",
-        "0 ",
-        "00",
-        "01",
-        "003",
-        "\"1\"",
-        "1\t",
-        "\01",
-        "²",
-        "4294967296",
-        "4294967297",
-        "4294967299",
-        "18446744073709551614",
-        "18446744073709551615",
-        "18446744073709551616",
-        "18446744073709551617",
-        "18446744073709551619",
-        "28446744073709551615",
-        "36893488147419103235",
-        "99999999999999999999",
-        "184467440737095516160",
+        "", "-", "+", "-0", "-1", "+0", "+1", "0x1", "1x", "a", "f", "1.0", "1,", "1e0", "0 ",
+        "00", "01", "003", "\"1\"", "1\t", "\01", "²", "4294967296", "4294967297", "4294967299",
+        "18446744073709551614", "18446744073709551615", "18446744073709551616",
+        "18446744073709551617", "18446744073709551619", "28446744073709551615",
+        "36893488147419103235", "99999999999999999999", "184467440737095516160",
         "184467440737095516163",
-        "340282366920938463463374607431768211459",
-        "000000000000000000000000000000000000000000000000000000000000000000000000000003",
-        "0000000000000000000018446744073709551616",
     ];
+    let two_to_the_128_and_three = "340282366920938463463374607431768211459";
+    let zeros = "0".repeat(70);
+    let mut telling = telling.map(str::to_string).to_vec();
+    telling.push(two_to_the_128_and_three.to_string());
+    telling.push(format!("{zeros}3"));
+    telling.push(format!("{zeros}18446744073709551615"));
+    telling.push(format!("{zeros}18446744073709551616"));
     let whole = text(field_question("find", b"a"));
     let words: Vec<&str> = whole.split(' ').collect();
     let mut lines = Vec::new();
     for place in 2..words.len() {
-        for number in telling {
+        for number in &telling {
             let mut words = words.clone();
             words[place] = number;
             lines.push(words.join(" ").into_bytes());
@@ -148,7 +123,7 @@ pub fn fresh(chance: &mut Chance) -> Bytes {
     for _ in 0..chance.between(1, 2) {
         let place = match chance.below(4) {
             0 => chance.below(line.len().min(8) + 1),
-            1 => line.len() - chance.below(line.len().min(12)),
+            1 => line.len() - chance.below(line.len().min(12) + 1),
             2 => line.len(),
             _ => chance.below(line.len() + 1),
         };

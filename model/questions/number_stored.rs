@@ -1,7 +1,7 @@
 //! The stored questions of the verbs `nm` and `si`: every count of digits with every sign and every
 //! place of the point, what comes near a number and is none, and every byte in a number.
 
-use super::{field_question, Bytes};
+use super::{field_question, latin, Bytes};
 use crate::reading::allowed;
 
 pub fn stored() -> Vec<Bytes> {
@@ -43,7 +43,7 @@ fn written_numbers() -> Vec<Bytes> {
         "4.0", "-0.50", "1.5", "-1.5", "0.1", "0.10", "0.100", "00.1", "007", "+007", "-007", "5^",
         "^5", "5&6", "5~6", "5^6", r"5\T\6", r"\X35\", "\"5\"", "5\"\"", "\"\"5", "²", "5é",
     ];
-    texts.iter().map(|text| field_question("nm", &super::latin(text))).collect()
+    texts.iter().map(|text| field_question("nm", &latin(text))).collect()
 }
 
 /// "-0 is 0", with its decimals; leading zeros count; the largest number of 18 digits, with the
@@ -92,7 +92,7 @@ fn sequence_numbers() -> Vec<Bytes> {
         "1 ", "1 2", "a", "1a", "a1", "12a4", "123a", "0x1", "1e1", "A", "F", "1^2", "1^", "1&2",
         "1~2", "1,2", "\"1\"", "²", "12²", "/", ":", "1/", "1:",
     ];
-    texts.iter().map(|text| field_question("si", &super::latin(text))).collect()
+    texts.iter().map(|text| field_question("si", &latin(text))).collect()
 }
 
 /// Every byte that may stand in a message, but CR: between two digits of an NM, and alone as an SI.

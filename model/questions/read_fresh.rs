@@ -150,7 +150,7 @@ fn few_bytes(chance: &mut Chance) -> Bytes {
 }
 
 /// About as many segments as may be, now and then with a bad one near the last that may be.
-fn many_segments(chance: &mut Chance) -> Bytes {
+pub fn many_segments(chance: &mut Chance) -> Bytes {
     let mut segments = vec![r"MSH|^~\&".to_string()];
     let count = chance.between(MOST_SEGMENTS - 4, MOST_SEGMENTS + 6);
     while segments.len() < count {
@@ -172,7 +172,7 @@ fn many_segments(chance: &mut Chance) -> Bytes {
 }
 
 /// About as many bytes as may be, or a little more, in segments of random length.
-fn long_message(chance: &mut Chance) -> Bytes {
+pub fn long_message(chance: &mut Chance) -> Bytes {
     let nearest = [LONGEST_MESSAGE - 1, LONGEST_MESSAGE, LONGEST_MESSAGE + 1, 33_000];
     let length = chance.pick(&nearest);
     let mut message = message(&[r"MSH|^~\&|"]);

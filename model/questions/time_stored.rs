@@ -1,7 +1,8 @@
-//! The stored questions of the verbs `dt`, `tm` and `ts`: the days at the edges of every month, each
-//! part at its limits, every length with and without fraction and offset, and damage at every place.
+//! The stored questions of the verbs `dt`, `tm` and `ts`: the days at the edges of every month,
+//! each part at its limits, every length with and without fraction and offset, and damage at every
+//! place.
 
-use super::{field_question, latin, Bytes};
+use super::{changed, field_question, latin, Bytes};
 
 /// A time of each type with all that it can hold.
 const FULL_DATE: &str = "20240229";
@@ -64,12 +65,9 @@ fn years() -> Vec<Bytes> {
 /// The last day of each month and the one behind it, as TS of other lengths.
 fn last_days_of_time_stamps() -> Vec<Bytes> {
     let mut lines = Vec::new();
-    for (month, days) in
-        [(1, 31), (2, 28), (3, 31), (4, 30), (5, 31), (6, 30), (7, 31), (8, 31), (9, 30), (10, 31)]
-            .into_iter()
-            .chain([(11, 30), (12, 31)])
-    {
-        for day in [0, days, days + 1, days + 2] {
+    for (before, days) in [31, 28, 31, 30, 31, 30, 31, 31, 30, 31, 30, 31].iter().enumerate() {
+        let month = before + 1;
+        for day in [0, *days, days + 1, days + 2] {
             lines.push(question("ts", &format!("2023{month:02}{day:02}")));
             lines.push(question("ts", &format!("2024{month:02}{day:02}1200-0500")));
         }
@@ -220,7 +218,7 @@ fn damaged() -> Vec<Bytes> {
         let whole = whole.as_bytes();
         for place in 0..whole.len() {
             for byte in *b"9+-./:a" {
-                lines.push(field_question(verb, &super::changed(whole, place, byte)));
+                lines.push(field_question(verb, &changed(whole, place, byte)));
             }
             lines.push(field_question(verb, &[&whole[..place], &whole[place + 1..]].concat()));
             lines.push(field_question(verb, &[&whole[..place], b"0", &whole[place..]].concat()));

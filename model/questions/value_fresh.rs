@@ -29,7 +29,8 @@ pub fn random(chance: &mut Chance, verb: &str, delimiters: [u8; 5]) -> Bytes {
     value
 }
 
-/// Up to eight bytes of separators, quotes, letters and digits; or null, which comes seldom by chance.
+/// Up to eight bytes of separators, quotes, letters and digits; or null, which chance alone would
+/// seldom make.
 pub fn mixture(chance: &mut Chance, delimiters: [u8; 5]) -> Bytes {
     if chance.one_in(8) {
         return b"\"\"".to_vec();
@@ -37,11 +38,11 @@ pub fn mixture(chance: &mut Chance, delimiters: [u8; 5]) -> Bytes {
     let [_, component, repetition, escape, subcomponent] = delimiters;
     let often = [component, repetition, subcomponent];
     let seldom = [escape, b'"', b'"', b'a', b'1', b' ', 0xE9];
-    let only_separators = chance.one_in(4);
+    let only_separators = chance.one_in(8);
     let length = chance.below(9);
     (0..length)
         .map(|_| {
-            if only_separators || chance.one_in(2) {
+            if only_separators || chance.below(5) < 2 {
                 chance.pick(&often)
             } else {
                 chance.pick(&seldom)
@@ -74,7 +75,7 @@ fn numeric(chance: &mut Chance) -> String {
         0..=3 => chance.between(1, 6),
         4..=5 => chance.between(16, 20),
         6 => chance.between(1, 20),
-        _ if chance.one_in(900) => 32_000,
+        _ if chance.one_in(500) => 32_000,
         _ => 18,
     };
     let mut text = digits(chance, count);
