@@ -1,8 +1,20 @@
 // From bytes to a number or a time: NM, SI, DT, TM and TS, and each asked of an element of a message.
 // Raw bytes are judged, with no unescaping.
+mod calendar;
 mod digits;
+mod figures;
+mod forms;
 mod numbers;
 
+pub use figures::Clock;
+pub use figures::Date;
+pub use figures::Figure;
+pub use figures::Offset;
+pub use figures::Sign;
+pub use figures::Time;
+pub use forms::is_dt;
+pub use forms::is_tm;
+pub use forms::is_ts;
 pub use numbers::ReadNumber;
 pub use numbers::check_nm;
 pub use numbers::is_si;

@@ -41,7 +41,7 @@ fn without_sign(bytes: &[u8]) -> &[u8]
 }
 
 // What stands before the point, or all where there is none.
-fn whole_of(bytes: &[u8]) -> &[u8]
+pub fn whole_of(bytes: &[u8]) -> &[u8]
     ensures { λ r. ⌜ now r ≡ whole (now (bytes .entry)) ⌝ }
 {
     let point = alphabet::find(bytes, b'.');

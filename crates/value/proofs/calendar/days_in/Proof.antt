@@ -1,0 +1,28 @@
+-- Rests on the tests on the way, which say which case of `daysIn` holds.
+use borrow.Author.Needs.{needs}
+use mathlib.Core.Path.{sym, _∙_}
+use borrow.Author.Tests.{eq-eqb, ne-eqb}
+use Rattle.value.proofs.calendar.days_in.Statement.{statement}
+use Rattle.value.proofs.calendar.days_in.Tie as tie
+
+returns : tie.Need-returns
+returns c = rw (eq-eqb _ _ (c .before .before .if1 .taken), sym (c .before .is-leap .ensures) ∙ c .if2 .taken)
+
+returns-2 : tie.Need-returns-2
+returns-2 c = rw (eq-eqb _ _ (c .before .before .if1 .taken), sym (c .before .is-leap .ensures) ∙ c .if2 .left)
+
+returns-3 : tie.Need-returns-3
+returns-3 c = rw (ne-eqb _ _ (c .before .if1 .left), c .if3 .taken)
+
+returns-4 : tie.Need-returns-4
+returns-4 c = rw (ne-eqb _ _ (c .before .if1 .left), c .if3 .left)
+
+pub days-in-spec : {M : Type 1} → statement M
+days-in-spec =
+    tie.close
+    (tie.spec
+    (λ c κs. search needs)
+    returns
+    returns-2
+    returns-3
+    returns-4)

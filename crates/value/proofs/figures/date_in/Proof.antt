@@ -1,0 +1,22 @@
+-- Rests on what `date_of` gives.
+use borrow.Author.Needs.{needs}
+use mathlib.Core.Path.{sym, ap, _∙_}
+use mathlib.Core.Bool.{Bool}
+use Rattle.value.specs.Times.{dateIn}
+use denote.Ref.{now}
+use Rattle.value.proofs.figures.date_in.Statement.{statement}
+use Rattle.value.proofs.figures.date_in.Tie as tie
+
+returns : tie.Need-returns
+returns c = c .date-of .ensures ∙ ap (λ (b : Bool). dateIn b (now (c .before .before .before .args .digits))) (sym (c .before .if1 .taken))
+
+returns-2 : tie.Need-returns-2
+returns-2 c = ap (λ (b : Bool). dateIn b (now (c .before .before .args .digits))) (sym (c .if1 .left))
+
+pub date-in-spec : {M : Type 1} → statement M
+date-in-spec =
+    tie.close
+    (tie.spec
+    (λ c κs. search needs)
+    returns
+    returns-2)
