@@ -1,25 +1,25 @@
 -- Laws of the answer to a question for an element: what a lookup that passes rests on, and where what it finds lies. Assumes nothing.
-use mathlib.Core.Path.{_≡_, refl, sym, ap, subst, _∙_}
-use mathlib.Core.List.{List, [], _∷_}
-use Prim.Native.Nat.{ℕ, _≤_}
+use mathlib.Core.Path.{_≡_, refl}
+use mathlib.Core.List.{List, []}
+use Prim.Native.Nat.{ℕ, _≤_, _<_}
 use native.Mathlib.Omega.{arith}
 use lib.ListN.{length}
-use Rattle.alphabet.specs.Answers.{inOrder, answered}
+use borrow.Author.Tests.{le-leb, lt-leb}
+use Rattle.alphabet.specs.Answers.{answered}
 use Rattle.alphabet.specs.declared.answers.Refusal.{Refusal}
 use Rattle.alphabet.specs.declared.answers.Check.{Check}
 use Rattle.alphabet.specs.declared.answers.Check.the-variants.{Passes, Fails}
 use Rattle.alphabet.specs.declared.parts.Part.{Part}
 use Rattle.alphabet.specs.declared.parts.Part.the-variants.{At, Absent}
 use Rattle.alphabet.proofs.CheckLaws.{both-pass}
-use Rattle.reading.specs.Segments.{delimitersOf, segmentAt}
+use Rattle.reading.specs.Segments.{delimitersOf}
 use Rattle.reading.specs.Reading.{reading}
 use Rattle.reading.specs.Message.{Message}
 use Rattle.reading.proofs.Accepted.{accepted}
-use Rattle.element.specs.Addresses.{addressCheck}
 use Rattle.element.specs.States.{stateOf}
 use Rattle.element.specs.declared.states.State.{State}
-use Rattle.element.specs.Levels.{between, Within, fixed, fieldIn, repetitionAt, componentAt, elementAt}
-use Rattle.element.specs.Finding.{lookupCheck, elementIn, elementOf, elementIf, nowhere, found}
+use Rattle.element.specs.Levels.{between, Within, repetitionAt, componentAt, elementAt}
+use Rattle.element.specs.Finding.{lookupCheck, elementIn, elementOf, elementIf, nowhere, found, bytesAt, elementBytes}
 use Rattle.element.specs.declared.Element.{Element}
 use Rattle.element.specs.declared.address.Address.{Address}
 use Rattle.element.proofs.LevelLaws.{within-segment, within-field, within-below}
@@ -71,3 +71,22 @@ pub element-at : (m : List ℕ) (a : Address) (state : State) (ds : List ℕ) (s
     → record { state = state; start = s; end = e } ≡ elementOf m a
 unfolding elementOf
 element-at m a state ds s e q d t = rw (q, t, d)
+
+-- ---- the bytes of an element
+
+module _ (m : List ℕ) (e : Element) where
+  pub bytes-in : e .start ≤ e .end → e .end ≤ length m → bytesAt m e ≡ between m (e .start) (e .end)
+  unfolding bytesAt
+  bytes-in h l = rw (le-leb (e .start) (e .end) h, le-leb (e .end) (length m) l)
+
+  pub bytes-crossed : e .end < e .start → bytesAt m e ≡ []
+  unfolding bytesAt
+  bytes-crossed h = rw (lt-leb (e .start) (e .end) h)
+
+  pub bytes-past : e .start ≤ e .end → length m < e .end → bytesAt m e ≡ []
+  unfolding bytesAt
+  bytes-past h l = rw (le-leb (e .start) (e .end) h, lt-leb (e .end) (length m) l)
+
+-- what is shown of an element that was found is the part of the message where it stands
+pub shown : (m : List ℕ) (a : Address) → elementBytes m a ≡ between m (found m a .element .start) (found m a .element .end)
+shown m a = let w = found-within m a in bytes-in m (found m a .element) (w .0) (w .1)

@@ -1,5 +1,4 @@
 -- The address of an element, by document 01, 'Elements'.
-use Prim.Native.Nat.{ℕ}
 use mathlib.Core.Bool.{Bool, not, _&&_, _||_}
 use lib.Dec.{leb, eqb}
 use Rattle.alphabet.specs.Answers.{failsIf}

@@ -1,7 +1,9 @@
 -- The answer to a question for an element, by document 01, 'Elements': "Lookup: a reading fault, 19".
 use Prim.Native.Nat.{ℕ}
 use mathlib.Core.List.{List, [], _∷_}
-use mathlib.Core.Bool.{Bool, true, false}
+use mathlib.Core.Bool.{Bool, true, false, cond, _&&_}
+use lib.Dec.{leb}
+use lib.ListN.{length}
 use Rattle.alphabet.specs.Answers.{failsIf, inOrder, answered}
 use Rattle.alphabet.specs.declared.answers.Refusal.{Refusal}
 use Rattle.alphabet.specs.declared.answers.Check.{Check}
@@ -47,5 +49,8 @@ unfoldable pub found : List ℕ → Address → Found
 found m a = record { answer = answered (lookupCheck m a); element = elementIf (lookupCheck m a) (elementOf m a) }
 
 -- "shows the part of the message where it stands"
-unfoldable pub elementBytes : List ℕ → Address → List ℕ
-elementBytes m a = between m (found m a .element .start) (found m a .element .end)
+unfoldable pub bytesAt : List ℕ → Element → List ℕ
+bytesAt m e = cond (leb (e .start) (e .end) && leb (e .end) (length m)) (between m (e .start) (e .end)) []
+
+abbrev pub elementBytes : List ℕ → Address → List ℕ
+elementBytes m a = bytesAt m (found m a .element)

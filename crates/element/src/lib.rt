@@ -14,7 +14,7 @@ use states::state_of;
 ghost use mathlib.Core.Path.{_≡_};
 ghost use Prim.Native.Nat.{_≤_};
 ghost use lib.ListN.{length};
-ghost use Rattle.element.specs.Finding.{lookupCheck, elementOf, found, elementBytes};
+ghost use Rattle.element.specs.Finding.{lookupCheck, elementOf, found, bytesAt, elementBytes};
 pub use address::Address;
 pub use states::State;
 
@@ -100,13 +100,26 @@ pub fn find(message: &[u8], address: Address) -> Found
     }
 }
 
-// The element's own bytes, the part of the message where it stands; none where it is absent or was refused.
+// The bytes of an element of a message: the part of the message where it stands, and none where it stands nowhere.
+pub fn bytes_at(message: &[u8], element: Element) -> &[u8]
+    ensures { λ r. ⌜ now r ≡ bytesAt (now (message .entry)) element ⌝ }
+{
+    let start = element.start;
+    let end = element.end;
+    if end < start {
+        return &message[..0];
+    }
+    if message.len() < end {
+        return &message[..0];
+    }
+    &message[start..end]
+}
+
+// The same by its address; none where it is absent or was refused.
 pub fn bytes_of(message: &[u8], address: Address) -> &[u8]
     ensures { λ r. ⌜ now r ≡ elementBytes (now (message .entry)) address ⌝ }
 {
     let found = find(message, address);
     let element = found.element;
-    let start = element.start;
-    let end = element.end;
-    &message[start..end]
+    bytes_at(message, element)
 }

@@ -1,14 +1,14 @@
 -- What holds of the first segment of a message that was read: it begins the message, and its first eight bytes hold no CR. Assumes nothing.
-use mathlib.Core.Path.{_≡_, refl, sym, ap, subst, _∙_}
-use mathlib.Core.List.{List, [], _∷_}
-use mathlib.Core.Bool.{Bool, true, false, _&&_}
+use mathlib.Core.Path.{_≡_, refl, sym, ap, _∙_}
+use mathlib.Core.List.{List}
+use mathlib.Core.Bool.{Bool, true, false}
 use Prim.Native.Nat.{ℕ, zero, suc, _+_, _-_, _≤_, _<_}
 use native.Mathlib.Omega.{arith}
 use lib.Dec.{eqb, leb}
 use lib.ListN.{length, getD}
 use borrow.Author.Tests.{eqb-true, leb-true, leb-false}
 use Rattle.alphabet.specs.Bytes.{carriageReturn}
-use Rattle.alphabet.specs.Delimiters.{permitted, wrongDelimiter}
+use Rattle.alphabet.specs.Delimiters.{permitted}
 use Rattle.alphabet.specs.Lists.{find}
 use Rattle.alphabet.specs.Parts.{partAt}
 use Rattle.alphabet.specs.declared.parts.Part.the-variants.{At}
@@ -16,7 +16,7 @@ use Rattle.alphabet.proofs.BoolLaws.{false-true, and-both}
 use Rattle.alphabet.proofs.DelimiterLaws.{delimiter-permitted}
 use Rattle.alphabet.proofs.ListLaws.{find-is, find-own}
 use Rattle.alphabet.proofs.PartLaws.{standing-first}
-use Rattle.reading.specs.Segments.{segments, segmentAt, delimitersOf, isHeader}
+use Rattle.reading.specs.Segments.{segmentAt, delimitersOf}
 use Rattle.reading.specs.Message.{Opened, Message}
 use Rattle.reading.proofs.SegmentLaws.{segment-some}
 use Rattle.reading.proofs.Accepted.{message-last}

@@ -1,19 +1,17 @@
 -- Laws of the figures of a time: what `figureAt` and its fellows are, case by case, and that a few digits say a number that fits. Assumes nothing.
-use mathlib.Core.Path.{_≡_, refl, sym, ap, _∙_}
+use mathlib.Core.Path.{_≡_}
 use mathlib.Core.List.{List, [], _∷_}
-use mathlib.Core.Bool.{Bool, true, false}
+use mathlib.Core.Bool.{true}
 use Prim.Native.Nat.{ℕ, zero, suc, _+_, _-_, _^_, _≤_, _<_}
 use native.Mathlib.Omega.{arith}
 use lib.Dec.{lit<}
-use lib.ListN.{length, getD, take, drop, length-drop}
+use lib.ListN.{length, getD, take, drop}
 use borrow.Author.Tests.{le-leb, lt-leb, eq-eqb, ne-eqb}
 use Rattle.alphabet.specs.Digits.{allDigits, counted, decimal}
 use Rattle.alphabet.proofs.DigitLaws.{digits-take, digits-drop}
 use Rattle.value.specs.Times.{figureAt, fractionOf, noOffset, offsetOf}
-use Rattle.value.specs.declared.figures.Figure.{Figure}
 use Rattle.value.specs.declared.figures.Figure.the-variants.{NotSent, Sent}
 use Rattle.value.specs.declared.figures.Sign.{Sign}
-use Rattle.value.specs.declared.figures.Offset.{Offset}
 use Rattle.value.proofs.NumberLaws.{short-below}
 
 take-most : (n : ℕ) (l : List ℕ) → length (take n l) ≤ n

@@ -1,3 +1,4 @@
 pub mod NumberLaws
 pub mod FigureLaws
 pub mod TimeLaws
+pub mod AskedLaws

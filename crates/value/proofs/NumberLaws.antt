@@ -1,20 +1,20 @@
 -- Laws of NM and SI: what a check that passes says of the digits, and how large the number can be. Assumes nothing.
 use mathlib.Core.Path.{_≡_, refl, sym, ap, subst, _∙_}
-use mathlib.Core.List.{List, [], _∷_, _++_}
-use mathlib.Core.Bool.{Bool, true, false, cond, not, _&&_, _||_}
-use Prim.Native.Nat.{ℕ, zero, suc, _+_, _-_, _*_, _^_, _≤_, _<_}
+use mathlib.Core.List.{List, [], _∷_}
+use mathlib.Core.Bool.{Bool, true, false, not, _&&_, _||_}
+use Prim.Native.Nat.{ℕ, zero, suc, _+_, _-_, _^_, _≤_, _<_}
 use native.Mathlib.Nat.{one-mul, pow-le-pow-right, lt-of-lt-of-le}
 use native.Mathlib.Omega.{arith}
 use lib.Dec.{leb, ltb, eqb, lit<, lit≤}
-use lib.IntN.{ℤ, pos, negsuc, negℤ, _-ℤ_, +ℤ-idl}
+use lib.IntN.{ℤ, pos, negℤ, _-ℤ_, +ℤ-idl}
 use lib.Signed.{mag}
-use lib.ListN.{length, getD, take, drop, length-append, drop-of-length-le}
+use lib.ListN.{length, getD, drop, drop-of-length-le}
 use lib.Seq.{length-take-le}
 use mir.Syntax.{w64}
 use mir.Val.{SFits, toZ, ofZ}
 use mir.Facts.{toZ-pos, toZ-ofZ}
 use borrow.Author.Needs.{sfits-of}
-use borrow.Author.Tests.{ltb-false, leb-true, not-false, le-ltb}
+use borrow.Author.Tests.{ltb-false, leb-true, not-false}
 use Rattle.alphabet.specs.Answers.{failsIf}
 use Rattle.alphabet.specs.Digits.{allDigits, counted, decimal}
 use Rattle.alphabet.specs.Lists.{find}
@@ -27,7 +27,6 @@ use Rattle.alphabet.proofs.CheckLaws.{both-pass, passes-not}
 use Rattle.alphabet.proofs.DigitLaws.{counted-append, counted-below, digits-append}
 use Rattle.alphabet.proofs.ListLaws.{first-le}
 use Rattle.value.specs.Numbers.{someDigits, isSign, unsigned, whole, hasPoint, fraction, nmForm, nmDigits, mostDigits, nmCheck, signed, isNegative, nmValue, nmRead, isSi, siRead}
-use Rattle.value.specs.declared.numbers.ReadNumber.{ReadNumber}
 
 -- ---- the sign
 

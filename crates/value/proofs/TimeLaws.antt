@@ -1,11 +1,11 @@
 -- Laws of the forms of times: what a form that holds says of the front, the tail and the zone. Assumes nothing.
-use mathlib.Core.Path.{_≡_, refl, sym, ap, _∙_}
+use mathlib.Core.Path.{_≡_, refl}
 use mathlib.Core.List.{List, [], _∷_}
 use mathlib.Core.Bool.{Bool, true, false, _&&_, _||_}
 use Prim.Native.Nat.{ℕ, _≤_}
 use native.Mathlib.Omega.{arith}
-use lib.Dec.{leb, eqb}
-use lib.ListN.{length, drop, drop-of-length-le}
+use lib.Dec.{eqb}
+use lib.ListN.{length, drop}
 use borrow.Author.Tests.{eqb-true, eq-eqb, ne-eqb}
 use Rattle.alphabet.specs.Bytes.{between}
 use Rattle.alphabet.specs.Digits.{allDigits}
@@ -104,3 +104,8 @@ time-not dated l e = rw e
 pub time-formed : (dated : Bool) (l : List ℕ) → isTime dated l ≡ true → timeForm dated l ≡ true
 unfolding isTime
 time-formed dated l e = and-both (timeForm dated l) _ e .0
+
+-- a DT is digits
+pub dt-digits : (l : List ℕ) → isDt l ≡ true → allDigits l ≡ true
+unfolding isDt
+dt-digits l e = and-both (allDigits l) _ (and-both (allDigits l && dtLength (length l)) _ e .0) .0

@@ -10,7 +10,6 @@ use Rattle.alphabet.specs.Digits.{allDigits, decimal}
 use Rattle.alphabet.specs.Lists.{find}
 use Rattle.alphabet.specs.declared.answers.Check.{Check}
 use Rattle.alphabet.specs.declared.answers.Check.the-variants.{Passes, Fails}
-use Rattle.alphabet.specs.declared.answers.Refusal.{Refusal}
 use Rattle.alphabet.specs.declared.answers.Refusal.the-variants.{None, BreaksForm, ValueTooLong}
 use Rattle.value.specs.declared.numbers.ReadNumber.{ReadNumber}
 

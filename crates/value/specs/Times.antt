@@ -15,6 +15,8 @@ use Rattle.value.specs.declared.figures.Date.{Date}
 use Rattle.value.specs.declared.figures.Clock.{Clock}
 use Rattle.value.specs.declared.figures.Offset.{Offset}
 use Rattle.value.specs.declared.figures.Time.{Time}
+use Rattle.value.specs.declared.times.ReadTime.{ReadTime}
+use Rattle.alphabet.specs.declared.answers.Refusal.the-variants.{None, BreaksForm}
 
 -- ---- what was sent
 
@@ -149,3 +151,19 @@ isTm l = isTime false l
 
 abbrev pub isTs : List ℕ → Bool
 isTs l = isTime true l
+
+-- ---- what is read
+
+abbrev pub noTime : Time
+noTime = record { date = noDate; clock = noClock; offset = noOffset }
+
+-- the time, or 32: "breaks its type's form"
+abbrev pub timeIf : Bool → Time → ReadTime
+timeIf true time = record { kind = None; time = time }
+timeIf false time = record { kind = BreaksForm; time = noTime }
+
+unfoldable pub dtRead : List ℕ → ReadTime
+dtRead l = timeIf (isDt l) (dtTime l)
+
+unfoldable pub timeRead : Bool → List ℕ → ReadTime
+timeRead dated l = timeIf (isTime dated l) (timeOf dated l)

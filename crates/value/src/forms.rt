@@ -112,7 +112,7 @@ fn has_form(dated: bool, bytes: &[u8]) -> bool
     digits & (fraction & is_zone(zone_of(bytes)))
 }
 
-fn is_time(dated: bool, bytes: &[u8]) -> bool
+pub fn is_time(dated: bool, bytes: &[u8]) -> bool
     ensures { λ r. ⌜ r ≡ isTime dated (now (bytes .entry)) ⌝ }
 {
     if !has_form(dated, bytes) {

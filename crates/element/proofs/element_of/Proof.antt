@@ -1,7 +1,7 @@
 -- Rests on the element lying within the message, and on what the parts and the state give.
 use borrow.Author.Needs.{needs}
 use Prim.Native.Nat.{_≤_}
-use mathlib.Core.Path.{_≡_, sym, ap, _∙_}
+use mathlib.Core.Path.{sym, ap, _∙_}
 use lib.ListN.{length}
 use Rattle.element.specs.Finding.{elementIn, elementOf}
 use Rattle.element.proofs.LevelLaws.{within-at}

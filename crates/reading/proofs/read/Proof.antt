@@ -3,13 +3,10 @@ use borrow.Author.Needs.{needs}
 use Rattle.reading.proofs.read.Statement.{statement}
 use Rattle.reading.proofs.read.Tie as tie
 
-returns : tie.Need-returns
-returns c = cc
-
 pub read-spec : {M : Type 1} → statement M
 read-spec =
     tie.close
     (tie.spec
     (λ c κs. search needs)
     (λ c κs. search needs)
-    returns)
+    (λ c. cc))

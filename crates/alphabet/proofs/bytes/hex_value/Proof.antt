@@ -9,9 +9,6 @@ use Rattle.alphabet.proofs.bytes.hex_value.Tie as tie
 sub-result : tie.Need-sub-result
 sub-result c = omega (arith, between-true 48 57 (c .before .before .args .b) (sym (c .before .is-digit .ensures) ∙ c .if1 .taken) .0)
 
-returns : tie.Need-returns
-returns c = simp (sym (c .before .is-digit .ensures) ∙ c .if1 .taken)
-
 sub-result-2 : tie.Need-sub-result-2
 sub-result-2 c = omega (arith, between-true 65 70 (c .before .before .before .args .b) (c .if2 .taken) .0)
 
@@ -33,7 +30,7 @@ hex-value-spec =
     (tie.spec
     (λ c κs. search needs)
     sub-result
-    returns
+    (λ c. simp (sym (c .before .is-digit .ensures) ∙ c .if1 .taken))
     sub-result-2
     returns-2
     sub-result-3

@@ -1,9 +1,8 @@
 -- Rests on the laws of a field, case by case.
 use borrow.Author.Needs.{needs}
-use mathlib.Core.Path.{_≡_, sym, ap, _∙_}
+use mathlib.Core.Path.{_≡_, sym}
 use mathlib.Core.Logic.{⊎-elim}
 use Prim.Native.Nat.{_-_}
-use Rattle.element.specs.Levels.{partIn}
 use Rattle.element.proofs.LevelLaws.{field-other, field-first, field-header}
 use native.Mathlib.Omega.{arith}
 use denote.Ref.{now}

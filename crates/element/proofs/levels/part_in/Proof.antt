@@ -1,6 +1,6 @@
 -- Rests on the laws of a part of a part.
 use borrow.Author.Needs.{needs}
-use mathlib.Core.Path.{_≡_, sym, _∙_}
+use mathlib.Core.Path.{sym, _∙_}
 use Prim.Native.Nat.{_+_, _≤_}
 use lib.ListN.{length}
 use Rattle.element.proofs.LevelLaws.{within-at, in-absent, in-at, in-none, inner}
@@ -30,12 +30,6 @@ found c =
     let k = n .1 in
     (n .0, omega arith)
 
-add-t15 : tie.Need-add-t15
-add-t15 c = let f = found c in let a = f .0 in let b = f .1 in omega arith
-
-add-t16 : tie.Need-add-t16
-add-t16 c = let f = found c in let b = f .1 in omega arith
-
 returns-2 : tie.Need-returns-2
 returns-2 c =
     let a = c .before .before .before .before .before .before .before .before .before .args in
@@ -60,8 +54,8 @@ part-in-spec =
     (λ c. let i = inside c in let a = i .1 in search needs)
     (λ c κs. search needs)
     (λ c. search needs)
-    add-t15
-    add-t16
+    (λ c. let f = found c in let a = f .0 in let b = f .1 in omega arith)
+    (λ c. let f = found c in let b = f .1 in omega arith)
     (λ c. search needs)
     returns-2
     returns-3)

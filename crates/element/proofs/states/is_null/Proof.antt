@@ -3,13 +3,10 @@ use borrow.Author.Needs.{needs}
 use Rattle.element.proofs.states.is_null.Statement.{statement}
 use Rattle.element.proofs.states.is_null.Tie as tie
 
-returns : tie.Need-returns
-returns c = rw (c .before .byte-at .ensures, c .byte-at2 .ensures)
-
 pub is-null-spec : {M : Type 1} → statement M
 is-null-spec =
     tie.close
     (tie.spec
     (λ c κs. search needs)
     (λ c κs. search needs)
-    returns)
+    (λ c. rw (c .before .byte-at .ensures, c .byte-at2 .ensures)))

@@ -3,13 +3,10 @@ use borrow.Author.Needs.{needs}
 use Rattle.reading.proofs.checks.check_bytes.Statement.{statement}
 use Rattle.reading.proofs.checks.check_bytes.Tie as tie
 
-returns : tie.Need-returns
-returns c = cc
-
 pub check-bytes-spec : {M : Type 1} → statement M
 check-bytes-spec =
     tie.close
     (tie.spec
     (λ c κs. search needs)
     (λ c κs. search needs)
-    returns)
+    (λ c. cc))

@@ -8,9 +8,6 @@ use Rattle.reading.proofs.checks.check_delimiters.Tie as tie
 add-fails-if : tie.Need-add-fails-if
 add-fails-if c = omega (arith, c .wrong-delimiter .ensures, wrong-most (c .before .delimiters-of .result .bytes))
 
-returns : tie.Need-returns
-returns c = cc
-
 pub check-delimiters-spec : {M : Type 1} → statement M
 check-delimiters-spec =
     tie.close
@@ -19,4 +16,4 @@ check-delimiters-spec =
     (λ c κs. search needs)
     add-fails-if
     (λ c κs. search needs)
-    returns)
+    (λ c. cc))

@@ -3,13 +3,10 @@ use borrow.Author.Needs.{needs}
 use Rattle.reading.proofs.checks.check_header.Statement.{statement}
 use Rattle.reading.proofs.checks.check_header.Tie as tie
 
-returns : tie.Need-returns
-returns c = cc
-
 pub check-header-spec : {M : Type 1} → statement M
 check-header-spec =
     tie.close
     (tie.spec
     (λ c κs. search needs)
     (λ c κs. search needs)
-    returns)
+    (λ c. cc))

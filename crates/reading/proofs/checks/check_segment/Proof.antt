@@ -4,9 +4,6 @@ use Rattle.alphabet.proofs.CheckLaws.{ends}
 use Rattle.reading.proofs.checks.check_segment.Statement.{statement}
 use Rattle.reading.proofs.checks.check_segment.Tie as tie
 
-returns : tie.Need-returns
-returns c = cc (ends (c .before .before .fails-if3 .ensures))
-
 pub check-segment-spec : {M : Type 1} → statement M
 check-segment-spec =
     tie.close
@@ -19,4 +16,4 @@ check-segment-spec =
     (λ c κs. search needs)
     (λ c κs. search needs)
     (λ c κs. search needs)
-    returns)
+    (λ c. cc (ends (c .before .before .fails-if3 .ensures))))

@@ -3,9 +3,6 @@ use borrow.Author.Needs.{needs}
 use Rattle.reading.proofs.checks.is_named.Statement.{statement}
 use Rattle.reading.proofs.checks.is_named.Tie as tie
 
-returns : tie.Need-returns
-returns c = cc
-
 pub is-named-spec : {M : Type 1} → statement M
 is-named-spec =
     tie.close
@@ -19,4 +16,4 @@ is-named-spec =
     (λ c κs. search needs)
     (λ c κs. search needs)
     (λ c κs. search needs)
-    returns)
+    (λ c. cc))

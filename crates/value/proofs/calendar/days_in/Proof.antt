@@ -11,12 +11,6 @@ returns c = rw (eq-eqb _ _ (c .before .before .if1 .taken), sym (c .before .is-l
 returns-2 : tie.Need-returns-2
 returns-2 c = rw (eq-eqb _ _ (c .before .before .if1 .taken), sym (c .before .is-leap .ensures) ∙ c .if2 .left)
 
-returns-3 : tie.Need-returns-3
-returns-3 c = rw (ne-eqb _ _ (c .before .if1 .left), c .if3 .taken)
-
-returns-4 : tie.Need-returns-4
-returns-4 c = rw (ne-eqb _ _ (c .before .if1 .left), c .if3 .left)
-
 pub days-in-spec : {M : Type 1} → statement M
 days-in-spec =
     tie.close
@@ -24,5 +18,5 @@ days-in-spec =
     (λ c κs. search needs)
     returns
     returns-2
-    returns-3
-    returns-4)
+    (λ c. rw (ne-eqb _ _ (c .before .if1 .left), c .if3 .taken))
+    (λ c. rw (ne-eqb _ _ (c .before .if1 .left), c .if3 .left)))

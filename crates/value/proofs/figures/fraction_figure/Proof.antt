@@ -1,9 +1,9 @@
 -- Rests on the laws of a fraction, case by case.
 use borrow.Author.Needs.{needs}
-use mathlib.Core.Path.{_≡_, sym, ap, subst, _∙_}
+use mathlib.Core.Path.{sym, ap, subst, _∙_}
 use mathlib.Core.List.{List}
 use Prim.Native.Nat.{ℕ, _<_, _^_}
-use lib.ListN.{length, drop, length-drop}
+use lib.ListN.{drop, length-drop}
 use Rattle.alphabet.specs.Digits.{allDigits, counted, decimal}
 use Rattle.alphabet.proofs.ListLaws.{rest-of}
 use Rattle.value.specs.declared.figures.Figure.the-variants.{Sent}

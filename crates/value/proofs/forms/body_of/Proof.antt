@@ -1,11 +1,11 @@
 -- Rests on what `first_sign` gives.
 use borrow.Author.Needs.{needs}
 use Prim.Native.Nat.{ℕ, _≤_}
-use mathlib.Core.Path.{sym, ap, _∙_}
+use mathlib.Core.Path.{sym, ap}
 use lib.Dec.{eqb}
-use lib.ListN.{length, take, drop}
+use lib.ListN.{length, take}
 use lib.Seq.{length-take-le}
-use Rattle.alphabet.proofs.ListLaws.{first-le, rest-of}
+use Rattle.alphabet.proofs.ListLaws.{first-le}
 use native.Mathlib.Omega.{arith}
 use denote.Ref.{now}
 use Rattle.value.proofs.forms.body_of.Statement.{statement}

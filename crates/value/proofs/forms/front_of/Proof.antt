@@ -5,13 +5,10 @@ use Rattle.value.specs.Numbers.{whole}
 use Rattle.value.proofs.forms.front_of.Statement.{statement}
 use Rattle.value.proofs.forms.front_of.Tie as tie
 
-returns : tie.Need-returns
-returns c = c .whole-of .ensures ∙ ap whole (c .before .body-of .ensures)
-
 pub front-of-spec : {M : Type 1} → statement M
 front-of-spec =
     tie.close
     (tie.spec
     (λ c κs. search needs)
     (λ c κs. search needs)
-    returns)
+    (λ c. c .whole-of .ensures ∙ ap whole (c .before .body-of .ensures)))

@@ -1,7 +1,7 @@
 -- Rests on the laws of a zone's form, case by case.
 use borrow.Author.Needs.{needs}
 use mathlib.Core.Path.{_≡_, sym, ap, _∙_}
-use mathlib.Core.Bool.{Bool, true, _&&_}
+use mathlib.Core.Bool.{Bool, _&&_}
 use borrow.Author.Tests.{not-true, not-false, eqb-true}
 use lib.Dec.{eqb}
 use lib.ListN.{length, drop}

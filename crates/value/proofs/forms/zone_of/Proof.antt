@@ -1,10 +1,9 @@
 -- Rests on what `first_sign` gives.
 use borrow.Author.Needs.{needs}
 use Prim.Native.Nat.{ℕ, _≤_}
-use mathlib.Core.Path.{sym, ap, _∙_}
+use mathlib.Core.Path.{ap, _∙_}
 use lib.Dec.{eqb}
-use lib.ListN.{length, take, drop}
-use lib.Seq.{length-take-le}
+use lib.ListN.{length, drop}
 use Rattle.alphabet.proofs.ListLaws.{first-le, rest-of}
 use native.Mathlib.Omega.{arith}
 use denote.Ref.{now}

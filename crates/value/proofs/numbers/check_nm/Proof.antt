@@ -1,6 +1,5 @@
 -- Rests on what the parts, `fails_if` and `or_else` give; before the point stand as many bytes as its place says.
 use borrow.Author.Needs.{needs}
-use mathlib.Core.Path.{_∙_}
 use lib.ListN.{length-append}
 use Rattle.alphabet.proofs.CheckLaws.{ends}
 use Rattle.value.specs.Numbers.{nmForm, nmCheck, unsigned, whole, fraction}

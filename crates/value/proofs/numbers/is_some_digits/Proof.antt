@@ -3,12 +3,9 @@ use borrow.Author.Needs.{needs}
 use Rattle.value.proofs.numbers.is_some_digits.Statement.{statement}
 use Rattle.value.proofs.numbers.is_some_digits.Tie as tie
 
-returns : tie.Need-returns
-returns c = rw (c .is-digits .ensures)
-
 pub is-some-digits-spec : {M : Type 1} → statement M
 is-some-digits-spec =
     tie.close
     (tie.spec
     (λ c κs. search needs)
-    returns)
+    (λ c. rw (c .is-digits .ensures)))

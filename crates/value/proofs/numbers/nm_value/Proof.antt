@@ -10,7 +10,7 @@ use mir.Val.{SFits}
 use mir.Facts.{toZ-ofZ}
 use Rattle.alphabet.proofs.DigitLaws.{counted-least}
 use Rattle.alphabet.specs.Digits.{allDigits, counted, decimal}
-use Rattle.value.specs.Numbers.{unsigned, whole, fraction, isNegative, signed, nmValue}
+use Rattle.value.specs.Numbers.{unsigned, whole, fraction, signed}
 use Rattle.value.proofs.NumberLaws.{nm-whole, nm-fraction, nm-below, nm-value, nm-fits}
 use native.Mathlib.Omega.{arith}
 use denote.Ref.{now}

@@ -10,7 +10,6 @@ use mir.Val.{SFits}
 use mir.Facts.{toZ-ofZ}
 use Rattle.alphabet.specs.declared.answers.Refusal.the-variants.{None}
 use Rattle.value.specs.Numbers.{fraction, nmValue}
-use Rattle.value.specs.declared.numbers.ReadNumber.{ReadNumber}
 use Rattle.value.proofs.NumberLaws.{nm-fits, nm-read, nm-refused}
 use denote.Ref.{now}
 use Rattle.value.proofs.numbers.read_nm.Statement.{statement}

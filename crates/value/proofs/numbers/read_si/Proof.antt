@@ -4,13 +4,12 @@ use Prim.Native.Nat.{_<_, _^_}
 use lib.Dec.{lit<}
 use lib.IntN.{ℤ, pos}
 use mathlib.Core.Bool.{false}
-use mathlib.Core.Path.{_≡_, sym, ap, subst, _∙_}
+use mathlib.Core.Path.{sym, ap, subst, _∙_}
 use mir.Syntax.{w64}
 use mir.Val.{SFits}
 use mir.Facts.{toZ-ofZ}
 use borrow.Author.Tests.{not-true, not-false}
 use Rattle.alphabet.specs.declared.answers.Refusal.the-variants.{None}
-use Rattle.value.specs.declared.numbers.ReadNumber.{ReadNumber}
 use Rattle.value.proofs.NumberLaws.{si-read, si-refused, si-digits, signed-fits}
 use native.Mathlib.Omega.{arith}
 use denote.Ref.{now}

@@ -1,6 +1,5 @@
 -- Rests on the laws of the sign applied: within 18 digits nothing wraps.
 use borrow.Author.Needs.{needs}
-use mathlib.Core.Path.{_∙_}
 use Rattle.value.proofs.NumberLaws.{plain-is, minus-fits, minus-back}
 use Rattle.value.proofs.numbers.signed_number.Statement.{statement}
 use Rattle.value.proofs.numbers.signed_number.Tie as tie

@@ -7,9 +7,6 @@ use denote.Ref.{now}
 use Rattle.value.proofs.numbers.without_sign.Statement.{statement}
 use Rattle.value.proofs.numbers.without_sign.Tie as tie
 
-returns : tie.Need-returns
-returns c = sym (unsigned-none (now (c .before .args .bytes)) (c .if1 .taken))
-
 returns-2 : tie.Need-returns-2
 returns-2 c = let l = now (c .before .before .before .before .args .bytes) in rest-of l 1 ∙ sym (unsigned-drop l (c .before .if2 .taken))
 
@@ -20,7 +17,7 @@ pub without-sign-spec : {M : Type 1} → statement M
 without-sign-spec =
     tie.close
     (tie.spec
-    returns
+    (λ c. sym (unsigned-none (now (c .before .args .bytes)) (c .if1 .taken)))
     (λ c. search needs)
     (λ c. search needs)
     (λ c. search needs)
