@@ -1,4 +1,4 @@
--- Laws of the question `read MSG`: what its words ask, and the answer to what is said, to what is not, and to another count of words. Assumes nothing.
+-- Laws of a question's verb, and of the question `read MSG`: what its words ask, and the answer to what is said, to what is not, and to another count of words. Assumes nothing.
 use Prim.Native.Nat.{ℕ}
 use mathlib.Core.Path.{_≡_, refl, sym, ap, subst, _∙_}
 use mathlib.Core.List.{List, [], _∷_, _++_}
@@ -7,9 +7,20 @@ use lib.ListN.{length, take, getD}
 use Rattle.io.specs.Digits.{digits}
 use Rattle.ask.specs.declared.hex.Decoded.{Decoded}
 use Rattle.ask.specs.declared.hex.Decoded.the-variants.{Length, Refused}
+use Rattle.ask.specs.declared.lookups.Lookup.{Lookup}
+use Rattle.ask.specs.declared.lookups.Meaning.{Meaning}
+use Rattle.ask.specs.declared.lookups.Meaning.the-variants.{Asks, Unknown}
 use Rattle.ask.specs.Hex.{Said, nothing, said, fitting, Told, front, refused}
 use Rattle.ask.specs.Answers.{NumberPut}
-use Rattle.ask.specs.Questions.{noQuestion, readAsked, TwoNumbers, ReadAnswer, numbers, unknown}
+use Rattle.ask.specs.Questions.{Verb, noQuestion, readAsked, TwoNumbers, ReadAnswer, numbers, unknown}
+
+-- a word that is the same as a verb is one
+pub is-verb : {X : Type 0} {word verb : List ℕ} → Verb verb → word ≡ verb → (Verb word → ⊥) → X
+is-verb v e n = absurd (n (subst Verb (sym e) v))
+
+-- so is one that asks something about an element
+pub asks : {X : Type 0} {word first : List ℕ} {m : Meaning} {l : Lookup} → word ≡ first → ((Verb word → ⊥) → m ≡ Unknown) → m ≡ Asks l → (Verb first → ⊥) → X
+asks w u e n = absurd (let q = u (λ v. n (subst Verb w v)) in let z : _≡_ {A = ℕ} 0 1 = cc in omega arith)
 
 pub asked-two : (ws : List (List ℕ)) → length ws ≡ 2 → readAsked ws ≡ said (getD ws 1 [])
 unfolding readAsked

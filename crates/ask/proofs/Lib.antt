@@ -4,3 +4,4 @@ pub mod Gathering
 pub mod Pairs
 pub mod Digits
 pub mod Asking
+pub mod Signs

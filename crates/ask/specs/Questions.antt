@@ -9,6 +9,16 @@ use Rattle.ask.specs.Hex.{Said, bytes, nothing, said}
 abbrev pub readVerb : List ℕ
 readVerb = 114 ∷ 101 ∷ 97 ∷ 100 ∷ []
 
+-- the verbs of the questions that there are: `read`, `find`, `nm`, `si`, `dt`, `tm` and `ts`
+pub data Verb : List ℕ → Type 0 where
+  read : Verb readVerb
+  find : Verb (102 ∷ 105 ∷ 110 ∷ 100 ∷ [])
+  nm : Verb (110 ∷ 109 ∷ [])
+  si : Verb (115 ∷ 105 ∷ [])
+  dt : Verb (100 ∷ 116 ∷ [])
+  tm : Verb (116 ∷ 109 ∷ [])
+  ts : Verb (116 ∷ 115 ∷ [])
+
 -- `?`, the answer to a line that is no question
 abbrev pub noQuestion : List ℕ
 noQuestion = 63 ∷ 10 ∷ []

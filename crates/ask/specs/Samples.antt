@@ -10,7 +10,7 @@ use Rattle.ask.specs.Words.{words}
 use Rattle.ask.specs.Hex.{isPairs, pairs, bytes, nothing, said}
 use Rattle.alphabet.specs.Digits.{allDigits, counted}
 use Rattle.ask.specs.Numbers.{held, number}
-use Rattle.ask.specs.Questions.{readVerb, noQuestion, readAsked}
+use Rattle.ask.specs.Questions.{readVerb, Verb, read, find, nm, si, dt, tm, ts, noQuestion, readAsked}
 use Rattle.ask.specs.declared.numbers.Number.the-variants.{Value, Refused}
 
 -- the bytes of an ASCII text
@@ -20,6 +20,9 @@ ascii (S._∷_ c s) = code c ∷ ascii s
 
 own-words : (readVerb ≡ ascii "read") × (noQuestion ≡ ascii "?\n")
 own-words = (refl, refl)
+
+verbs : Verb (ascii "read") × Verb (ascii "find") × Verb (ascii "nm") × Verb (ascii "si") × Verb (ascii "dt") × Verb (ascii "tm") × Verb (ascii "ts")
+verbs = (read, find, nm, si, dt, tm, ts)
 
 cut : (words (ascii "") ≡ [] ∷ []) × (words (ascii "read 4d") ≡ ascii "read" ∷ ascii "4d" ∷ []) × (words (ascii "a  b ") ≡ ascii "a" ∷ [] ∷ ascii "b" ∷ [] ∷ [])
 unfolding split

@@ -5,7 +5,9 @@ mod answers;
 mod bytes;
 mod hex;
 mod lines;
+mod lookups;
 mod numbers;
+mod printing;
 mod questions;
 mod words;
 
@@ -23,8 +25,8 @@ const LONGEST_LINE: usize = 200_000;
 // All the bytes that a line of that length can say.
 const LONGEST_MESSAGE: usize = 100_000;
 
-// Two numbers, each of at most 20 digits and a byte that ends it, take 42 bytes.
-const LONGEST_ANSWER: usize = 64;
+// The longest answer is that about a time: 12 words, each of at most 22 bytes with the one that ends it, take 264 bytes.
+const LONGEST_ANSWER: usize = 320;
 
 // Puts the answer to a line into `answer`, and returns its length.
 fn reply(line: Line, buffer: &[u8], message: &mut [u8], answer: &mut [u8]) -> usize

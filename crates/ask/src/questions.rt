@@ -7,11 +7,12 @@ ghost use Rattle.io.specs.Counts.{Counts};
 ghost use Rattle.ask.specs.Answers.{Roomy};
 ghost use Rattle.ask.specs.Words.{words as Words·words};
 ghost use Rattle.ask.specs.Hex.{fitting};
-ghost use Rattle.ask.specs.Questions.{readVerb, noQuestion, readAsked, TwoNumbers, ReadAnswer};
+ghost use Rattle.ask.specs.Questions.{Verb, noQuestion, readAsked, TwoNumbers, ReadAnswer};
 use crate::answers;
 use crate::bytes;
 use crate::hex;
 use crate::hex::Decoded;
+use crate::lookups;
 use crate::words;
 
 // Puts what reading a message comes to into the answer: the number of the refusal, and its place.
@@ -46,10 +47,10 @@ fn read(line: &[u8], message: &mut [u8], answer: &mut [u8]) -> usize
 pub fn answer(line: &[u8], message: &mut [u8], answer: &mut [u8]) -> usize
     requires { ⌜ Roomy (now answer) ⌝ }
     ensures { λ r. ⌜ Counts r (now (answer .exit)) ⌝ }
-    ensures { λ r. ⌜ ((getD (Words·words (now (line .entry))) 0 [] ≡ readVerb → ⊥) → take r (now (answer .exit)) ≡ noQuestion) ⌝ }
+    ensures { λ r. ⌜ ((Verb (getD (Words·words (now (line .entry))) 0 []) → ⊥) → take r (now (answer .exit)) ≡ noQuestion) ⌝ }
 {
     if bytes::same(words::word(line, 0), b"read") {
         return read(line, message, answer);
     }
-    answers::no_question(answer)
+    lookups::answer(line, message, answer)
 }

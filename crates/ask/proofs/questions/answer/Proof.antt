@@ -1,5 +1,7 @@
--- `ask::questions::answer` meets its contract: a line with another verb gets the answer of `no_question`.
+-- `ask::questions::answer` meets its contract: `read` is a verb, and any other line gets the answer of `lookups::answer`.
 use mathlib.Core.Path.{sym, _∙_}
+use Rattle.ask.specs.Questions.{read}
+use Rattle.ask.proofs.Asking.{is-verb}
 use borrow.Author.Needs.{needs}
 use Rattle.ask.proofs.questions.answer.Statement.{statement}
 use Rattle.ask.proofs.questions.answer.Tie as tie
@@ -7,7 +9,7 @@ use Rattle.ask.proofs.questions.answer.Tie as tie
 returns : tie.Need-returns
 returns c =
     let k = c .before .before .before .before .before .before .before in
-    (c .before .before .before .before .read .ensures .0, λ n. absurd (n (sym (k .before .before .before .word .ensures) ∙ k .before .same .ensures .0 (k .if1 .taken))))
+    (c .before .before .before .before .read .ensures .0, is-verb read (sym (k .before .before .before .word .ensures) ∙ k .before .same .ensures .0 (k .if1 .taken)))
 
 pub answer-spec : {M : Type 1} → statement M
 answer-spec =
@@ -21,5 +23,6 @@ answer-spec =
     (λ c. search needs)
     returns
     (λ c κs. search needs)
+    (λ c. search needs)
     (λ c. search needs)
     (λ c. search needs))

@@ -1,0 +1,59 @@
+-- `ask::lookups::answer` meets its contract: what `decode` says of the message lies within its buffer, the answer lies within its own, and a word that asks something is a verb.
+use mathlib.Core.Path.{sym}
+use lib.Seq.{length-take-le}
+use Rattle.ask.proofs.Pairs.{told-within}
+use Rattle.ask.proofs.Asking.{asks}
+use borrow.Author.Needs.{needs}
+use Rattle.ask.proofs.lookups.answer.Statement.{statement}
+use Rattle.ask.proofs.lookups.answer.Tie as tie
+
+slice-reshare-prefix-put-lookup : tie.Need-slice-reshare-prefix-put-lookup
+slice-reshare-prefix-put-lookup c =
+    let d = c .before .before .before .before .before in
+    told-within (d .before .before .before .before .decode .ensures) (d .decoded .given .1)
+
+slice-aggregate-put-lookup : tie.Need-slice-aggregate-put-lookup
+slice-aggregate-put-lookup c = sym (length-take-le _ _ (slice-reshare-prefix-put-lookup (c .before)))
+
+returns-5 : tie.Need-returns-5
+returns-5 c =
+    let p = c .before .before .put-lookup in
+    let m = c .before .before .before .before .before .before .before .before .before .before .before .before .before .before .before .before .before .before in
+    ((p .ensures, sym (length-take-le _ _ (p .ensures))), asks (m .before .before .before .word .ensures) (m .before .before .meaning-of .ensures) (m .meaning .given .1))
+
+pub answer-spec : {M : Type 1} → statement M
+answer-spec =
+    tie.close
+    (tie.spec
+    (λ c κs. search needs)
+    (λ c κs. search needs)
+    (λ c. search needs)
+    (λ c. search needs)
+    (λ c κs. search needs)
+    (λ c κs. search needs)
+    (λ c. search needs)
+    (λ c. search needs)
+    (λ c κs. search needs)
+    (λ c. search needs)
+    (λ c. search needs)
+    (λ c κs. search needs)
+    (λ c κs. search needs)
+    (λ c. search needs)
+    (λ c. search needs)
+    (λ c κs. search needs)
+    (λ c. search needs)
+    (λ c. search needs)
+    (λ c. search needs)
+    (λ c κs. search needs)
+    (λ c. search needs)
+    (λ c. search needs)
+    (λ c κs. search needs)
+    (λ c. search needs)
+    (λ c. search needs)
+    (λ c. search needs)
+    slice-reshare-prefix-put-lookup
+    slice-aggregate-put-lookup
+    (λ c κs. search needs)
+    (λ c. search needs)
+    (λ c. search needs)
+    returns-5)
