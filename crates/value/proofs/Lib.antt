@@ -2,3 +2,4 @@ pub mod NumberLaws
 pub mod FigureLaws
 pub mod TimeLaws
 pub mod AskedLaws
+pub mod ValueLaws

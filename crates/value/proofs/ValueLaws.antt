@@ -1,0 +1,57 @@
+-- What is promised of numbers and times: the calendar, the number that digits say, and that a time was written in one way only. Assumes nothing.
+use mathlib.Core.Path.{_≡_, refl, sym, ap, subst, _∙_}
+use mathlib.Core.List.{List, [], _∷_, _++_}
+use mathlib.Core.Bool.{Bool, true, false, cond, _&&_}
+use Prim.Native.Nat.{ℕ, zero, suc, _+_, _-_, _*_, _≤_, _<_, min}
+use native.Mathlib.Omega.{arith}
+use lib.Dec.{leb, ltb, eqb}
+use lib.IntN.{pos}
+use lib.ListN.{length, getD, take, drop, length-drop, take-append-drop}
+use lib.Seq.{take-add, take-all, length-take-le}
+use borrow.Author.Tests.{leb-true, leb-false, ltb-true, ltb-false, eqb-true}
+use Rattle.alphabet.specs.Bytes.{between}
+use Rattle.alphabet.specs.Digits.{allDigits, counted, decimal}
+use Rattle.alphabet.specs.Lists.{find}
+use Rattle.alphabet.proofs.BoolLaws.{false-true, and-both, between-true}
+use Rattle.alphabet.proofs.DigitLaws.{counted-append, digits-same, digits-take, digits-drop}
+use Rattle.value.specs.Numbers.{signed}
+use Rattle.value.specs.Times.{inRange, numberIn, leap, daysIn, validDate, figureAt}
+use Rattle.value.specs.declared.figures.Figure.{Figure}
+use Rattle.value.specs.declared.figures.Figure.the-variants.{NotSent, Sent}
+use Rattle.value.specs.declared.figures.Date.{Date}
+use Rattle.value.proofs.FigureLaws.{figure-sent, figure-not}
+
+-- ---- the calendar
+
+-- the day of a date that is accepted exists in its month and year
+pub day-exists : (d : Date) (n : ℕ) → validDate d ≡ true → d .day ≡ Sent n → (1 ≤ n) × (n ≤ daysIn (numberIn (d .year)) (numberIn (d .month)))
+unfolding validDate
+day-exists d n e q =
+    let b = and-both (inRange 1 12 (d .month)) _ (and-both (inRange 1 9999 (d .year)) _ e .1) .1 in
+    between-true 1 (daysIn (numberIn (d .year)) (numberIn (d .month))) n (ap (inRange 1 (daysIn (numberIn (d .year)) (numberIn (d .month)))) (sym q) ∙ b)
+
+pub month-exists : (d : Date) (n : ℕ) → validDate d ≡ true → d .month ≡ Sent n → (1 ≤ n) × (n ≤ 12)
+unfolding validDate
+month-exists d n e q =
+    let b = and-both (inRange 1 12 (d .month)) _ (and-both (inRange 1 9999 (d .year)) _ e .1) .0 in
+    between-true 1 12 n (ap (inRange 1 12) (sym q) ∙ b)
+
+-- 29 February exists exactly in the leap years of the Gregorian rule
+pub leap-day : (year : ℕ) → validDate (record { year = Sent year; month = Sent 2; day = Sent 29 }) ≡ (between 1 9999 year && leap year)
+unfolding validDate
+leap-day year = ap (λ (t : Bool). between 1 9999 year && t) (at (leap year))
+  where
+    at : (t : Bool) → between 1 (cond t 29 28) 29 ≡ t
+    at true = refl
+    at false = refl
+
+-- ---- the number that digits say
+
+-- one digit more is ten times the number and the digit
+pub digit-more : (l : List ℕ) (d : ℕ) → decimal (l ++ d ∷ []) ≡ decimal l * 10 + (d - 48)
+unfolding counted
+digit-more l d = counted-append 0 l (d ∷ [])
+
+-- minus zero is zero
+pub minus-zero : signed true 0 ≡ pos 0
+minus-zero = refl
