@@ -3,3 +3,4 @@ pub mod FigureLaws
 pub mod TimeLaws
 pub mod AskedLaws
 pub mod ValueLaws
+pub mod OneSpelling

@@ -80,6 +80,10 @@ module _ (dated : Bool) (l : List ℕ) (e : timeForm dated l ≡ true) where
   unfolding timeForm
   front-digits = and-both (allDigits (frontOf l)) _ (and-both (allDigits (frontOf l) && frontLength dated (length (frontOf l))) _ e .0) .0
 
+  pub front-length : frontLength dated (length (frontOf l)) ≡ true
+  unfolding timeForm
+  front-length = and-both (allDigits (frontOf l)) _ (and-both (allDigits (frontOf l) && frontLength dated (length (frontOf l))) _ e .0) .1
+
   pub tail-holds : (allDigits (drop 1 (tailOf l)) ≡ true) × (length (tailOf l) ≤ 5)
   unfolding timeForm
   tail-holds =

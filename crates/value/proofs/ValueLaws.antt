@@ -1,25 +1,17 @@
 -- What is promised of numbers and times: the calendar, the number that digits say, and that a time was written in one way only. Assumes nothing.
-use mathlib.Core.Path.{_≡_, refl, sym, ap, subst, _∙_}
+use mathlib.Core.Path.{_≡_, refl, sym, ap, _∙_}
 use mathlib.Core.List.{List, [], _∷_, _++_}
 use mathlib.Core.Bool.{Bool, true, false, cond, _&&_}
-use Prim.Native.Nat.{ℕ, zero, suc, _+_, _-_, _*_, _≤_, _<_, min}
-use native.Mathlib.Omega.{arith}
-use lib.Dec.{leb, ltb, eqb}
+use Prim.Native.Nat.{ℕ, _+_, _-_, _*_, _≤_}
 use lib.IntN.{pos}
-use lib.ListN.{length, getD, take, drop, length-drop, take-append-drop}
-use lib.Seq.{take-add, take-all, length-take-le}
-use borrow.Author.Tests.{leb-true, leb-false, ltb-true, ltb-false, eqb-true}
 use Rattle.alphabet.specs.Bytes.{between}
-use Rattle.alphabet.specs.Digits.{allDigits, counted, decimal}
-use Rattle.alphabet.specs.Lists.{find}
-use Rattle.alphabet.proofs.BoolLaws.{false-true, and-both, between-true}
-use Rattle.alphabet.proofs.DigitLaws.{counted-append, digits-same, digits-take, digits-drop}
+use Rattle.alphabet.specs.Digits.{counted, decimal}
+use Rattle.alphabet.proofs.BoolLaws.{and-both, between-true}
+use Rattle.alphabet.proofs.DigitLaws.{counted-append}
 use Rattle.value.specs.Numbers.{signed}
-use Rattle.value.specs.Times.{inRange, numberIn, leap, daysIn, validDate, figureAt}
-use Rattle.value.specs.declared.figures.Figure.{Figure}
+use Rattle.value.specs.Times.{inRange, numberIn, leap, daysIn, validDate}
 use Rattle.value.specs.declared.figures.Figure.the-variants.{NotSent, Sent}
 use Rattle.value.specs.declared.figures.Date.{Date}
-use Rattle.value.proofs.FigureLaws.{figure-sent, figure-not}
 
 -- ---- the calendar
 
