@@ -1,7 +1,9 @@
 pub mod BoolLaws
 pub mod ListLaws
 pub mod DigitLaws
+pub mod HexLaws
 pub mod PartLaws
 pub mod DelimiterLaws
 pub mod LimitLaws
 pub mod CheckLaws
+pub mod NullLaws

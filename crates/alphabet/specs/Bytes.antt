@@ -1,6 +1,8 @@
 -- What a byte may be. A byte is a number, and the words are those of document 01, 'Bytes and segments'.
 use Prim.Native.Nat.{ℕ, _+_, _-_}
+use mathlib.Core.List.{List}
 use mathlib.Core.Bool.{Bool, cond, not, _&&_, _||_}
+use lib.ListN.{length, getD}
 use lib.Dec.{leb, ltb, eqb}
 
 -- at least lo and at most hi
@@ -36,3 +38,7 @@ hexOf b = cond (digit b) (b - 48) (cond (between 65 70 b) (b - 55) (cond (betwee
 -- the capital hex digit of a number below 16
 abbrev pub hexDigit : ℕ → ℕ
 hexDigit n = cond (ltb n 10) (n + 48) (n + 55)
+
+-- "null, exactly `""`"
+abbrev pub isNull : List ℕ → Bool
+isNull bytes = eqb (length bytes) 2 && (eqb (getD bytes 0 0) 34 && eqb (getD bytes 1 0) 34)

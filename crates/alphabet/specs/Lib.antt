@@ -2,6 +2,7 @@ pub mod Lists
 pub mod Bytes
 pub mod Delimiters
 pub mod Digits
+pub mod Hex
 pub mod Limits
 pub mod Answers
 pub mod Parts

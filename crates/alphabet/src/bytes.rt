@@ -3,7 +3,7 @@
 ghost use mathlib.Core.Path.{_≡_};
 ghost use Prim.Native.Nat.{_%_};
 ghost use lib.ListN.{getD};
-ghost use Rattle.alphabet.specs.Bytes.{printable, allowed, forbidden, capital, digit, hexOf, hexDigit};
+ghost use Rattle.alphabet.specs.Bytes.{printable, allowed, forbidden, capital, digit, hexOf, hexDigit, isNull};
 ghost use Rattle.alphabet.specs.Lists.{first, find};
 
 // CR, which ends every segment.
@@ -64,6 +64,15 @@ pub fn byte_at(bytes: &[u8], place: usize) -> u8
     ensures { λ r. ⌜ r ≡ getD (now (bytes .entry)) place 0 ⌝ }
 {
     if place < bytes.len() { bytes[place] } else { 0 }
+}
+
+// Exactly two quotes, which is null.
+pub fn is_null(bytes: &[u8]) -> bool
+    ensures { λ r. ⌜ r ≡ isNull (now (bytes .entry)) ⌝ }
+{
+    let first = byte_at(bytes, 0);
+    let second = byte_at(bytes, 1);
+    (bytes.len() == 2) & ((first == 34) & (second == 34))
 }
 
 // The place of the first b, or the length where there is none.

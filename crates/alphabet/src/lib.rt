@@ -3,6 +3,7 @@
 mod answers;
 mod bytes;
 mod delimiters;
+mod hex;
 mod limits;
 mod parts;
 
@@ -22,10 +23,12 @@ pub use bytes::hex_value;
 pub use bytes::is_allowed;
 pub use bytes::is_capital;
 pub use bytes::is_digit;
+pub use bytes::is_null;
 pub use bytes::is_printable;
 pub use delimiters::Delimiters;
 pub use delimiters::is_permitted;
 pub use delimiters::wrong_delimiter;
+pub use hex::all_hex;
 pub use limits::id_limit;
 pub use limits::message_limit;
 pub use limits::segment_limit;

@@ -1,25 +1,13 @@
 -- The bytes that a word of a question says. Assumes nothing.
-use Prim.Native.Nat.{ℕ, _+_, _*_}
+use Prim.Native.Nat.{ℕ}
 use mathlib.Core.Path.{_≡_}
-use mathlib.Core.Bool.{Bool, true, false, cond, _&&_}
+use mathlib.Core.Bool.{cond}
 use mathlib.Core.List.{List, [], _∷_}
-use lib.Dec.{eqb, ltb, leb}
+use lib.Dec.{eqb, leb}
 use lib.ListN.{length, take}
-use Rattle.alphabet.specs.Bytes.{hexOf}
+use Rattle.alphabet.specs.Hex.{allHex, pairsOf}
 use Rattle.ask.specs.declared.hex.Decoded.{Decoded}
 use Rattle.ask.specs.declared.hex.Decoded.the-variants.{Length, Refused}
-
--- pairs of hex digits and nothing else
-unfoldable pub isPairs : List ℕ → Bool
-isPairs [] = true
-isPairs (a ∷ []) = false
-isPairs (a ∷ b ∷ r) = (ltb (hexOf a) 16 && ltb (hexOf b) 16) && isPairs r
-
--- a byte for each pair of digits, the high digit first
-unfoldable pub pairs : List ℕ → List ℕ
-pairs [] = []
-pairs (a ∷ []) = []
-pairs (a ∷ b ∷ r) = (hexOf a * 16 + hexOf b) ∷ pairs r
 
 -- what a word says
 pub data Said : Type 0 where
@@ -30,7 +18,7 @@ pub data Said : Type 0 where
 unfoldable pub said : List ℕ → Said
 said [] = nothing
 said (a ∷ []) = cond (eqb a 45) (bytes []) nothing
-said (a ∷ b ∷ r) = cond (isPairs (a ∷ b ∷ r)) (bytes (pairs (a ∷ b ∷ r))) nothing
+said (a ∷ b ∷ r) = cond (allHex (a ∷ b ∷ r)) (bytes (pairsOf (a ∷ b ∷ r))) nothing
 
 -- more bytes than there is room for are as good as nothing
 unfoldable pub fitting : ℕ → Said → Said

@@ -7,7 +7,8 @@ use mathlib.Core.Path.{_≡_, refl}
 use mathlib.Core.List.{List, [], _∷_}
 use Rattle.alphabet.specs.Parts.{split}
 use Rattle.ask.specs.Words.{words}
-use Rattle.ask.specs.Hex.{isPairs, pairs, bytes, nothing, said}
+use Rattle.alphabet.specs.Hex.{allHex, pairsOf}
+use Rattle.ask.specs.Hex.{bytes, nothing, said}
 use Rattle.alphabet.specs.Digits.{allDigits, counted}
 use Rattle.ask.specs.Numbers.{held, number}
 use Rattle.ask.specs.Questions.{readVerb, Verb, read, find, nm, si, dt, tm, ts, noQuestion, readAsked}
@@ -29,7 +30,7 @@ unfolding split
 cut = (refl, refl, refl)
 
 bytes-said : (said (ascii "-") ≡ bytes []) × (said (ascii "4D5a") ≡ bytes (77 ∷ 90 ∷ [])) × (said (ascii "4D5") ≡ nothing) × (said (ascii "4g") ≡ nothing) × (said (ascii "--") ≡ nothing) × (said [] ≡ nothing)
-unfolding said isPairs pairs
+unfolding said allHex pairsOf
 bytes-said = (refl, refl, refl, refl, refl, refl)
 
 numbers-said : (number (ascii "007") ≡ Value 7) × (number (ascii "18446744073709551615") ≡ Value 18446744073709551615) × (number (ascii "18446744073709551616") ≡ Refused) × (number (ascii "+1") ≡ Refused) × (number [] ≡ Refused)

@@ -4,7 +4,8 @@ ghost use Prim.Native.Nat.{_/_, _≤_};
 ghost use mathlib.Core.Path.{_≡_};
 ghost use mathlib.Core.Bool.{true};
 ghost use lib.ListN.{length, take};
-ghost use Rattle.ask.specs.Hex.{isPairs, pairs, said, fitting, Told};
+ghost use Rattle.alphabet.specs.Hex.{allHex, pairsOf};
+ghost use Rattle.ask.specs.Hex.{said, fitting, Told};
 
 // What a word says: so many bytes, which are at the front of the buffer now, or nothing.
 pub enum Decoded {
@@ -12,31 +13,11 @@ pub enum Decoded {
     Refused,
 }
 
-// Whether a word is made of pairs of hex digits.
-fn is_pairs(word: &[u8]) -> bool
-    ensures { λ r. ⌜ r ≡ isPairs (now (word .entry)) ⌝ }
-{
-    let mut i = 0;
-    while i < word.len() {
-        if word.len() - i < 2 {
-            return false;
-        }
-        if alphabet::hex_value(word[i]) >= 16 {
-            return false;
-        }
-        if alphabet::hex_value(word[i + 1]) >= 16 {
-            return false;
-        }
-        i += 2;
-    }
-    true
-}
-
 // Writes the bytes that pairs of hex digits say to the front of a buffer.
 fn put_pairs(word: &[u8], buffer: &mut [u8]) -> usize
-    requires { ⌜ isPairs (now word) ≡ true ⌝ }
+    requires { ⌜ allHex (now word) ≡ true ⌝ }
     requires { ⌜ length (now word) / 2 ≤ length (now buffer) ⌝ }
-    ensures { λ r. ⌜ (r ≡ length (pairs (now (word .entry)))) × (take r (now (buffer .exit)) ≡ pairs (now (word .entry))) ⌝ }
+    ensures { λ r. ⌜ (r ≡ length (pairsOf (now (word .entry)))) × (take r (now (buffer .exit)) ≡ pairsOf (now (word .entry))) ⌝ }
 {
     let mut i = 0;
     let mut next = 0;
@@ -64,7 +45,7 @@ pub fn decode(word: &[u8], buffer: &mut [u8]) -> Decoded
         }
         return Decoded::Refused;
     }
-    if !is_pairs(word) {
+    if !alphabet::all_hex(word) {
         return Decoded::Refused;
     }
     if buffer.len() < word.len() / 2 {

@@ -9,14 +9,16 @@ use lib.Dec.{eqb}
 use lib.ListN.{length, getD, take, drop}
 use borrow.Author.Tests.{eqb-true, eq-eqb, not-false}
 use Rattle.alphabet.specs.Lists.{first, find}
+use Rattle.alphabet.specs.Bytes.{isNull}
 use Rattle.alphabet.specs.Parts.{split, standing, partAt}
 use Rattle.alphabet.specs.declared.parts.Part.{Part}
 use Rattle.alphabet.specs.declared.parts.Part.the-variants.{At, Absent}
-use Rattle.alphabet.proofs.BoolLaws.{false-true, and-both}
+use Rattle.alphabet.proofs.BoolLaws.{false-true}
+use Rattle.alphabet.proofs.NullLaws.{two-quotes, not-quotes}
 use Rattle.alphabet.proofs.ListLaws.{piece-of-piece, first-before, first-none}
 use Rattle.alphabet.proofs.PartLaws.{part-bytes, standing-first, standing-absent, absent-past}
 use Rattle.reading.specs.Segments.{fieldSeparator, segmentAt}
-use Rattle.element.specs.States.{isNull, blank, isEmpty, stateOf}
+use Rattle.element.specs.States.{blank, isEmpty, stateOf}
 use Rattle.element.specs.Levels.{between, Within, moved, partIn, fieldIn, below, repetitionAt, componentAt, elementAt}
 use Rattle.element.specs.declared.address.Address.{Address}
 use Rattle.element.specs.declared.states.State.{State}
@@ -27,18 +29,6 @@ use Rattle.element.proofs.LevelLaws.{between-length, in-absent, within-
 use Rattle.element.proofs.StateLaws.{state-null, state-empty, state-present}
 
 -- ---- the states and their bytes
-
--- a null is the two bytes `""`
-two-quotes : (bytes : List ℕ) → isNull bytes ≡ true → bytes ≡ 34 ∷ 34 ∷ []
-two-quotes [] e = false-true e
-two-quotes (a ∷ []) e = false-true e
-two-quotes (a ∷ b ∷ []) e =
-    let q = and-both (eqb a 34) (eqb b 34) e in
-    rw (eqb-true a 34 (q .0), eqb-true b 34 (q .1))
-two-quotes (a ∷ b ∷ c ∷ r) e =
-    let q = and-both (eqb (length (a ∷ b ∷ c ∷ r)) 2) _ e in
-    let n = eqb-true (length (a ∷ b ∷ c ∷ r)) 2 (q .0) in
-    absurd (omega arith)
 
 -- empty: every byte is a component, repetition or subcomponent separator
 all-blank : (ds bytes : List ℕ) → isEmpty ds bytes ≡ true → (i : ℕ) → i < length bytes → blank ds (getD bytes i 0) ≡ true
@@ -55,9 +45,6 @@ pub data Means (ds bytes : List ℕ) : State → Type 0 where
   null : bytes ≡ 34 ∷ 34 ∷ [] → Means ds bytes Null
   empty : (bytes ≡ 34 ∷ 34 ∷ [] → ⊥) → ((i : ℕ) → i < length bytes → blank ds (getD bytes i 0) ≡ true) → Means ds bytes Empty
   present : (bytes ≡ 34 ∷ 34 ∷ [] → ⊥) → (((i : ℕ) → i < length bytes → blank ds (getD bytes i 0) ≡ true) → ⊥) → Means ds bytes Present
-
-not-quotes : (bytes : List ℕ) → isNull bytes ≡ false → bytes ≡ 34 ∷ 34 ∷ [] → ⊥
-not-quotes bytes e q = false-true (sym e ∙ ap isNull q)
 
 pub state-means : (ds bytes : List ℕ) → Means ds bytes (stateOf ds bytes)
 state-means ds bytes = at (isNull bytes) refl (isEmpty ds bytes) refl

@@ -3,7 +3,8 @@ use mathlib.Core.Path.{_≡_}
 use mathlib.Core.List.{List}
 use mathlib.Core.Bool.{true, false}
 use Prim.Native.Nat.{ℕ}
-use Rattle.element.specs.States.{isNull, isEmpty, stateOf}
+use Rattle.alphabet.specs.Bytes.{isNull}
+use Rattle.element.specs.States.{isEmpty, stateOf}
 use Rattle.element.specs.declared.states.State.the-variants.{Empty, Null, Present}
 
 module _ (ds bytes : List ℕ) where

@@ -1,16 +1,13 @@
 -- The four states of an element, by document 01, 'Elements'. The delimiters are the list of the five.
 use Prim.Native.Nat.{ℕ}
 use mathlib.Core.List.{List}
-use mathlib.Core.Bool.{Bool, cond, not, _&&_, _||_}
+use mathlib.Core.Bool.{Bool, cond, not, _||_}
 use lib.ListN.{length, getD}
 use lib.Dec.{eqb}
 use Rattle.alphabet.specs.Lists.{first}
+use Rattle.alphabet.specs.Bytes.{isNull}
 use Rattle.element.specs.declared.states.State.{State}
 use Rattle.element.specs.declared.states.State.the-variants.{Empty, Null, Present}
-
--- "null, exactly `""`"
-abbrev pub isNull : List ℕ → Bool
-isNull bytes = eqb (length bytes) 2 && (eqb (getD bytes 0 0) 34 && eqb (getD bytes 1 0) 34)
 
 -- a component, repetition or subcomponent separator
 abbrev pub blank : List ℕ → ℕ → Bool
@@ -20,6 +17,6 @@ blank ds b = eqb b (getD ds 1 0) || (eqb b (getD ds 2 0) || eqb b (getD ds 4 0))
 abbrev pub isEmpty : List ℕ → List ℕ → Bool
 isEmpty ds bytes = eqb (first (λ (b : ℕ). not (blank ds b)) bytes) (length bytes)
 
--- "present, anything else"
+-- "null, exactly `""`" is `isNull`; "present, anything else"
 unfoldable pub stateOf : List ℕ → List ℕ → State
 stateOf ds bytes = cond (isNull bytes) Null (cond (isEmpty ds bytes) Empty Present)

@@ -1,22 +1,13 @@
 // The four states of an element.
 use alphabet::Delimiters;
 ghost use mathlib.Core.Path.{_≡_};
-ghost use Rattle.element.specs.States.{stateOf, isNull, isEmpty};
+ghost use Rattle.element.specs.States.{stateOf, isEmpty};
 
 pub enum State {
     Absent,
     Empty,
     Null,
     Present,
-}
-
-// Exactly two quotes.
-pub fn is_null(bytes: &[u8]) -> bool
-    ensures { λ r. ⌜ r ≡ isNull (now (bytes .entry)) ⌝ }
-{
-    let first = alphabet::byte_at(bytes, 0);
-    let second = alphabet::byte_at(bytes, 1);
-    (bytes.len() == 2) & ((first == 34) & (second == 34))
 }
 
 // No bytes, or only component, subcomponent or repetition separators.
@@ -43,7 +34,7 @@ pub fn is_empty(delimiters: Delimiters, bytes: &[u8]) -> bool
 pub fn state_of(delimiters: Delimiters, bytes: &[u8]) -> State
     ensures { λ r. ⌜ r ≡ stateOf (delimiters .bytes) (now (bytes .entry)) ⌝ }
 {
-    if is_null(bytes) {
+    if alphabet::is_null(bytes) {
         return State::Null;
     }
     if is_empty(delimiters, bytes) {

@@ -9,15 +9,15 @@ use lib.ListN.{length, getD, take, drop, length-set}
 use lib.Seq.{length-take-le}
 use denote.Ref.{now}
 use Rattle.alphabet.specs.Bytes.{hexOf}
-use Rattle.ask.specs.Hex.{isPairs, pairs}
+use Rattle.alphabet.specs.Hex.{allHex, pairsOf}
 use Rattle.ask.proofs.Lists.{front-more}
-use Rattle.ask.proofs.Pairs.{pair-here, byte-next, byte-end}
+use Rattle.alphabet.proofs.HexLaws.{hex-holds, pairs-next, pairs-end}
 use Rattle.ask.proofs.hex.put_pairs.Statement.{statement}
 use Rattle.ask.proofs.hex.put_pairs.Tie as tie
 
 abbrev Inv-loop : tie.InvT-loop
 Inv-loop word buffer₀ i₀ next₀ buffer i next =
-    (i ≤ length word) × (next * 2 ≡ i) × (length buffer ≡ length buffer₀) × (isPairs (drop i word) ≡ true) × (pairs word ≡ take next buffer ++ pairs (drop i word))
+    (i ≤ length word) × (next * 2 ≡ i) × (length buffer ≡ length buffer₀) × (allHex (drop i word) ≡ true) × (pairsOf word ≡ take next buffer ++ pairsOf (drop i word))
 
 abbrev μ-loop : tie.MeasureT-loop
 μ-loop word buffer₀ i₀ next₀ buffer i next = length word - i
@@ -25,8 +25,8 @@ abbrev μ-loop : tie.MeasureT-loop
 -- at each turn there is a pair of digits
 pair : (k : tie.In-loop Inv-loop μ-loop)
     → let l = now (k .before .before .before .before .args .word) in let i = k .before .loop .i in
-    (i + 1 < length l) × (hexOf (getD l i 0) < 16) × (hexOf (getD l (i + 1) 0) < 16) × (isPairs (drop (i + 2) l) ≡ true)
-pair k = pair-here (now (k .before .before .before .before .args .word)) (k .before .loop .i) (k .loop-test .taken) (k .before .loop .inv .3)
+    (i + 1 < length l) × (hexOf (getD l i 0) < 16) × (hexOf (getD l (i + 1) 0) < 16) × (allHex (drop (i + 2) l) ≡ true)
+pair k = hex-holds (now (k .before .before .before .before .args .word)) (k .before .loop .i) (k .loop-test .taken) (k .before .loop .inv .3)
 
 mul-buffer : tie.Need-mul-buffer Inv-loop μ-loop
 mul-buffer c = let p = pair (c .before .before .before .before) in omega (arith, c .before .before .hex-value .ensures)
@@ -53,7 +53,7 @@ loop-again c =
       omega arith,
       simp length-set (l .loop .inv .2),
       p .3,
-      l .loop .inv .4 ∙ ap (λ (t : List ℕ). take n b ++ t) (byte-next w i (p .0) ∙ ap (λ (k : ℕ). k ∷ pairs (drop (i + 2) w)) e) ∙ sym (front-more b (pairs (drop (i + 2) w)) n v (slice-write-buffer c)),
+      l .loop .inv .4 ∙ ap (λ (t : List ℕ). take n b ++ t) (pairs-next w i (p .0) ∙ ap (λ (k : ℕ). k ∷ pairsOf (drop (i + 2) w)) e) ∙ sym (front-more b (pairsOf (drop (i + 2) w)) n v (slice-write-buffer c)),
     )
 
 returns : tie.Need-returns Inv-loop μ-loop
@@ -62,7 +62,7 @@ returns c =
     let w = now (l .before .before .before .args .word) in
     let n = l .loop .next in
     let b = l .loop .buffer in
-    let e : take n b ≡ pairs w = sym (l .loop .inv .4 ∙ ap (λ (t : List ℕ). take n b ++ t) (byte-end w (l .loop .i) (omega arith)) ∙ append-nil (take n b)) in
+    let e : take n b ≡ pairsOf w = sym (l .loop .inv .4 ∙ ap (λ (t : List ℕ). take n b ++ t) (pairs-end w (l .loop .i) (omega arith)) ∙ append-nil (take n b)) in
     (sym (length-take-le n b (omega (arith, l .before .before .before .pre .1))) ∙ ap length e, e)
 
 pub put-pairs-spec : {M : Type 1} → statement M

@@ -1,7 +1,7 @@
 -- Rests on what `byte_at` gives.
 use borrow.Author.Needs.{needs}
-use Rattle.element.proofs.states.is_null.Statement.{statement}
-use Rattle.element.proofs.states.is_null.Tie as tie
+use Rattle.alphabet.proofs.bytes.is_null.Statement.{statement}
+use Rattle.alphabet.proofs.bytes.is_null.Tie as tie
 
 pub is-null-spec : {M : Type 1} → statement M
 is-null-spec =

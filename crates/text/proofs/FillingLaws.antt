@@ -1,0 +1,88 @@
+-- A buffer that is filled from its front: W is what is to be written, d₀ the buffer as it was, rest what is still to come, d the buffer now and o the place
+-- of the next byte. Assumes nothing.
+use mathlib.Core.Path.{_≡_, refl, sym, ap, _∙_}
+use mathlib.Core.List.{List, [], _∷_, _++_, append-assoc, append-nil}
+use Prim.Native.Nat.{ℕ, suc, _+_, _-_, _≤_, _<_}
+use native.Mathlib.Omega.{arith}
+use lib.ListN.{length, getD, take, drop, set, take-append-drop, drop-of-length-le, length-append, length-drop}
+use lib.Seq.{take-at, drop-at, drop-drop, length-take-le, set-split, append-snoc, paste, paste-suc, take-length}
+use native.Mathlib.Numerals.{add-one}
+use borrow.Rule.Slice.PartMut.{putMid, postOf}
+use Rattle.text.specs.Answers.{over, pasted}
+
+pub record Filling (W d₀ rest d : List ℕ) (o : ℕ) : Type 0 where
+  pub front : List ℕ
+  pub whole : W ≡ front ++ rest
+  pub size : length front ≡ o
+  pub holds : d ≡ front ++ drop o d₀
+
+pub fill-start : (W d₀ : List ℕ) → Filling W d₀ W d₀ 0
+fill-start W d₀ = record { front = []; whole = refl; size = refl; holds = refl }
+
+pub fill-more : {W d₀ rest₀ d : List ℕ} {o : ℕ} (xs rest d′ : List ℕ) (o′ : ℕ) → Filling W d₀ rest₀ d o → rest₀ ≡ xs ++ rest → d′ ≡ pasted d o xs → o′ ≡ o + length xs → Filling W d₀ rest d′ o′
+fill-more {W} {d₀} {rest₀} {d} {o} xs rest d′ o′ f e e′ eo =
+    record {
+      front = f .front ++ xs;
+      whole = f .whole ∙ ap (λ (l : List ℕ). f .front ++ l) e ∙ sym (append-assoc (f .front) xs rest);
+      size = length-append (f .front) xs ∙ ap (λ (k : ℕ). k + length xs) (f .size) ∙ sym eo;
+      holds = e′ ∙ ap (λ (l : List ℕ). l ++ xs ++ drop (o + length xs) d) kept ∙ ap (λ (l : List ℕ). f .front ++ xs ++ l) behind
+          ∙ ap (λ (k : ℕ). f .front ++ xs ++ drop k d₀) (sym eo);
+    }
+  where
+    kept : take o d ≡ f .front
+    kept = ap (take o) (f .holds) ∙ take-at (f .front) (drop o d₀) o (f .size)
+
+    behind : drop (o + length xs) d ≡ drop (o + length xs) d₀
+    behind =
+        sym (drop-drop (length xs) o d) ∙ ap (λ (l : List ℕ). drop (length xs) (drop o l)) (f .holds)
+        ∙ ap (drop (length xs)) (drop-at (f .front) (drop o d₀) o (f .size)) ∙ drop-drop (length xs) o d₀
+
+pub fill-room : {W d₀ rest d : List ℕ} {o : ℕ} → Filling W d₀ rest d o → o + length rest ≡ length W
+fill-room {W} {d₀} {rest} {d} {o} f = ap (λ (k : ℕ). k + length rest) (sym (f .size)) ∙ sym (length-append (f .front) rest) ∙ ap length (sym (f .whole))
+
+pub fill-length : {W d₀ rest d : List ℕ} {o : ℕ} → Filling W d₀ rest d o → length W ≤ length d₀ → length d ≡ length d₀
+fill-length {W} {d₀} {rest} {d} {o} f h =
+    let r = fill-room f in
+    let l = length-append (f .front) (drop o d₀) in
+    let k = length-drop o d₀ in
+    let n = ap length (f .holds) in
+    let s = f .size in
+    omega arith
+
+pub fill-end : {W d₀ rest d : List ℕ} {o : ℕ} → Filling W d₀ rest d o → rest ≡ [] → d ≡ over W d₀
+fill-end {W} {d₀} {rest} {d} {o} f e =
+    let w : W ≡ f .front = f .whole ∙ ap (λ (l : List ℕ). f .front ++ l) e ∙ append-nil (f .front) in
+    f .holds ∙ ap (λ (l : List ℕ). l ++ drop o d₀) (sym w) ∙ ap (λ (k : ℕ). W ++ drop k d₀) (sym (f .size) ∙ ap length (sym w))
+
+-- from a place on
+pub fill-from : (W d : List ℕ) (at : ℕ) → at ≤ length d → Filling (take at d ++ W) d W d at
+fill-from W d at h = record { front = take at d; whole = refl; size = length-take-le at d h; holds = sym (take-append-drop at d) }
+
+pub fill-from-end : (W : List ℕ) (at : ℕ) {d rest d′ : List ℕ} {o : ℕ} → Filling (take at d ++ W) d rest d′ o → at ≤ length d → rest ≡ [] → (o ≡ at + length W) × (d′ ≡ pasted d at W)
+fill-from-end W at {d} {rest} {d′} {o} f h e =
+    let n : length (take at d ++ W) ≡ at + length W = length-append (take at d) W ∙ ap (λ (k : ℕ). k + length W) (length-take-le at d h) in
+    let r = fill-room f in
+    let z = ap length e in
+    (omega arith, fill-end f e ∙ ap (λ (k : ℕ). take at d ++ W ++ drop k d) n)
+
+-- one byte
+pub set-pasted : (d : List ℕ) (o v : ℕ) → o < length d → set d o v ≡ pasted d o (v ∷ [])
+set-pasted d o v h = set-split d o v h ∙ sym (append-snoc (take o d) v (drop (suc o) d)) ∙ ap (λ (k : ℕ). take o d ++ (v ∷ []) ++ drop k d) (sym (add-one o))
+
+-- ---- a part `&mut d[at..]` that was lent: the whole when it comes back
+
+pub part-back : (d ys : List ℕ) (at : ℕ) → putMid at (length d - at) d ys ≡ take at d ++ ys
+part-back d ys at = ap (λ (l : List ℕ). take at d ++ l) (ap (λ (l : List ℕ). ys ++ l) none ∙ append-nil ys)
+  where
+    none : postOf at (length d - at) d ≡ []
+    none = let h : length (drop at d) ≤ length d - at = omega (arith, length-drop at d) in drop-of-length-le (drop at d) h
+
+-- ---- copies
+
+pub put-step : (d₀ s d : List ℕ) (at j o : ℕ) → o ≡ at + j → d ≡ paste d₀ at s j → at + j < length d₀ → j < length s → set d o (getD s j 0) ≡ paste d₀ at s (j + 1)
+put-step d₀ s d at j o eo ed hd hs =
+    ap (λ (k : ℕ). set d k (getD s j 0)) eo ∙ ap (λ (l : List ℕ). set l (at + j) (getD s j 0)) ed
+    ∙ paste-suc d₀ at s j 0 hd hs ∙ ap (paste d₀ at s) (sym (add-one j))
+
+pub put-end : (d s : List ℕ) (at j : ℕ) → j ≡ length s → paste d at s j ≡ pasted d at s
+put-end d s at j e = ap (paste d at s) e ∙ ap (λ (l : List ℕ). take at d ++ l ++ drop (at + length s) d) (take-length s)

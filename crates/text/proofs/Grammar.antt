@@ -1,0 +1,228 @@
+-- The scan gives a text exactly where the grammar reads one, and the same; and a fault exactly where the grammar refuses, the same and at the same
+-- place. Each list of bytes either reads or is refused. Assumes nothing.
+use mathlib.Core.Path.{_≡_, refl, sym, ap, subst, _∙_}
+use mathlib.Core.List.{List, [], _∷_, _++_, append-assoc}
+use mathlib.Core.Bool.{Bool, true, false, cond}
+use Prim.Native.Nat.{ℕ, zero, suc, _+_, _≤_, _<_}
+use native.Mathlib.Nat.{add-zero, zero-add}
+use native.Mathlib.Omega.{arith}
+use lib.Dec.{leb, ltb, eqb}
+use lib.ListN.{length, take, drop, length-append, length-drop}
+use lib.Seq.{split-at, take-append-seam}
+use borrow.Author.Tests.{eqb-true, eqb-false, eq-eqb, ltb-true, ltb-false, leb-true, leb-false}
+use Rattle.alphabet.proofs.ListLaws.{find-is, find-own, first-le}
+use Rattle.alphabet.proofs.NullLaws.{two-quotes, not-quotes, other-quotes}
+use Rattle.alphabet.specs.Lists.{first, find}
+use Rattle.alphabet.specs.Bytes.{printable, isNull}
+use Rattle.alphabet.specs.Delimiters.{wrongDelimiter}
+use Rattle.alphabet.specs.declared.answers.Refusal.{Refusal}
+use Rattle.alphabet.specs.declared.answers.Refusal.the-variants.{NotAllowed, Separator, UnknownEscape, UnclosedEscape}
+use Rattle.text.specs.Escape.{escapeOf, escape}
+use Rattle.text.specs.Unescape.{known, meaning, Outcome, text, fault, before, scan}
+use Rattle.text.specs.Answers.{unescaping}
+use Rattle.text.specs.Reads.{Reads, done, plain, escaped, Stops, forbidden, separator, unknown, unclosed, Refuses, Unescapes, delimiter, null, refused, long, written}
+use Rattle.text.proofs.StepLaws.{step-unknown, step-unclosed, step-forbidden, step-separator, step-plain, scan-emit, scan-stop, before-before, before-none}
+use Rattle.text.proofs.OutcomeLaws.{unescaping-bad, unescaping-null, unescaping-fault, unescaping-fits, unescaping-long}
+use Rattle.text.proofs.RoundTrip.{AreBytes, sequence-back, scan-back}
+
+-- ---- from the grammar to the scan
+
+find-within : (b : ℕ) (c r : List ℕ) → find b c ≡ length c → find b (c ++ b ∷ r) ≡ length c
+unfolding first
+find-within b [] r h = rw (eq-eqb b b refl)
+find-within b (x ∷ c) r h = at (eqb b x) refl h (find-within b c r)
+  where
+    at : (t : Bool) → eqb b x ≡ t → cond t 0 (suc (find b c)) ≡ suc (length c) → (find b c ≡ length c → find b (c ++ b ∷ r) ≡ length c) → find b ((x ∷ c) ++ b ∷ r) ≡ suc (length c)
+    at true e h ih = absurd (omega arith)
+    at false e h ih = rw e (ap suc (ih (omega arith)))
+
+module _ (ds : List ℕ) (five : length ds ≡ 5) where
+  no-delimiter : (b : ℕ) → 5 ≤ find b ds → b ≡ escapeOf ds → ⊥
+  no-delimiter b h e =
+      let z = find-own ds 3 (omega arith) in
+      let q : find b ds ≡ find (escapeOf ds) ds = ap (λ (x : ℕ). find x ds) e in
+      omega arith
+
+  -- what is read passes, whatever follows
+  reads-before : {u t : List ℕ} → Reads ds u t → (v : List ℕ) (at : ℕ) → scan ds at 0 (u ++ v) ≡ before t (scan ds (at + length u) 0 v)
+  reads-before done v at = before-none (scan ds at 0 v) ∙ ap (λ (n : ℕ). before [] (scan ds n 0 v)) (sym (add-zero at))
+  reads-before (plain {r} {t} b a h m) v at =
+      let e : (at + 1) + length r ≡ at + suc (length r) = omega arith in
+      scan-emit ds at b (r ++ v) (b ∷ []) 0 (step-plain ds b (r ++ v) (no-delimiter b h) a h)
+      ∙ ap (before (b ∷ [])) (reads-before m v (at + 1))
+      ∙ before-before (b ∷ []) t (scan ds ((at + 1) + length r) 0 v) ∙ ap (λ (n : ℕ). before (b ∷ t) (scan ds n 0 v)) e
+  reads-before (escaped {r} {t} c f k m) v at =
+      let n : length (c ++ escapeOf ds ∷ r) ≡ length c + suc (length r) = length-append c (escapeOf ds ∷ r) in
+      let e : (at + (length c + 2)) + length r ≡ at + suc (length (c ++ escapeOf ds ∷ r)) = omega arith in
+      ap (λ (l : List ℕ). scan ds at 0 (escapeOf ds ∷ l)) (append-assoc c (escapeOf ds ∷ r) v)
+      ∙ sequence-back ds at c (r ++ v) (meaning ds c) (find-within (escapeOf ds) c (r ++ v) f) k refl
+      ∙ ap (before (meaning ds c)) (reads-before m v (at + (length c + 2)))
+      ∙ before-before (meaning ds c) t (scan ds ((at + (length c + 2)) + length r) 0 v) ∙ ap (λ (n : ℕ). before (meaning ds c ++ t) (scan ds n 0 v)) e
+
+  reads-from : {s t : List ℕ} → Reads ds s t → (at : ℕ) → scan ds at 0 s ≡ text t
+  unfolding scan
+  reads-from done at = refl
+  reads-from (plain {r} {t} b a h m) at =
+      scan-emit ds at b r (b ∷ []) 0 (step-plain ds b r (no-delimiter b h) a h) ∙ ap (before (b ∷ [])) (reads-from m (at + 1))
+  reads-from (escaped {r} {t} c f k m) at =
+      sequence-back ds at c r (meaning ds c) (find-within (escapeOf ds) c r f) k refl ∙ ap (before (meaning ds c)) (reads-from m (at + (length c + 2)))
+
+  stops-at : {v : List ℕ} {k : Refusal} → Stops ds v k → (at : ℕ) → scan ds at 0 v ≡ fault k at
+  stops-at (forbidden b r n a) at = scan-stop ds at b r NotAllowed (step-forbidden ds b r n a)
+  stops-at (separator b r n a h) at = scan-stop ds at b r Separator (step-separator ds b r n a h)
+  stops-at (unknown c r f k) at =
+      let e = escapeOf ds in
+      let n : length (c ++ e ∷ r) ≡ length c + suc (length r) = length-append c (e ∷ r) in
+      scan-stop ds at e (c ++ e ∷ r) UnknownEscape (step-unknown ds e (c ++ e ∷ r) (length c) refl (find-within e c r f) (omega arith) (ap known (take-append-seam c (e ∷ r)) ∙ k))
+  stops-at (unclosed r f) at = scan-stop ds at (escapeOf ds) r UnclosedEscape (step-unclosed ds (escapeOf ds) r refl (omega arith))
+
+  pub reads-scan : (s t : List ℕ) → Reads ds s t → scan ds 0 0 s ≡ text t
+  reads-scan s t m = reads-from m 0
+
+  pub refuses-scan : (s : List ℕ) (k : Refusal) (p : ℕ) → Refuses ds s k p → scan ds 0 0 s ≡ fault k p
+  refuses-scan s k p f =
+      ap (scan ds 0 0) (f .whole) ∙ reads-before (f .reads) (f .rest) 0 ∙ ap (before (f .said)) (stops-at (f .stops) (0 + length (f .front)))
+      ∙ ap (fault k) (zero-add (length (f .front)) ∙ f .there)
+
+  -- ---- each list of bytes either reads or is refused
+
+  data Said (s : List ℕ) : Type 0 where
+    says : (t : List ℕ) → Reads ds s t → Said s
+    refuses : (k : Refusal) (p : ℕ) → Refuses ds s k p → Said s
+
+  stopped : (v : List ℕ) (k : Refusal) → Stops ds v k → Said v
+  stopped v k m = refuses k 0 (record { front = []; rest = v; said = []; whole = refl; reads = done; stops = m; there = refl })
+
+  past-plain : (b : ℕ) (r : List ℕ) → printable b ≡ true → 5 ≤ find b ds → Said r → Said (b ∷ r)
+  past-plain b r a h (says t m) = says (b ∷ t) (plain b a h m)
+  past-plain b r a h (refuses k p f) =
+      refuses k (suc p) (record {
+        front = b ∷ f .front;
+        rest = f .rest;
+        said = b ∷ f .said;
+        whole = ap (λ (l : List ℕ). b ∷ l) (f .whole);
+        reads = plain b a h (f .reads);
+        stops = f .stops;
+        there = ap suc (f .there);
+      })
+
+  past-escaped : (c r : List ℕ) → find (escapeOf ds) c ≡ length c → known c ≡ true → Said r → Said (escapeOf ds ∷ (c ++ escapeOf ds ∷ r))
+  past-escaped c r e k (says t m) = says (meaning ds c ++ t) (escaped c e k m)
+  past-escaped c r e k (refuses j p f) =
+      refuses j (length (escapeOf ds ∷ (c ++ escapeOf ds ∷ f .front))) (record {
+        front = escapeOf ds ∷ (c ++ escapeOf ds ∷ f .front);
+        rest = f .rest;
+        said = meaning ds c ++ f .said;
+        whole = ap (λ (l : List ℕ). escapeOf ds ∷ (c ++ escapeOf ds ∷ l)) (f .whole) ∙ ap (λ (l : List ℕ). escapeOf ds ∷ l) (sym (append-assoc c (escapeOf ds ∷ f .front) (f .rest)));
+        reads = escaped c e k (f .reads);
+        stops = f .stops;
+        there = refl;
+      })
+
+  find-take : (b : ℕ) (l : List ℕ) → find b (take (find b l) l) ≡ length (take (find b l) l)
+  unfolding first
+  find-take b [] = refl
+  find-take b (x ∷ l) = at (eqb b x) refl (find-take b l)
+    where
+      at : (t : Bool) → eqb b x ≡ t → find b (take (find b l) l) ≡ length (take (find b l) l)
+          → find b (take (cond t 0 (suc (find b l))) (x ∷ l)) ≡ length (take (cond t 0 (suc (find b l))) (x ∷ l))
+      at true e ih = refl
+      at false e ih = rw e (ap suc ih)
+
+  -- at an escape delimiter
+  opened : (r : List ℕ) → ((v : List ℕ) → length v ≤ length r → Said v) → Said (escapeOf ds ∷ r)
+  opened r more = at (ltb n (length r)) refl (known (take n r)) refl
+    where
+      e : ℕ
+      e = escapeOf ds
+
+      n : ℕ
+      n = find e r
+
+      apart : n < length r → take n r ++ e ∷ drop (suc n) r ≡ r
+      apart h = ap (λ (x : ℕ). take n r ++ x ∷ drop (suc n) r) (sym (find-is e r h)) ∙ sym (split-at r n 0 h)
+
+      at : (t : Bool) → ltb n (length r) ≡ t → (u : Bool) → known (take n r) ≡ u → Said (e ∷ r)
+      at true h true k =
+          subst (λ (l : List ℕ). Said (e ∷ l)) (apart (ltb-true n (length r) h))
+          (past-escaped (take n r) (drop (suc n) r) (find-take e r) k (more (drop (suc n) r) (let d = length-drop (suc n) r in omega arith)))
+      at true h false k =
+          subst (λ (l : List ℕ). Said (e ∷ l)) (apart (ltb-true n (length r) h))
+          (stopped _ UnknownEscape (unknown (take n r) (drop (suc n) r) (find-take e r) k))
+      at false h u k =
+          let l = ltb-false n (length r) h in
+          let m = first-le (eqb e) r in
+          stopped (e ∷ r) UnclosedEscape (unclosed r (omega arith))
+
+  -- at any other byte
+  other : (b : ℕ) (r : List ℕ) → (b ≡ escapeOf ds → ⊥) → Said r → Said (b ∷ r)
+  other b r n more = at (printable b) refl (ltb (find b ds) 5) refl
+    where
+      at : (t : Bool) → printable b ≡ t → (u : Bool) → ltb (find b ds) 5 ≡ u → Said (b ∷ r)
+      at true e true f = stopped (b ∷ r) Separator (separator b r n e (ltb-true (find b ds) 5 f))
+      at true e false f = past-plain b r e (ltb-false (find b ds) 5 f) more
+      at false e u f = stopped (b ∷ r) NotAllowed (forbidden b r n e)
+
+  turn : (s : List ℕ) → ((v : List ℕ) → length v < length s → Said v) → Said s
+  turn [] more = says [] done
+  turn (b ∷ r) more = at (eqb b (escapeOf ds)) refl
+    where
+      at : (t : Bool) → eqb b (escapeOf ds) ≡ t → Said (b ∷ r)
+      at true e = subst (λ (x : ℕ). Said (x ∷ r)) (sym (eqb-true b (escapeOf ds) e)) (opened r (λ (v : List ℕ) (l : length v ≤ length r). more v (omega arith)))
+      at false e = other b r (eqb-false b (escapeOf ds) e) (more r (omega arith))
+
+  either-below : (n : ℕ) (s : List ℕ) → length s < n → Said s
+  either-below zero s h = absurd (omega arith)
+  either-below (suc n) s h = turn s (λ (v : List ℕ) (l : length v < length s). either-below n v (omega arith))
+
+  either : (s : List ℕ) → Said s
+  either s = either-below (suc (length s)) s (omega arith)
+
+  -- ---- from the scan to the grammar
+
+  pub scan-reads : (s t : List ℕ) → scan ds 0 0 s ≡ text t → Reads ds s t
+  scan-reads s t e = by (either s)
+    where
+      by : Said s → Reads ds s t
+      by (says t′ m) = let w : text t′ ≡ text t = sym (reads-scan s t′ m) ∙ e in let q : t′ ≡ t = cc in subst (Reads ds s) q m
+      by (refuses k p f) = let w : fault k p ≡ text t = sym (refuses-scan s k p f) ∙ e in absurd (let z : _≡_ {A = ℕ} 0 1 = cc in omega arith)
+
+  pub scan-refuses : (s : List ℕ) (k : Refusal) (p : ℕ) → scan ds 0 0 s ≡ fault k p → Refuses ds s k p
+  scan-refuses s k p e = by (either s)
+    where
+      by : Said s → Refuses ds s k p
+      by (says t m) = let w : text t ≡ fault k p = sym (reads-scan s t m) ∙ e in absurd (let z : _≡_ {A = ℕ} 0 1 = cc in omega arith)
+      by (refuses k′ p′ f) =
+          let w : fault k′ p′ ≡ fault k p = sym (refuses-scan s k′ p′ f) ∙ e in
+          let q : k′ ≡ k = cc in
+          let r : p′ ≡ p = cc in
+          subst (Refuses ds s k) r (subst (λ (j : Refusal). Refuses ds s j p′) q f)
+
+  -- what is written reads as the text that it was written for
+  pub escape-reads : wrongDelimiter ds ≡ 5 → (t : List ℕ) → AreBytes t → Reads ds (escape ds t) t
+  escape-reads fine t small = scan-reads (escape ds t) t (scan-back ds five fine t small)
+
+  -- ---- the outcome of unescaping is the one that the grammar says, and no other
+
+  pub unescapes-only : (s : List ℕ) (room : ℕ) (o : Outcome) → Unescapes ds s room o → unescaping ds s room ≡ o
+  unescapes-only s room o (delimiter h) = unescaping-bad ds s room h
+  unescapes-only s room o (null h q) = unescaping-null ds s room h (ap isNull q)
+  unescapes-only s room o (refused h n k p f) = unescaping-fault ds s room h (other-quotes s n) k p (refuses-scan s k p f)
+  unescapes-only s room o (long h n t m l) = unescaping-long ds s room h (other-quotes s n) t (reads-scan s t m) l
+  unescapes-only s room o (written h n t m l) = unescaping-fits ds s room h (other-quotes s n) t (reads-scan s t m) l
+
+  pub unescapes : (s : List ℕ) (room : ℕ) → Unescapes ds s room (unescaping ds s room)
+  unescapes s room = by (ltb (wrongDelimiter ds) 5) refl (isNull s) refl (either s)
+    where
+      is : (o : Outcome) → Unescapes ds s room o → Unescapes ds s room (unescaping ds s room)
+      is o m = subst (Unescapes ds s room) (sym (unescapes-only s room o m)) m
+
+      fits : (b : Bool) (t : List ℕ) → leb (length t) room ≡ b → 5 ≤ wrongDelimiter ds → (s ≡ 34 ∷ 34 ∷ [] → ⊥) → Reads ds s t → Unescapes ds s room (unescaping ds s room)
+      fits true t e h n m = is (text t) (written h n t m (leb-true (length t) room e))
+      fits false t e h n m = is _ (long h n t m (leb-false (length t) room e))
+
+      by : (a : Bool) → ltb (wrongDelimiter ds) 5 ≡ a → (b : Bool) → isNull s ≡ b → Said s → Unescapes ds s room (unescaping ds s room)
+      by true e b f d = is _ (delimiter (ltb-true (wrongDelimiter ds) 5 e))
+      by false e true f d = is _ (null (ltb-false (wrongDelimiter ds) 5 e) (two-quotes s f))
+      by false e false f (says t m) = fits (leb (length t) room) t refl (ltb-false (wrongDelimiter ds) 5 e) (not-quotes s f) m
+      by false e false f (refuses k p m) = is (fault k p) (refused (ltb-false (wrongDelimiter ds) 5 e) (not-quotes s f) k p m)

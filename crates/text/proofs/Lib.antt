@@ -1,0 +1,9 @@
+pub mod PieceLaws
+pub mod SequenceLaws
+pub mod OutcomeLaws
+pub mod FillingLaws
+pub mod StepLaws
+pub mod TableLaws
+pub mod RoundTrip
+pub mod Grammar
+pub mod Answers

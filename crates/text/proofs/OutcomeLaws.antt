@@ -1,0 +1,110 @@
+-- The outcome of escaping and of unescaping, case by case, and what the measure and the judge say of it. Assumes nothing.
+use mathlib.Core.Path.{_≡_, refl, sym, ap, _∙_}
+use mathlib.Core.List.{List}
+use mathlib.Core.Bool.{Bool, true, false, cond}
+use Prim.Native.Nat.{ℕ, _≤_, _<_}
+use native.Mathlib.Omega.{arith}
+use lib.Dec.{leb}
+use lib.ListN.{length}
+use borrow.Author.Tests.{leb-true, leb-false, lt-ltb, le-ltb, le-leb, lt-leb}
+use Rattle.alphabet.specs.Bytes.{isNull}
+use Rattle.alphabet.specs.Delimiters.{wrongDelimiter}
+use Rattle.alphabet.specs.declared.answers.Refusal.{Refusal}
+use Rattle.alphabet.specs.declared.answers.Refusal.the-variants.{Delimiter, TextTooLong, NullText}
+use Rattle.text.specs.Escape.{escapeBytes, twoQuotes, escape}
+use Rattle.text.specs.Unescape.{Outcome, text, fault, scan}
+use Rattle.text.specs.Answers.{fitting, escaping, unescaping, answer, filled, isText, textOf, roomFor, judged}
+use Rattle.text.specs.declared.escaping.Room.the-variants.{Takes, Short}
+use Rattle.text.specs.declared.unescaping.Judged.{Judged}
+
+-- from the outcome to the answer and the buffer
+pub ended : (o o′ : Outcome) (d : List ℕ) → o ≡ o′ → (answer o′ ≡ answer o) × (filled o′ d ≡ filled o d)
+ended o o′ d e = (ap answer (sym e), ap (λ (x : Outcome). filled x d) (sym e))
+
+-- ---- whether something goes into a room
+
+pub room-takes : (room n : ℕ) → n ≤ room → Takes n ≡ roomFor room n
+unfolding roomFor
+room-takes room n h = rw (le-leb _ _ h)
+
+pub room-short : (room n : ℕ) → room < n → Short ≡ roomFor room n
+unfolding roomFor
+room-short room n h = rw (lt-leb _ _ h)
+
+-- what roomFor says
+pub takes-is : (room n m : ℕ) → Takes m ≡ roomFor room n → (m ≡ n) × (n ≤ room)
+unfolding roomFor
+takes-is room n m e = at (leb n room) refl e
+  where
+    at : (t : Bool) → leb n room ≡ t → Takes m ≡ cond t (Takes n) Short → (m ≡ n) × (n ≤ room)
+    at true h q = (cc, leb-true n room h)
+    at false h q = absurd (let z : _≡_ {A = ℕ} 0 1 = cc in omega arith)
+
+pub short-is : (room n : ℕ) → Short ≡ roomFor room n → room < n
+unfolding roomFor
+short-is room n e = at (leb n room) refl e
+  where
+    at : (t : Bool) → leb n room ≡ t → Short ≡ cond t (Takes n) Short → room < n
+    at true h q = absurd (let z : _≡_ {A = ℕ} 0 1 = cc in omega arith)
+    at false h q = leb-false n room h
+
+-- ---- the outcome of escaping
+
+pub escape-null : (ds t : List ℕ) → isNull t ≡ true → escape ds t ≡ twoQuotes ds
+unfolding escape
+escape-null ds t e = rw e
+
+pub escape-other : (ds t : List ℕ) → isNull t ≡ false → escape ds t ≡ escapeBytes ds t
+unfolding escape
+escape-other ds t e = rw e
+
+pub escaping-bad : (ds t : List ℕ) (room : ℕ) → wrongDelimiter ds < 5 → escaping ds t room ≡ fault Delimiter (wrongDelimiter ds)
+unfolding escaping
+escaping-bad ds t room h = rw (lt-ltb _ _ h)
+
+pub escaping-fits : (ds t w : List ℕ) (room : ℕ) → 5 ≤ wrongDelimiter ds → escape ds t ≡ w → length w ≤ room → escaping ds t room ≡ text w
+unfolding escaping fitting
+escaping-fits ds t w room h e l = rw (le-ltb _ _ h) (rw e (rw (le-leb _ _ l)))
+
+pub escaping-long : (ds t w : List ℕ) (room : ℕ) → 5 ≤ wrongDelimiter ds → escape ds t ≡ w → room < length w → escaping ds t room ≡ fault TextTooLong 0
+unfolding escaping fitting
+escaping-long ds t w room h e l = rw (le-ltb _ _ h) (rw e (rw (lt-leb _ _ l)))
+
+-- ---- the outcome of unescaping
+
+pub judged-text : (r : Outcome) (n : ℕ) → Judged.Text n ≡ judged r → (r ≡ text (textOf r)) × (length (textOf r) ≡ n) × (isText r ≡ true)
+unfolding judged isText textOf
+judged-text (text t) n e = (refl, cc, refl)
+judged-text (fault k p) n e = absurd (let z : _≡_ {A = ℕ} 0 1 = cc in omega arith)
+
+pub judged-fault : (r : Outcome) (k : Refusal) (p : ℕ) → Judged.Fault k p ≡ judged r → r ≡ fault k p
+unfolding judged
+judged-fault (text t) k p e = absurd (let z : _≡_ {A = ℕ} 0 1 = cc in omega arith)
+judged-fault (fault j q) k p e = cc
+
+module _ (ds s : List ℕ) (room : ℕ) where
+  pub unescaping-bad : wrongDelimiter ds < 5 → unescaping ds s room ≡ fault Delimiter (wrongDelimiter ds)
+  unfolding unescaping
+  unescaping-bad h = rw (lt-ltb _ _ h)
+
+  module _ (h : 5 ≤ wrongDelimiter ds) where
+    pub unescaping-null : isNull s ≡ true → unescaping ds s room ≡ fault NullText 0
+    unfolding unescaping
+    unescaping-null e = rw (le-ltb _ _ h) (rw e)
+
+    module _ (n : isNull s ≡ false) where
+      other : unescaping ds s room ≡ fitting room (scan ds 0 0 s)
+      unfolding unescaping
+      other = rw (le-ltb _ _ h) (rw n)
+
+      pub unescaping-fault : (k : Refusal) (p : ℕ) → scan ds 0 0 s ≡ fault k p → unescaping ds s room ≡ fault k p
+      unfolding fitting
+      unescaping-fault k p e = other ∙ ap (fitting room) e
+
+      pub unescaping-fits : (t : List ℕ) → scan ds 0 0 s ≡ text t → length t ≤ room → unescaping ds s room ≡ text t
+      unfolding fitting
+      unescaping-fits t e l = other ∙ ap (fitting room) e ∙ rw (le-leb _ _ l)
+
+      pub unescaping-long : (t : List ℕ) → scan ds 0 0 s ≡ text t → room < length t → unescaping ds s room ≡ fault TextTooLong 0
+      unfolding fitting
+      unescaping-long t e l = other ∙ ap (fitting room) e ∙ rw (lt-leb _ _ l)

@@ -1,0 +1,177 @@
+-- What is written is read back: for any five delimiters with no fault and any text of bytes. Assumes nothing.
+use mathlib.Core.Path.{_≡_, refl, sym, ap, subst⁻¹, _∙_}
+use mathlib.Core.List.{List, [], _∷_, _++_}
+use mathlib.Core.Bool.{Bool, true, false}
+use Prim.Native.Nat.{ℕ, suc, _+_, _*_, _/_, _%_, _≤_, _<_}
+use native.Mathlib.Omega.{arith}
+use lib.Dec.{ltb}
+use lib.ListN.{length, getD, take, length-append}
+use lib.Seq.{take-append-seam, drop-append-add}
+use borrow.Author.Tests.{eq-eqb, ne-eqb, lt-ltb, le-ltb, ltb-true, ltb-false}
+use Rattle.alphabet.proofs.BoolLaws.{false-true}
+use Rattle.alphabet.proofs.ListLaws.{find-is}
+use Rattle.alphabet.proofs.DelimiterLaws.{delimiter-permitted, delimiter-own}
+use Rattle.alphabet.proofs.NullLaws.{two-quotes}
+use Rattle.alphabet.specs.Lists.{first, find}
+use Rattle.alphabet.specs.Bytes.{printable, hexOf, hexDigit, isNull}
+use Rattle.alphabet.specs.Delimiters.{permitted, wrongDelimiter}
+use Rattle.text.specs.Escape.{letters, escapeOf, escapeByte, escapeBytes, twoQuotes, escape}
+use Rattle.alphabet.specs.Hex.{allHex, pairsOf}
+use Rattle.text.specs.Unescape.{known, meaning, text, before, scan}
+use Rattle.text.specs.Answers.{fitting, unescaping}
+use Rattle.text.proofs.PieceLaws.{written-letter, written-plain, written-hex}
+use Rattle.text.proofs.OutcomeLaws.{escape-null, escape-other}
+use Rattle.text.proofs.StepLaws.{step-known, step-plain, scan-emit, scan-skip}
+use Rattle.text.proofs.TableLaws.{letter-back, digit-back, escape-not}
+
+find-other : (b x : ℕ) (r : List ℕ) → (b ≡ x → ⊥) → find b (x ∷ r) ≡ suc (find b r)
+unfolding first
+find-other b x r n = rw (ne-eqb b x n)
+
+find-same : (b : ℕ) (r : List ℕ) → find b (b ∷ r) ≡ 0
+unfolding first
+find-same b r = rw (eq-eqb b b refl)
+
+-- a whole sequence: c stands between two escape delimiters
+pub sequence-back : (ds : List ℕ) (at : ℕ) (c r xs : List ℕ) → find (escapeOf ds) (c ++ escapeOf ds ∷ r) ≡ length c → known c ≡ true → meaning ds c ≡ xs
+    → scan ds at 0 (escapeOf ds ∷ (c ++ escapeOf ds ∷ r)) ≡ before xs (scan ds (at + (length c + 2)) 0 r)
+sequence-back ds at c r xs f k m =
+    let e = escapeOf ds in
+    let s = c ++ e ∷ r in
+    let n = length c in
+    let t : take n s ≡ c = take-append-seam c (e ∷ r) in
+    let l : length s ≡ n + suc (length r) = length-append c (e ∷ r) in
+    let p = step-known ds e s n refl f (omega arith) (ap known t ∙ k) in
+    scan-emit ds at e s (meaning ds (take n s)) (n + 1) p
+    ∙ ap (λ (ys : List ℕ). before ys (scan ds (at + 1) (n + 1) s)) (ap (meaning ds) t ∙ m)
+    ∙ ap (before xs) (scan-skip ds (at + 1) (n + 1) s
+    ∙ ap (λ (q : List ℕ). scan ds ((at + 1) + (n + 1)) 0 q) (drop-append-add c (e ∷ r) 1)
+    ∙ ap (λ (q : ℕ). scan ds q 0 r) (omega arith))
+
+hex-known : (h l : ℕ) → hexOf h < 16 → hexOf l < 16 → known (88 ∷ h ∷ l ∷ []) ≡ true
+unfolding known allHex
+hex-known h l p q = rw (lt-ltb (hexOf h) 16 p) (rw (lt-ltb (hexOf l) 16 q))
+
+hex-meaning : (ds : List ℕ) (h l b : ℕ) → hexOf h ≡ b / 16 → hexOf l ≡ b % 16 → meaning ds (88 ∷ h ∷ l ∷ []) ≡ b ∷ []
+unfolding meaning pairsOf
+hex-meaning ds h l b p q = let e : hexOf h * 16 + hexOf l ≡ b = omega arith in ap (λ (x : ℕ). x ∷ []) e
+
+-- a list of bytes, as every slice of them is
+abbrev pub AreBytes : List ℕ → Type 0
+AreBytes t = (i : ℕ) → getD t i 0 < 256
+
+module _ (ds : List ℕ) (five : length ds ≡ 5) (fine : wrongDelimiter ds ≡ 5) where
+  other-than-escape : (b : ℕ) → 5 ≤ find b ds → b ≡ escapeOf ds → ⊥
+  other-than-escape b h e =
+      let z : find b ds ≡ 3 = ap (λ (x : ℕ). find x ds) e ∙ delimiter-own ds five fine 3 (omega arith) in
+      omega arith
+
+  escape-at : (x : ℕ) (r : List ℕ) → permitted x ≡ false → find (escapeOf ds) (x ∷ r) ≡ suc (find (escapeOf ds) r)
+  escape-at x r f = find-other (escapeOf ds) x r (escape-not ds five fine x f)
+
+  abbrev Back : ℕ → ℕ → List ℕ → List ℕ → Type 0
+  Back b at r w = scan ds at 0 (w ++ r) ≡ before (b ∷ []) (scan ds (at + length w) 0 r)
+
+  letter-read : (b at : ℕ) (r : List ℕ) → find b ds < 5 → Back b at r (escapeOf ds ∷ getD letters (find b ds) 0 ∷ escapeOf ds ∷ [])
+  unfolding known meaning
+  letter-read b at r h =
+      let L = getD letters (find b ds) 0 in
+      let q = letter-back (find b ds) h in
+      sequence-back ds at (L ∷ []) r (b ∷ [])
+      (escape-at L (escapeOf ds ∷ r) (q .0) ∙ ap suc (find-same (escapeOf ds) r))
+      (lt-ltb (find L letters) 5 (omega arith))
+      (ap (λ (x : ℕ). getD ds x 0 ∷ []) (q .1) ∙ ap (λ (x : ℕ). x ∷ []) (find-is b ds (omega arith)))
+
+  plain-read : (b at : ℕ) (r : List ℕ) → 5 ≤ find b ds → printable b ≡ true → Back b at r (b ∷ [])
+  plain-read b at r h a = scan-emit ds at b r (b ∷ []) 0 (step-plain ds b r (other-than-escape b h) a h)
+
+  hex-read : (b at : ℕ) (r : List ℕ) → b < 256 → Back b at r (escapeOf ds ∷ 88 ∷ hexDigit (b / 16) ∷ hexDigit (b % 16) ∷ escapeOf ds ∷ [])
+  hex-read b at r h =
+      let e = escapeOf ds in
+      let x = hexDigit (b / 16) in
+      let y = hexDigit (b % 16) in
+      let p = digit-back (b / 16) (omega arith) in
+      let q = digit-back (b % 16) (omega arith) in
+      sequence-back ds at (88 ∷ x ∷ y ∷ []) r (b ∷ [])
+      (escape-at 88 (x ∷ y ∷ e ∷ r) refl ∙ ap suc (escape-at x (y ∷ e ∷ r) (p .0) ∙ ap suc (escape-at y (e ∷ r) (q .0) ∙ ap suc (find-same e r))))
+      (hex-known x y (omega arith) (omega arith))
+      (hex-meaning ds x y b (p .1) (q .1))
+
+  -- one byte, whatever follows
+  byte-back : (b at : ℕ) (r : List ℕ) → b < 256 → Back b at r (escapeByte ds b)
+  byte-back b at r small = by (ltb (find b ds) 5) refl (printable b) refl
+    where
+      by : (t : Bool) → ltb (find b ds) 5 ≡ t → (u : Bool) → printable b ≡ u → Back b at r (escapeByte ds b)
+      by true p u q =
+          let h = ltb-true (find b ds) 5 p in
+          subst⁻¹ (Back b at r) (written-letter ds b (find b ds) refl h) (letter-read b at r h)
+      by false p true q =
+          let h = ltb-false (find b ds) 5 p in
+          subst⁻¹ (Back b at r) (written-plain ds b h q) (plain-read b at r h q)
+      by false p false q =
+          let h = ltb-false (find b ds) 5 p in
+          subst⁻¹ (Back b at r) (written-hex ds b h q) (hex-read b at r small)
+
+  bytes-back : (t : List ℕ) (at : ℕ) → AreBytes t → scan ds at 0 (escapeBytes ds t) ≡ text t
+  unfolding escapeBytes scan
+  bytes-back [] at small = refl
+  bytes-back (b ∷ t) at small =
+      byte-back b at (escapeBytes ds t) (small 0) ∙ ap (before (b ∷ [])) (bytes-back t (at + length (escapeByte ds b)) (λ i. small (suc i)))
+
+  quotes-back : scan ds 0 0 (twoQuotes ds) ≡ text (34 ∷ 34 ∷ [])
+  unfolding known meaning allHex pairsOf scan
+  quotes-back =
+      let e = escapeOf ds in
+      sequence-back ds 0 (88 ∷ 50 ∷ 50 ∷ 50 ∷ 50 ∷ []) [] (34 ∷ 34 ∷ [])
+      (escape-at 88 (50 ∷ 50 ∷ 50 ∷ 50 ∷ e ∷ []) refl
+      ∙ ap suc (escape-at 50 (50 ∷ 50 ∷ 50 ∷ e ∷ []) refl
+      ∙ ap suc (escape-at 50 (50 ∷ 50 ∷ e ∷ []) refl
+      ∙ ap suc (escape-at 50 (50 ∷ e ∷ []) refl
+      ∙ ap suc (escape-at 50 (e ∷ []) refl
+      ∙ ap suc (find-same e []))))))
+      refl
+      refl
+
+  -- the scan of what is written is the text
+  pub scan-back : (t : List ℕ) → AreBytes t → scan ds 0 0 (escape ds t) ≡ text t
+  scan-back t small = by (isNull t) refl
+    where
+      by : (u : Bool) → isNull t ≡ u → scan ds 0 0 (escape ds t) ≡ text t
+      by true e = ap (scan ds 0 0) (escape-null ds t e) ∙ quotes-back ∙ ap text (sym (two-quotes t e))
+      by false e = ap (scan ds 0 0) (escape-other ds t e) ∙ bytes-back t 0 small
+
+  -- a byte that may not be a delimiter is none
+  absent : (x : ℕ) → permitted x ≡ false → 5 ≤ find x ds
+  absent x f = by (ltb (find x ds) 5) refl
+    where
+      by : (t : Bool) → ltb (find x ds) 5 ≡ t → 5 ≤ find x ds
+      by true e =
+          let h = ltb-true (find x ds) 5 e in
+          let z : true ≡ false = sym (delimiter-permitted ds five fine (find x ds) h) ∙ ap permitted (find-is x ds (omega arith)) ∙ f in
+          false-true (sym z)
+      by false e = ltb-false (find x ds) 5 e
+
+  quotes-plain : scan ds 0 0 (34 ∷ 34 ∷ []) ≡ text (34 ∷ 34 ∷ [])
+  unfolding scan
+  quotes-plain =
+      plain-read 34 0 (34 ∷ []) (absent 34 refl) refl
+      ∙ ap (before (34 ∷ [])) (plain-read 34 (0 + 1) [] (absent 34 refl) refl)
+
+  -- what is written is not null
+  pub never-null : (t : List ℕ) → AreBytes t → isNull (escape ds t) ≡ false
+  never-null t small = by (isNull t) refl (isNull (escapeBytes ds t)) refl
+    where
+      by : (u : Bool) → isNull t ≡ u → (v : Bool) → isNull (escapeBytes ds t) ≡ v → isNull (escape ds t) ≡ false
+      by true e v f = ap isNull (escape-null ds t e)
+      by false e false f = ap isNull (escape-other ds t e) ∙ f
+      by false e true f =
+          let w : text t ≡ text (34 ∷ 34 ∷ []) = sym (bytes-back t 0 small) ∙ ap (scan ds 0 0) (two-quotes (escapeBytes ds t) f) ∙ quotes-plain in
+          let q : t ≡ 34 ∷ 34 ∷ [] = cc in
+          false-true (sym e ∙ ap isNull q)
+
+  -- unescaping what was escaped gives the text again, where there is room for it
+  pub round-trip : (t : List ℕ) (room : ℕ) → AreBytes t → unescaping ds (escape ds t) room ≡ fitting room (text t)
+  unfolding unescaping
+  round-trip t room small =
+      let b : 5 ≤ wrongDelimiter ds = omega arith in
+      rw (le-ltb (wrongDelimiter ds) 5 b) (rw (never-null t small) (rw (scan-back t small)))

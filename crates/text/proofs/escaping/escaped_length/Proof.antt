@@ -1,0 +1,69 @@
+-- Rests on the laws of what is left to write: what was counted and the length of the rest, at each turn.
+use Prim.Native.Nat.{_≤_, _+_, _-_}
+use mathlib.Core.Path.{_≡_, sym, ap, _∙_}
+use lib.ListN.{length, drop}
+use native.Mathlib.Omega.{arith}
+use borrow.Author.Needs.{needs}
+use native.Mathlib.Nat.{zero-add}
+use denote.Ref.{now}
+use Rattle.text.specs.Escape.{escapeBytes}
+use Rattle.text.specs.Answers.{roomFor}
+use Rattle.text.proofs.PieceLaws.{length-next, length-end}
+use Rattle.text.proofs.OutcomeLaws.{room-takes, room-short}
+use Rattle.text.proofs.escaping.escaped_length.Statement.{statement}
+use Rattle.text.proofs.escaping.escaped_length.Tie as tie
+
+abbrev Inv-loop : tie.InvT-loop
+Inv-loop delimiters text room n₀ i₀ n i = (i ≤ length text) × (n ≤ room) × (length (escapeBytes (delimiters .bytes) text) ≡ n + length (escapeBytes (delimiters .bytes) (drop i text)))
+
+abbrev μ-loop : tie.MeasureT-loop
+μ-loop delimiters text room n₀ i₀ n i = length text - i
+
+loop-holds : tie.Need-loop-holds Inv-loop μ-loop
+loop-holds c = (omega arith, omega arith, sym (zero-add _))
+
+returns : tie.Need-returns Inv-loop μ-loop
+returns c =
+    let l = c .before .before .before .before in
+    let a = l .before .before .args in
+    let s = now (a .text) in
+    let i = l .loop .i in
+    let n = length-next (a .delimiters .bytes) s i (omega arith) in
+    let p = c .before .piece-of .ensures .size in
+    room-short (a .room) _ (omega arith)
+
+loop-again : tie.Need-loop-again Inv-loop μ-loop
+loop-again c =
+    let l = c .before .before .before .before in
+    let a = l .before .before .args in
+    let s = now (a .text) in
+    let i = l .loop .i in
+    let n = length-next (a .delimiters .bytes) s i (omega arith) in
+    let p = c .before .piece-of .ensures .size in
+    omega arith
+
+returns-2 : tie.Need-returns-2 Inv-loop μ-loop
+returns-2 c =
+    let l = c .before in
+    let a = l .before .before .args in
+    let s = now (a .text) in
+    let i = l .loop .i in
+    let n = length-end (a .delimiters .bytes) s i (omega arith) in
+    room-takes (a .room) (l .loop .n) (omega arith) ∙ ap (roomFor (a .room)) (omega arith)
+
+pub escaped-length-spec : {M : Type 1} → statement M
+escaped-length-spec =
+    tie.close
+    (tie.spec
+    Inv-loop
+    μ-loop
+    loop-holds
+    (λ c. omega arith)
+    (λ c κs. search needs)
+    (λ c. omega arith)
+    returns
+    (λ c. omega arith)
+    (λ c. omega arith)
+    (λ c. omega arith)
+    loop-again
+    returns-2)

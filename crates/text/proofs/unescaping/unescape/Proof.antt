@@ -1,0 +1,100 @@
+-- Rests on the laws of the outcome: each return is a case of `unescaping`.
+use Prim.Native.Nat.{ℕ}
+use mathlib.Core.Path.{sym, ap, _∙_}
+use lib.ListN.{length}
+use native.Mathlib.Omega.{arith}
+use denote.Ref.{now}
+use borrow.Author.Needs.{needs}
+use Rattle.alphabet.specs.declared.answers.Refusal.the-variants.{None, Delimiter}
+use Rattle.alphabet.specs.declared.answers.Answer.{Answer}
+use Rattle.text.specs.Unescape.{fault, scan}
+use Rattle.text.specs.Answers.{answer, filled, textOf}
+use Rattle.text.proofs.OutcomeLaws.{ended, judged-text, judged-fault, unescaping-bad, unescaping-null, unescaping-fault, unescaping-fits, unescaping-long}
+use Rattle.text.proofs.unescaping.unescape.Statement.{statement}
+use Rattle.text.proofs.unescaping.unescape.Tie as tie
+
+abbrev made : ℕ → Answer
+made n = record { kind = None; place = 0; length = n }
+
+returns : tie.Need-returns
+unfolding answer filled
+returns c =
+    let a = c .before .before .before .before .args in
+    let ds = a .delimiters .bytes in
+    let s = now (a .text) in
+    let d = now (a .buffer) in
+    let e = unescaping-bad ds s (length d) (omega arith) in
+    ended _ _ d (e ∙ ap (fault Delimiter) (sym (c .before .wrong-delimiter .ensures)))
+
+returns-2 : tie.Need-returns-2
+unfolding answer filled
+returns-2 c =
+    let a = c .before .before .before .before .before .before .args in
+    let ds = a .delimiters .bytes in
+    let s = now (a .text) in
+    let d = now (a .buffer) in
+    ended _ _ d (unescaping-null ds s (length d) (omega arith) (sym (c .before .is-null .ensures) ∙ c .if2 .taken))
+
+returns-3 : tie.Need-returns-3
+unfolding answer filled
+returns-3 c =
+    let a = c .before .before .before .before .before .before .before .before .before .before .before .args in
+    let ds = a .delimiters .bytes in
+    let s = now (a .text) in
+    let d = now (a .buffer) in
+    let g = c .before .before .found2 .given in
+    let y = judged-text (scan ds 0 0 s) (g .0 .0) (sym (g .1) ∙ c .before .before .before .before .judge .ensures) in
+    let z = y .1 in
+    ended _ _ d (unescaping-long ds s (length d) (omega arith) (sym (c .before .before .before .before .before .before .is-null .ensures) ∙ c .before .before .before .before .before .if2 .left) (textOf (scan ds 0 0 s)) (y .0) (omega arith))
+
+write-text-requires : tie.Need-write-text-requires
+write-text-requires c κs =
+    let a = c .before .before .before .before .before .before .before .before .before .before .before .before .args in
+    let ds = a .delimiters .bytes in
+    let s = now (a .text) in
+    let d = now (a .buffer) in
+    let g = c .before .before .before .found2 .given in
+    let y = judged-text (scan ds 0 0 s) (g .0 .0) (sym (g .1) ∙ c .before .before .before .before .before .judge .ensures) in
+    let z = y .1 in
+    (y .2, omega arith)
+
+returns-4 : tie.Need-returns-4
+unfolding answer filled
+returns-4 c =
+    let a = c .before .before .before .before .before .before .before .before .before .before .args in
+    let ds = a .delimiters .bytes in
+    let s = now (a .text) in
+    let d = now (a .buffer) in
+    let g = c .before .found .given in
+    let y = judged-fault (scan ds 0 0 s) (g .0 .0) (g .0 .1 .0) (sym (g .1) ∙ c .before .before .before .judge .ensures) in
+    ended _ _ d (unescaping-fault ds s (length d) (omega arith) (sym (c .before .before .before .before .before .is-null .ensures) ∙ c .before .before .before .before .if2 .left) (g .0 .0) (g .0 .1 .0) y)
+
+returns-5 : tie.Need-returns-5
+unfolding answer filled
+returns-5 c =
+    let a = c .before .before .before .before .before .before .before .before .before .before .before .before .before .before .before .args in
+    let ds = a .delimiters .bytes in
+    let s = now (a .text) in
+    let d = now (a .buffer) in
+    let g = c .before .before .before .before .before .before .found2 .given in
+    let y = judged-text (scan ds 0 0 s) (g .0 .0) (sym (g .1) ∙ c .before .before .before .before .before .before .before .before .judge .ensures) in
+    let z = y .1 in
+    let r = ended _ _ d (unescaping-fits ds s (length d) (omega arith) (sym (c .before .before .before .before .before .before .before .before .before .before .is-null .ensures) ∙ c .before .before .before .before .before .before .before .before .before .if2 .left) (textOf (scan ds 0 0 s)) (y .0) (omega arith)) in
+    (ap made (sym z) ∙ r .0, c .before .before .write-text .ensures ∙ r .1)
+
+pub unescape-spec : {M : Type 1} → statement M
+unescape-spec =
+    tie.close
+    (tie.spec
+    (λ c κs. search needs)
+    returns
+    (λ c κs. search needs)
+    returns-2
+    (λ c κs. search needs)
+    (λ c. search needs)
+    (λ c. search needs)
+    returns-3
+    write-text-requires
+    returns-4
+    (λ c. search needs)
+    returns-5)

@@ -1,0 +1,180 @@
+-- Rests on the laws of a rest that has no fault, and of a buffer that is filled from its front: what the rest of the text says is left, at each turn.
+use lib.ListN.{length-append, length-drop, length, getD, take, drop}
+use lib.Seq.{length-take-le}
+use Prim.Native.Nat.{ℕ, _≤_, _<_, _+_, _-_}
+use mathlib.Core.Path.{_≡_, refl, sym, ap, subst⁻¹, _∙_}
+use mathlib.Core.List.{List, [], _∷_, _++_}
+use native.Mathlib.Omega.{arith}
+use borrow.Author.Needs.{needs}
+use denote.Ref.{now}
+use mathlib.Core.Bool.{true}
+use Rattle.alphabet.proofs.ListLaws.{rest-of}
+use Rattle.alphabet.specs.Lists.{find}
+use Rattle.text.specs.Escape.{escapeOf}
+use Rattle.text.specs.Unescape.{known, meaning, emit, step, scan}
+use Rattle.text.specs.Answers.{isText, textOf}
+use Rattle.text.proofs.FillingLaws.{Filling, fill-start, fill-more, fill-room, fill-length, fill-end, set-pasted}
+use Rattle.text.proofs.StepLaws.{step-known, scan-end, text-past, text-opens, text-plain}
+use Rattle.text.proofs.unescaping.write_text.Statement.{statement}
+use Rattle.text.proofs.unescaping.write_text.Tie as tie
+
+abbrev Inv-loop : tie.InvT-loop
+Inv-loop delimiters text buffer₀ mark place₀ i₀ buffer place i = (i ≤ length text) × (isText (scan (delimiters .bytes) i 0 (drop i text)) ≡ true) × Filling (textOf (scan (delimiters .bytes) 0 0 text)) buffer₀ (textOf (scan (delimiters .bytes) i 0 (drop i text))) buffer place
+
+abbrev μ-loop : tie.MeasureT-loop
+μ-loop delimiters text buffer₀ mark place₀ i₀ buffer place i = length text - i
+
+abbrev S : tie.At-loop Inv-loop μ-loop → List ℕ
+S l = now (l .before .before .before .before .args .text)
+
+abbrev Ds : tie.At-loop Inv-loop μ-loop → List ℕ
+Ds l = l .before .before .before .before .args .delimiters .bytes
+
+-- the rest after the byte at the loop's place, as the code takes it
+abbrev R : tie.At-loop Inv-loop μ-loop → List ℕ
+R l = take (length (S l) - (l .loop .i + 1)) (drop (l .loop .i + 1) (S l))
+
+abbrev Opens : tie.At-loop Inv-loop μ-loop → ℕ → List ℕ → Type 0
+Opens l n r = (n < length r) × (known (take n r) ≡ true) × (step (Ds l) (getD (S l) (l .loop .i) 0) (drop (l .loop .i + 1) (S l)) ≡ emit (meaning (Ds l) (take n r)) (n + 1))
+
+kept : (l : tie.At-loop Inv-loop μ-loop) → length (l .loop .buffer) ≡ length (now (l .before .before .before .before .args .buffer))
+kept l = fill-length (l .loop .inv .2) (l .before .before .before .before .pre .1)
+
+-- a sequence that opens there
+opened : (k : tie.After-find Inv-loop μ-loop) → Opens (k .before .before .before .before .before) (k .find .result) (R (k .before .before .before .before .before))
+opened k =
+    let l = k .before .before .before .before .before in
+    let s = S l in
+    let i = l .loop .i in
+    let n = k .find .result in
+    let e = escapeOf (Ds l) in
+    let r = drop (i + 1) s in
+    let q = rest-of s (i + 1) in
+    let x = k .before .before .if1 .taken in
+    let m : n ≡ find e r = k .find .ensures ∙ ap (find e) q in
+    let o = text-opens (Ds l) s i (k .before .before .before .before .loop-test .taken) (l .loop .inv .1) x in
+    let h : n < length r = subst⁻¹ (λ (z : ℕ). z < length r) m (o .0) in
+    let w : known (take n r) ≡ true = subst⁻¹ (λ (z : ℕ). known (take z r) ≡ true) m (o .1) in
+    subst⁻¹ (Opens l n) q (h, w, step-known (Ds l) (getD s i 0) r n x (sym m) h w)
+
+-- the text behind it
+behind : (k : tie.After-find Inv-loop μ-loop) →
+    let l = k .before .before .before .before .before in
+    let n = k .find .result in
+    let i′ = l .loop .i + 1 + n + 1 in
+    (isText (scan (Ds l) i′ 0 (drop i′ (S l))) ≡ true) × (textOf (scan (Ds l) (l .loop .i) 0 (drop (l .loop .i) (S l))) ≡ meaning (Ds l) (take n (R l)) ++ textOf (scan (Ds l) i′ 0 (drop i′ (S l))))
+behind k =
+    let l = k .before .before .before .before .before in
+    let n = k .find .result in
+    text-past (Ds l) (S l) (l .loop .i) (k .before .before .before .before .loop-test .taken) (l .loop .inv .1) (l .loop .i + 1 + n + 1) (n + 1) (meaning (Ds l) (take n (R l))) (opened k .2) (omega arith)
+
+-- the end of the sequence is within the text
+short : (k : tie.After-find Inv-loop μ-loop) → k .before .before .before .before .before .loop .i + 1 + k .find .result + 1 ≤ length (S (k .before .before .before .before .before))
+short k =
+    let l = k .before .before .before .before .before in
+    let h = opened k .0 in
+    let q = ap length (rest-of (S l) (l .loop .i + 1)) in
+    let d = length-drop (l .loop .i + 1) (S l) in
+    omega arith
+
+-- a plain byte
+plain : (k : tie.Else1 Inv-loop μ-loop) →
+    let l = k .before .before .before in
+    (isText (scan (Ds l) (l .loop .i + 1) 0 (drop (l .loop .i + 1) (S l))) ≡ true) × (textOf (scan (Ds l) (l .loop .i) 0 (drop (l .loop .i) (S l))) ≡ (getD (S l) (l .loop .i) 0 ∷ []) ++ textOf (scan (Ds l) (l .loop .i + 1) 0 (drop (l .loop .i + 1) (S l))))
+plain k =
+    let l = k .before .before .before in
+    let h = k .before .before .loop-test .taken in
+    let g = l .loop .inv .1 in
+    text-past (Ds l) (S l) (l .loop .i) h g (l .loop .i + 1) 0 (getD (S l) (l .loop .i) 0 ∷ []) (text-plain (Ds l) (S l) (l .loop .i) h g (k .if1 .left)) (omega arith)
+
+loop-holds : tie.Need-loop-holds Inv-loop μ-loop
+loop-holds c = (omega arith, c .before .before .before .pre .0, fill-start _ _)
+
+slice-aggregate-put-meaning : tie.Need-slice-aggregate-put-meaning Inv-loop μ-loop
+slice-aggregate-put-meaning c = sym (length-take-le _ _ (let h = opened (c .before) .0 in omega arith))
+
+put-meaning-requires : tie.Need-put-meaning-requires Inv-loop μ-loop
+put-meaning-requires c κs =
+    let k = c .before .before in
+    let l = k .before .before .before .before .before in
+    let o = opened k in
+    let t = ap length (behind k .1) in
+    let n = length-append (meaning (Ds l) (take (k .find .result) (R l))) (textOf (scan (Ds l) (l .loop .i + 1 + k .find .result + 1) 0 (drop (l .loop .i + 1 + k .find .result + 1) (S l)))) in
+    let r = fill-room (l .loop .inv .2) in
+    let q = kept l in
+    (o .1, omega (arith, l .before .before .before .before .pre .1))
+
+add-i : tie.Need-add-i Inv-loop μ-loop
+add-i c = let h = short (c .before .before .before .before .before) in omega arith
+
+add-i-2 : tie.Need-add-i-2 Inv-loop μ-loop
+add-i-2 c = let h = short (c .before .before .before .before .before) in omega arith
+
+loop-less : tie.Need-loop-less Inv-loop μ-loop
+loop-less c = let h = short (c .before .before .before .before .before) in omega arith
+
+loop-again : tie.Need-loop-again Inv-loop μ-loop
+loop-again c =
+    let k = c .before .before .before .before .before in
+    let l = k .before .before .before .before .before in
+    let m = behind k in
+    (short k, m .0, fill-more _ _ _ _ (l .loop .inv .2) (m .1) (c .before .before .put-meaning .ensures .1) (c .before .before .put-meaning .ensures .0))
+
+slice-write-buffer : tie.Need-slice-write-buffer Inv-loop μ-loop
+slice-write-buffer c =
+    let l = c .before .before .before in
+    let t = ap length (plain c .1) in
+    let r = fill-room (l .loop .inv .2) in
+    let q = kept l in
+    omega (arith, l .before .before .before .before .pre .1)
+
+add-place : tie.Need-add-place Inv-loop μ-loop
+add-place c =
+    let l = c .before .before .before in
+    let t = ap length (plain c .1) in
+    let r = fill-room (l .loop .inv .2) in
+    let q = kept l in
+    omega (arith, l .before .before .before .before .pre .1)
+
+loop-again-2 : tie.Need-loop-again-2 Inv-loop μ-loop
+loop-again-2 c =
+    let l = c .before .before .before in
+    let m = plain c in
+    (omega arith, m .0, fill-more _ _ _ _ (l .loop .inv .2) (m .1) (set-pasted (l .loop .buffer) (l .loop .place) (getD (S l) (l .loop .i) 0) (slice-write-buffer c)) refl)
+
+same-length : tie.Need-same-length Inv-loop μ-loop
+same-length c = kept (c .before)
+
+returns : tie.Need-returns Inv-loop μ-loop
+unfolding textOf
+returns c =
+    let l = c .before in
+    fill-end (l .loop .inv .2) (ap textOf (scan-end (Ds l) (S l) (l .loop .i) (omega arith)))
+
+pub write-text-spec : {M : Type 1} → statement M
+write-text-spec =
+    tie.close
+    (tie.spec
+    Inv-loop
+    μ-loop
+    (λ c. search needs)
+    loop-holds
+    (λ c. omega arith)
+    (λ c. omega arith)
+    (λ c. omega arith)
+    (λ c. omega arith)
+    (λ c. omega arith)
+    (λ c κs. search needs)
+    slice-aggregate-put-meaning
+    put-meaning-requires
+    add-i
+    add-i-2
+    loop-less
+    loop-again
+    slice-write-buffer
+    add-place
+    (λ c. omega arith)
+    (λ c. omega arith)
+    loop-again-2
+    same-length
+    returns)

@@ -1,0 +1,83 @@
+-- The outcome of escaping and of unescaping, by document 01, 'Numbers given back', and what an outcome makes of the answer and of the buffer.
+-- The last part says of each private function what it gives.
+use Prim.Native.Nat.{ℕ, _+_, _≤_}
+use mathlib.Core.Path.{_≡_}
+use mathlib.Core.List.{List, [], _++_}
+use mathlib.Core.Bool.{Bool, true, false, cond}
+use lib.ListN.{length, take, drop}
+use lib.Dec.{leb, ltb}
+use Rattle.alphabet.specs.Bytes.{isNull}
+use Rattle.alphabet.specs.Delimiters.{wrongDelimiter}
+use Rattle.alphabet.specs.declared.answers.Refusal.the-variants.{None, Delimiter, TextTooLong, NullText}
+use Rattle.alphabet.specs.declared.answers.Answer.{Answer}
+use Rattle.text.specs.Escape.{escapeByte, escape}
+use Rattle.text.specs.Unescape.{Step, stop, emit, Outcome, text, fault, scan}
+use Rattle.text.specs.declared.pieces.Piece.{Piece}
+use Rattle.text.specs.declared.escaping.Room.{Room}
+use Rattle.text.specs.declared.escaping.Room.the-variants.{Takes, Short}
+use Rattle.text.specs.declared.unescaping.Found.{Found}
+use Rattle.text.specs.declared.unescaping.Judged.{Judged}
+
+-- "result longer than the buffer", which has room for `room` bytes; its place is "else 0"
+unfoldable pub fitting : ℕ → Outcome → Outcome
+fitting room (fault k p) = fault k p
+fitting room (text t) = cond (leb (length t) room) (text t) (fault TextTooLong 0)
+
+-- "Escaping: 3, then 14."
+unfoldable pub escaping : List ℕ → List ℕ → ℕ → Outcome
+escaping ds t room =
+    cond (ltb (wrongDelimiter ds) 5) (fault Delimiter (wrongDelimiter ds)) (fitting room (text (escape ds t)))
+
+-- "Unescaping: 3, then 15, then the leftmost of 4, 11, 12, 13, then 14."
+unfoldable pub unescaping : List ℕ → List ℕ → ℕ → Outcome
+unescaping ds s room =
+    cond (ltb (wrongDelimiter ds) 5) (fault Delimiter (wrongDelimiter ds))
+    (cond (isNull s) (fault NullText 0) (fitting room (scan ds 0 0 s)))
+
+-- "its length is given"; "A refusal gives number and place, length 0"
+unfoldable pub answer : Outcome → Answer
+answer (text t) = record { kind = None; place = 0; length = length t }
+answer (fault k p) = record { kind = k; place = p; length = 0 }
+
+-- the buffer d with w over its front, and "the bytes behind it stay"
+abbrev pub over : List ℕ → List ℕ → List ℕ
+over w d = w ++ drop (length w) d
+
+-- "A written text fills the front of its buffer"; a refusal "writes nothing"
+unfoldable pub filled : Outcome → List ℕ → List ℕ
+filled (text t) d = over t d
+filled (fault k p) d = d
+
+-- whether there is a text, and the text
+unfoldable pub isText : Outcome → Bool
+isText (text t) = true
+isText (fault k p) = false
+
+unfoldable pub textOf : Outcome → List ℕ
+textOf (text t) = t
+textOf (fault k p) = []
+
+-- ---- what the private functions give
+
+-- a piece is what the byte b is written as
+pub record PieceIs (ds : List ℕ) (b : ℕ) (p : Piece) : Type 0 where
+  pub says : take (p .length) (p .bytes) ≡ escapeByte ds b
+  pub size : p .length ≡ length (escapeByte ds b)
+  pub small : p .length ≤ 5
+
+-- whether n bytes go into `room`
+unfoldable pub roomFor : ℕ → ℕ → Room
+roomFor room n = cond (leb n room) (Takes n) Short
+
+-- d with s in it from place `at` on
+abbrev pub pasted : List ℕ → ℕ → List ℕ → List ℕ
+pasted d at s = take at d ++ s ++ drop (at + length s) d
+
+-- what the judge gives of a step, and of a whole text
+unfoldable pub seen : Step → Found
+seen (stop k) = Found.Fault k
+seen (emit xs k) = Found.Bytes (length xs) k
+
+unfoldable pub judged : Outcome → Judged
+judged (text t) = Judged.Text (length t)
+judged (fault k p) = Judged.Fault k p

@@ -1,0 +1,116 @@
+// Writing a text: it is measured first, so that a text that does not fit writes nothing.
+use crate::pieces::piece_of;
+use alphabet::Answer;
+use alphabet::Delimiters;
+use alphabet::Refusal;
+ghost use mathlib.Core.Path.{_≡_};
+ghost use Prim.Native.Nat.{_+_, _≤_};
+ghost use lib.ListN.{length};
+ghost use Rattle.text.specs.Escape.{escapeBytes};
+ghost use Rattle.text.specs.Answers.{roomFor, pasted, over, escaping, answer, filled};
+
+// Whether something of a length goes into a room.
+pub enum Room {
+    Takes(usize),
+    Short,
+}
+
+// Copies the source into the buffer from `at` on, and returns the place behind it.
+fn put(buffer: &mut [u8], at: usize, source: &[u8]) -> usize
+    requires { ⌜ at + length (now source) ≤ length (now buffer) ⌝ }
+    ensures { λ r. ⌜ r ≡ at + length (now (source .entry)) ⌝ }
+    ensures { λ _. ⌜ now (buffer .exit) ≡ pasted (now (buffer .entry)) at (now (source .entry)) ⌝ }
+{
+    let mut i = 0;
+    let mut place = at;
+    while i < source.len() {
+        buffer[place] = source[i];
+        place += 1;
+        i += 1;
+    }
+    place
+}
+
+// The length of a text as it is written, byte by byte, where that is at most `room`. It is counted against the room, since
+// five times a length need not be a usize.
+fn escaped_length(delimiters: Delimiters, text: &[u8], room: usize) -> Room
+    ensures { λ r. ⌜ r ≡ roomFor room (length (escapeBytes (delimiters .bytes) (now (text .entry)))) ⌝ }
+{
+    let mut n = 0;
+    let mut i = 0;
+    while i < text.len() {
+        let piece = piece_of(delimiters, text[i]);
+        let more = piece.length;
+        if room - n < more {
+            return Room::Short;
+        }
+        n += more;
+        i += 1;
+    }
+    Room::Takes(n)
+}
+
+// Writes a text, byte by byte, to the front of the buffer.
+fn write_escaped(delimiters: Delimiters, text: &[u8], buffer: &mut [u8])
+    requires { ⌜ length (escapeBytes (delimiters .bytes) (now text)) ≤ length (now buffer) ⌝ }
+    ensures { λ _. ⌜ now (buffer .exit) ≡ over (escapeBytes (delimiters .bytes) (now (text .entry))) (now (buffer .entry)) ⌝ }
+{
+    let mut place = 0;
+    let mut i = 0;
+    while i < text.len() {
+        let piece = piece_of(delimiters, text[i]);
+        let more = piece.length;
+        let bytes = piece.bytes;
+        place = put(buffer, place, &bytes[..more]);
+        i += 1;
+    }
+}
+
+// Writes a text to the front of the buffer.
+pub fn escape(delimiters: Delimiters, text: &[u8], buffer: &mut [u8]) -> Answer
+    ensures { λ r. ⌜ r ≡ answer (escaping (delimiters .bytes) (now (text .entry)) (length (now (buffer .entry)))) ⌝ }
+    ensures { λ _. ⌜ now (buffer .exit) ≡ filled (escaping (delimiters .bytes) (now (text .entry)) (length (now (buffer .entry)))) (now (buffer .entry)) ⌝ }
+{
+    let wrong = alphabet::wrong_delimiter(delimiters);
+    if wrong < 5 {
+        return Answer {
+            kind: Refusal::Delimiter,
+            place: wrong,
+            length: 0,
+        };
+    }
+    if alphabet::is_null(text) {
+        if buffer.len() < 7 {
+            return Answer {
+                kind: Refusal::TextTooLong,
+                place: 0,
+                length: 0,
+            };
+        }
+        let five = delimiters.bytes;
+        let mark = five[3];
+        let quotes = [mark, 88, 50, 50, 50, 50, mark];
+        put(buffer, 0, &quotes);
+        return Answer {
+            kind: Refusal::None,
+            place: 0,
+            length: 7,
+        };
+    }
+    let size = escaped_length(delimiters, text, buffer.len());
+    match size {
+        Room::Short => Answer {
+            kind: Refusal::TextTooLong,
+            place: 0,
+            length: 0,
+        },
+        Room::Takes(n) => {
+            write_escaped(delimiters, text, buffer);
+            Answer {
+                kind: Refusal::None,
+                place: 0,
+                length: n,
+            }
+        }
+    }
+}

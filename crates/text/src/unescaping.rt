@@ -1,0 +1,158 @@
+// Reading a text: from the left, a sequence judged whole at its opening byte. It is judged to its end before anything is
+// written, so that a refusal writes nothing.
+use crate::pieces::place_of;
+use crate::sequences::is_known;
+use crate::sequences::put_meaning;
+use alphabet::Answer;
+use alphabet::Delimiters;
+use alphabet::Refusal;
+ghost use mathlib.Core.Path.{_≡_};
+ghost use mathlib.Core.Bool.{true};
+ghost use Prim.Native.Nat.{_+_, _≤_, _<_};
+ghost use lib.ListN.{length, getD, drop};
+ghost use Rattle.text.specs.Unescape.{step, scan};
+ghost use Rattle.text.specs.Answers.{isText, textOf, seen, judged, over, unescaping, answer, filled};
+
+// What stands at a place of a text: a fault, or bytes, as many as `length`, with `skip` bytes more after the first.
+pub enum Found {
+    Fault(Refusal),
+    Bytes { length: usize, skip: usize },
+}
+
+// What a whole text is: its length, or its first fault and the place.
+pub enum Judged {
+    Text(usize),
+    Fault { kind: Refusal, place: usize },
+}
+
+// What stands at the place i.
+fn step_at(delimiters: Delimiters, text: &[u8], i: usize) -> Found
+    requires { ⌜ i < length (now text) ⌝ }
+    ensures { λ r. ⌜ r ≡ seen (step (delimiters .bytes) (getD (now (text .entry)) i 0) (drop (i + 1) (now (text .entry)))) ⌝ }
+{
+    let five = delimiters.bytes;
+    let mark = five[3];
+    let b = text[i];
+    if b == mark {
+        let from = i + 1;
+        let rest = &text[from..];
+        let n = alphabet::find(rest, mark);
+        if n < rest.len() {
+            if is_known(&rest[..n]) {
+                if n < 3 {
+                    return Found::Bytes {
+                        length: 1,
+                        skip: n + 1,
+                    };
+                }
+                return Found::Bytes {
+                    length: n / 2,
+                    skip: n + 1,
+                };
+            }
+            return Found::Fault(Refusal::UnknownEscape);
+        }
+        return Found::Fault(Refusal::UnclosedEscape);
+    }
+    if alphabet::is_printable(b) {
+        if place_of(delimiters, b) < 5 {
+            return Found::Fault(Refusal::Separator);
+        }
+        return Found::Bytes { length: 1, skip: 0 };
+    }
+    Found::Fault(Refusal::NotAllowed)
+}
+
+// The text's length, or its first fault.
+fn judge(delimiters: Delimiters, text: &[u8]) -> Judged
+    ensures { λ r. ⌜ r ≡ judged (scan (delimiters .bytes) 0 0 (now (text .entry))) ⌝ }
+{
+    let mut n = 0;
+    let mut i = 0;
+    while i < text.len() {
+        let found = step_at(delimiters, text, i);
+        match found {
+            Found::Fault(kind) => {
+                return Judged::Fault {
+                    kind: kind,
+                    place: i,
+                };
+            }
+            Found::Bytes { length, skip } => {
+                n += length;
+                i = i + 1 + skip;
+            }
+        }
+    }
+    Judged::Text(n)
+}
+
+// Writes what a text with no fault says to the front of the buffer.
+fn write_text(delimiters: Delimiters, text: &[u8], buffer: &mut [u8])
+    requires { ⌜ (isText (scan (delimiters .bytes) 0 0 (now text)) ≡ true) × (length (textOf (scan (delimiters .bytes) 0 0 (now text))) ≤ length (now buffer)) ⌝ }
+    ensures { λ _. ⌜ now (buffer .exit) ≡ over (textOf (scan (delimiters .bytes) 0 0 (now (text .entry)))) (now (buffer .entry)) ⌝ }
+{
+    let five = delimiters.bytes;
+    let mark = five[3];
+    let mut place = 0;
+    let mut i = 0;
+    while i < text.len() {
+        let b = text[i];
+        if b == mark {
+            let from = i + 1;
+            let rest = &text[from..];
+            let n = alphabet::find(rest, mark);
+            place = put_meaning(delimiters, &rest[..n], buffer, place);
+            i = from + n + 1;
+        } else {
+            buffer[place] = b;
+            place += 1;
+            i += 1;
+        }
+    }
+}
+
+// Reads a text, and writes what it says to the front of the buffer.
+pub fn unescape(delimiters: Delimiters, text: &[u8], buffer: &mut [u8]) -> Answer
+    ensures { λ r. ⌜ r ≡ answer (unescaping (delimiters .bytes) (now (text .entry)) (length (now (buffer .entry)))) ⌝ }
+    ensures { λ _. ⌜ now (buffer .exit) ≡ filled (unescaping (delimiters .bytes) (now (text .entry)) (length (now (buffer .entry)))) (now (buffer .entry)) ⌝ }
+{
+    let wrong = alphabet::wrong_delimiter(delimiters);
+    if wrong < 5 {
+        return Answer {
+            kind: Refusal::Delimiter,
+            place: wrong,
+            length: 0,
+        };
+    }
+    if alphabet::is_null(text) {
+        return Answer {
+            kind: Refusal::NullText,
+            place: 0,
+            length: 0,
+        };
+    }
+    let found = judge(delimiters, text);
+    match found {
+        Judged::Fault { kind, place } => Answer {
+            kind: kind,
+            place: place,
+            length: 0,
+        },
+        Judged::Text(n) => {
+            if buffer.len() < n {
+                return Answer {
+                    kind: Refusal::TextTooLong,
+                    place: 0,
+                    length: 0,
+                };
+            }
+            write_text(delimiters, text, buffer);
+            Answer {
+                kind: Refusal::None,
+                place: 0,
+                length: n,
+            }
+        }
+    }
+}
