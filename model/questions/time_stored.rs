@@ -1,4 +1,4 @@
-//! The stored questions of the verbs `dt`, `tm` and `ts`: the days at the edges of every month,
+//! The stored questions of the verbs `dt`, `tm` and `ts`: every day of the months of four years,
 //! each part at its limits, every length with and without fraction and offset, and damage at every
 //! place.
 
@@ -29,12 +29,12 @@ fn question(verb: &str, text: &str) -> Bytes {
     field_question(verb, text.as_bytes())
 }
 
-/// The days 0, 1 and 28 to 32 of the months 0 to 13, in a year of each kind.
+/// The days 0 to 32 of the months 0 to 13, in a year of each kind.
 fn days() -> Vec<Bytes> {
     let mut lines = Vec::new();
     for year in [1900, 2000, 2023, 2024] {
         for month in 0..=13 {
-            for day in [0, 1, 28, 29, 30, 31, 32] {
+            for day in 0..=32 {
                 lines.push(question("dt", &format!("{year}{month:02}{day:02}")));
             }
         }
@@ -171,7 +171,8 @@ fn fractions() -> Vec<Bytes> {
     lines
 }
 
-/// "Offset hours 00-14 and offset minutes 00-59 (house)": every quarter of an hour, and the edges.
+/// "Offset hours 00-14 and offset minutes 00-59 (house)": every minute from -1459 to +1459 behind an
+/// hour, every quarter of an hour behind a year, and the edges.
 fn offsets() -> Vec<Bytes> {
     let mut lines = Vec::new();
     for sign in ["+", "-"] {
@@ -179,7 +180,9 @@ fn offsets() -> Vec<Bytes> {
             for minutes in [0, 15, 30, 45] {
                 lines.push(question("ts", &format!("2024{sign}{hours:02}{minutes:02}")));
             }
-            lines.push(question("tm", &format!("09{sign}{hours:02}30")));
+            for minutes in 0..=59 {
+                lines.push(question("tm", &format!("09{sign}{hours:02}{minutes:02}")));
+            }
         }
         for offset in [
             "0000", "0001", "0059", "0060", "0099", "1359", "1360", "1400", "1401", "1459", "1460",

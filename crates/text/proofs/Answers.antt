@@ -1,4 +1,4 @@
--- The numberOf 0 is given back exactly where there is a text; and what the contracts of `escape` and `unescape` say leaves one answer and one buffer. Assumes nothing.
+-- The number 0 is given back exactly where there is a text; and what the contracts of `escape` and `unescape` say leaves one answer and one buffer. Assumes nothing.
 use mathlib.Core.Path.{_≡_, refl, sym, _∙_}
 use mathlib.Core.List.{List, [], _∷_}
 use mathlib.Core.Bool.{Bool, true, false, cond}
@@ -17,7 +17,7 @@ use Rattle.text.specs.Escape.{escapeOf, escape}
 use Rattle.text.specs.Unescape.{known, meaning, Step, stop, emit, sequence, step, Outcome, text, fault, before, after, scan}
 use Rattle.text.specs.Answers.{fitting, escaping, unescaping, answer, filled, isText}
 
--- a fault has a numberOf
+-- a fault has a number
 abbrev Numbered : Outcome → Type 0
 Numbered (text t) = Unit {0}
 Numbered (fault k p) = numberOf k ≡ 0 → ⊥

@@ -7,3 +7,4 @@ pub mod TableLaws
 pub mod RoundTrip
 pub mod Grammar
 pub mod Answers
+pub mod Clean

@@ -141,7 +141,7 @@ module _ (ds : List ℕ) (five : length ds ≡ 5) (fine : wrongDelimiter ds ≡ 
       by false e = ap (scan ds 0 0) (escape-other ds t e) ∙ bytes-back t 0 small
 
   -- a byte that may not be a delimiter is none
-  absent : (x : ℕ) → permitted x ≡ false → 5 ≤ find x ds
+  pub absent : (x : ℕ) → permitted x ≡ false → 5 ≤ find x ds
   absent x f = by (ltb (find x ds) 5) refl
     where
       by : (t : Bool) → ltb (find x ds) 5 ≡ t → 5 ≤ find x ds

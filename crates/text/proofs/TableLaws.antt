@@ -10,11 +10,11 @@ use borrow.Author.Tests.{eqb-true, eqb-false, not-true}
 use Rattle.alphabet.proofs.BoolLaws.{false-true, and-both}
 use Rattle.alphabet.proofs.DelimiterLaws.{delimiter-permitted}
 use Rattle.alphabet.specs.Lists.{first, find}
-use Rattle.alphabet.specs.Bytes.{hexOf, hexDigit}
+use Rattle.alphabet.specs.Bytes.{printable, hexOf, hexDigit}
 use Rattle.alphabet.specs.Delimiters.{permitted, wrongDelimiter}
 use Rattle.text.specs.Escape.{letters, escapeOf}
 
--- ---- a test of every numberOf below n, computed
+-- ---- a test of every number below n, computed
 
 every : ℕ → (ℕ → Bool) → Bool
 every zero P = true
@@ -48,6 +48,14 @@ unfolding digitTest every
 digit-back n h =
     let b = and-both (not (permitted (hexDigit n))) (eqb (hexOf (hexDigit n)) n) (every-at 16 digitTest refl n h) in
     (not-true _ (b .0), eqb-true _ _ (b .1))
+
+pub letter-printable : (i : ℕ) → i < 5 → printable (getD letters i 0) ≡ true
+unfolding every
+letter-printable i h = every-at 5 (λ (n : ℕ). printable (getD letters n 0)) refl i h
+
+pub digit-printable : (n : ℕ) → n < 16 → printable (hexDigit n) ≡ true
+unfolding every
+digit-printable n h = every-at 16 (λ (k : ℕ). printable (hexDigit k)) refl n h
 
 -- ---- five delimiters with no fault
 
