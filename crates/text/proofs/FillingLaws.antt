@@ -4,7 +4,7 @@ use mathlib.Core.Path.{_≡_, refl, sym, ap, _∙_}
 use mathlib.Core.List.{List, [], _∷_, _++_, append-assoc, append-nil}
 use Prim.Native.Nat.{ℕ, suc, _+_, _-_, _≤_, _<_}
 use native.Mathlib.Omega.{arith}
-use lib.ListN.{length, getD, take, drop, set, take-append-drop, drop-of-length-le, length-append, length-drop}
+use lib.ListN.{length, getD, take, drop, set, take-append-drop, drop-of-length-le, length-append, length-drop, length-set}
 use lib.Seq.{take-at, drop-at, drop-drop, length-take-le, set-split, append-snoc, paste, paste-suc, take-length}
 use native.Mathlib.Numerals.{add-one}
 use borrow.Rule.Slice.PartMut.{putMid, postOf}
@@ -68,6 +68,30 @@ fill-from-end W at {d} {rest} {d′} {o} f h e =
 -- one byte
 pub set-pasted : (d : List ℕ) (o v : ℕ) → o < length d → set d o v ≡ pasted d o (v ∷ [])
 set-pasted d o v h = set-split d o v h ∙ sym (append-snoc (take o d) v (drop (suc o) d)) ∙ ap (λ (k : ℕ). take o d ++ (v ∷ []) ++ drop k d) (sym (add-one o))
+
+-- ---- bytes that are set one behind another
+
+next-set : {W d rest d′ : List ℕ} {o : ℕ} (v p : ℕ) → Filling W d (v ∷ rest) d′ o → o < length d → length d′ ≡ length d → p ≡ o + 1
+    → Filling W d rest (set d′ o v) p × (length (set d′ o v) ≡ length d)
+next-set {rest = rest} {d′ = d′} {o = o} v p f h n e = (fill-more (v ∷ []) rest _ p f refl (set-pasted d′ o v (omega arith)) e, simp length-set n)
+
+module _ (d : List ℕ) (at : ℕ) where
+  pub three-pasted : (x y z : ℕ) → at + 3 ≤ length d → set (set (set d at x) (at + 1) y) (at + 2) z ≡ pasted d at (x ∷ y ∷ z ∷ [])
+  three-pasted x y z h =
+      let f₁ = next-set x (at + 1) (fill-from (x ∷ y ∷ z ∷ []) d at (omega arith)) (omega arith) refl refl in
+      let f₂ = next-set y (at + 2) (f₁ .0) (omega arith) (f₁ .1) (omega arith) in
+      let f₃ = next-set z (at + 3) (f₂ .0) (omega arith) (f₂ .1) (omega arith) in
+      fill-from-end (x ∷ y ∷ z ∷ []) at (f₃ .0) (omega arith) refl .1
+
+  pub five-pasted : (x y z v w : ℕ) → at + 5 ≤ length d
+      → set (set (set (set (set d at x) (at + 1) y) (at + 2) z) (at + 3) v) (at + 4) w ≡ pasted d at (x ∷ y ∷ z ∷ v ∷ w ∷ [])
+  five-pasted x y z v w h =
+      let f₁ = next-set x (at + 1) (fill-from (x ∷ y ∷ z ∷ v ∷ w ∷ []) d at (omega arith)) (omega arith) refl refl in
+      let f₂ = next-set y (at + 2) (f₁ .0) (omega arith) (f₁ .1) (omega arith) in
+      let f₃ = next-set z (at + 3) (f₂ .0) (omega arith) (f₂ .1) (omega arith) in
+      let f₄ = next-set v (at + 4) (f₃ .0) (omega arith) (f₃ .1) (omega arith) in
+      let f₅ = next-set w (at + 5) (f₄ .0) (omega arith) (f₄ .1) (omega arith) in
+      fill-from-end (x ∷ y ∷ z ∷ v ∷ w ∷ []) at (f₅ .0) (omega arith) refl .1
 
 -- ---- a part `&mut d[at..]` that was lent: the whole when it comes back
 

@@ -10,9 +10,8 @@ use Rattle.alphabet.specs.Bytes.{isNull}
 use Rattle.alphabet.specs.Delimiters.{wrongDelimiter}
 use Rattle.alphabet.specs.declared.answers.Refusal.the-variants.{None, Delimiter, TextTooLong, NullText}
 use Rattle.alphabet.specs.declared.answers.Answer.{Answer}
-use Rattle.text.specs.Escape.{escapeByte, escape}
+use Rattle.text.specs.Escape.{escape}
 use Rattle.text.specs.Unescape.{Step, stop, emit, Outcome, text, fault, scan}
-use Rattle.text.specs.declared.pieces.Piece.{Piece}
 use Rattle.text.specs.declared.escaping.Room.{Room}
 use Rattle.text.specs.declared.escaping.Room.the-variants.{Takes, Short}
 use Rattle.text.specs.declared.unescaping.Found.{Found}
@@ -58,12 +57,6 @@ textOf (text t) = t
 textOf (fault k p) = []
 
 -- ---- what the private functions give
-
--- a piece is what the byte b is written as
-pub record PieceIs (ds : List ℕ) (b : ℕ) (p : Piece) : Type 0 where
-  pub says : take (p .length) (p .bytes) ≡ escapeByte ds b
-  pub size : p .length ≡ length (escapeByte ds b)
-  pub small : p .length ≤ 5
 
 -- whether n bytes go into `room`
 unfoldable pub roomFor : ℕ → ℕ → Room

@@ -1,5 +1,6 @@
 // Writing a text: it is measured first, so that a text that does not fit writes nothing.
-use crate::pieces::piece_of;
+use crate::pieces::put_written;
+use crate::pieces::written_length;
 use alphabet::Answer;
 use alphabet::Delimiters;
 use alphabet::Refusal;
@@ -39,8 +40,7 @@ fn escaped_length(delimiters: Delimiters, text: &[u8], room: usize) -> Room
     let mut n = 0;
     let mut i = 0;
     while i < text.len() {
-        let piece = piece_of(delimiters, text[i]);
-        let more = piece.length;
+        let more = written_length(delimiters, text[i]);
         if room - n < more {
             return Room::Short;
         }
@@ -58,10 +58,7 @@ fn write_escaped(delimiters: Delimiters, text: &[u8], buffer: &mut [u8])
     let mut place = 0;
     let mut i = 0;
     while i < text.len() {
-        let piece = piece_of(delimiters, text[i]);
-        let more = piece.length;
-        let bytes = piece.bytes;
-        place = put(buffer, place, &bytes[..more]);
+        place = put_written(delimiters, text[i], buffer, place);
         i += 1;
     }
 }

@@ -2,17 +2,14 @@
 // and any other byte plainly.
 use alphabet::Delimiters;
 ghost use mathlib.Core.Path.{_≡_};
+ghost use Prim.Native.Nat.{_+_, _≤_};
+ghost use lib.ListN.{length};
 ghost use Rattle.alphabet.specs.Lists.{find};
-ghost use Rattle.text.specs.Answers.{PieceIs};
+ghost use Rattle.text.specs.Escape.{escapeByte};
+ghost use Rattle.text.specs.Answers.{pasted};
 
 // The letter of each delimiter, in the delimiters' order: F S R E T.
 pub const LETTERS: [u8; 5] = [70, 83, 82, 69, 84];
-
-// The first `length` of `bytes`.
-pub struct Piece {
-    pub bytes: [u8; 5],
-    pub length: usize,
-}
 
 // The place of b among the delimiters, or 5.
 pub fn place_of(delimiters: Delimiters, b: u8) -> usize
@@ -22,30 +19,40 @@ pub fn place_of(delimiters: Delimiters, b: u8) -> usize
     alphabet::find(&five, b)
 }
 
-// What the byte b is written as.
-pub fn piece_of(delimiters: Delimiters, b: u8) -> Piece
-    ensures { λ r. ⌜ PieceIs (delimiters .bytes) b r ⌝ }
+// How many bytes the byte b is written as.
+pub fn written_length(delimiters: Delimiters, b: u8) -> usize
+    ensures { λ r. ⌜ r ≡ length (escapeByte (delimiters .bytes) b) ⌝ }
+{
+    if place_of(delimiters, b) < 5 {
+        return 3;
+    }
+    let plain = alphabet::is_printable(b);
+    if plain { 1 } else { 5 }
+}
+
+// Writes what the byte b is written as into the buffer from `at` on, and returns the place behind it.
+pub fn put_written(delimiters: Delimiters, b: u8, buffer: &mut [u8], at: usize) -> usize
+    requires { ⌜ at + length (escapeByte (delimiters .bytes) b) ≤ length (now buffer) ⌝ }
+    ensures { λ r. ⌜ r ≡ at + length (escapeByte (delimiters .bytes) b) ⌝ }
+    ensures { λ _. ⌜ now (buffer .exit) ≡ pasted (now (buffer .entry)) at (escapeByte (delimiters .bytes) b) ⌝ }
 {
     let five = delimiters.bytes;
     let mark = five[3];
     let i = place_of(delimiters, b);
     if i < 5 {
-        let letter = LETTERS[i];
-        return Piece {
-            bytes: [mark, letter, mark, 0, 0],
-            length: 3,
-        };
+        buffer[at] = mark;
+        buffer[at + 1] = LETTERS[i];
+        buffer[at + 2] = mark;
+        return at + 3;
     }
     if alphabet::is_printable(b) {
-        return Piece {
-            bytes: [b, 0, 0, 0, 0],
-            length: 1,
-        };
+        buffer[at] = b;
+        return at + 1;
     }
-    let high = alphabet::hex_digit(b / 16);
-    let low = alphabet::hex_digit(b);
-    Piece {
-        bytes: [mark, 88, high, low, mark],
-        length: 5,
-    }
+    buffer[at] = mark;
+    buffer[at + 1] = 88;
+    buffer[at + 2] = alphabet::hex_digit(b / 16);
+    buffer[at + 3] = alphabet::hex_digit(b);
+    buffer[at + 4] = mark;
+    at + 5
 }

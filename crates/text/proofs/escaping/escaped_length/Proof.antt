@@ -29,7 +29,7 @@ returns c =
     let s = now (a .text) in
     let i = l .loop .i in
     let n = length-next (a .delimiters .bytes) s i (omega arith) in
-    let p = c .before .piece-of .ensures .size in
+    let p = c .before .written-length .ensures in
     room-short (a .room) _ (omega arith)
 
 loop-again : tie.Need-loop-again Inv-loop μ-loop
@@ -39,7 +39,7 @@ loop-again c =
     let s = now (a .text) in
     let i = l .loop .i in
     let n = length-next (a .delimiters .bytes) s i (omega arith) in
-    let p = c .before .piece-of .ensures .size in
+    let p = c .before .written-length .ensures in
     omega arith
 
 returns-2 : tie.Need-returns-2 Inv-loop μ-loop

@@ -22,35 +22,21 @@ abbrev μ-loop : tie.MeasureT-loop
 loop-holds : tie.Need-loop-holds Inv-loop μ-loop
 loop-holds c = (omega arith, fill-start _ _)
 
-array-share-prefix-bytes : tie.Need-array-share-prefix-bytes Inv-loop μ-loop
-array-share-prefix-bytes c =
-    let n : length (c .before .before .piece-of .result .bytes) ≡ 5 = search needs in
-    omega (arith, c .before .before .piece-of .ensures .small)
-
-slice-aggregate-put : tie.Need-slice-aggregate-put Inv-loop μ-loop
-slice-aggregate-put c = sym (length-take-le _ _ (array-share-prefix-bytes (c .before)))
-
-put-requires : tie.Need-put-requires Inv-loop μ-loop
-put-requires c κs =
-    let l = c .before .before .before .before .before .before in
+put-written-requires : tie.Need-put-written-requires Inv-loop μ-loop
+put-written-requires c κs =
+    let l = c .before .before .before in
     let a = l .before .before .before .args in
-    let i = l .loop .i in
     let f = l .loop .inv .1 in
-    let says = c .before .before .before .piece-of .ensures .says in
-    let n = length-next (a .delimiters .bytes) (now (a .text)) i (omega arith) in
-    omega (arith, ap length says, fill-room f, fill-length f (l .before .before .before .pre))
+    let n = length-next (a .delimiters .bytes) (now (a .text)) (l .loop .i) (omega arith) in
+    omega (arith, fill-room f, fill-length f (l .before .before .before .pre))
 
 loop-again : tie.Need-loop-again Inv-loop μ-loop
 loop-again c =
-    let l = c .before .before .before .before .before .before .before .before .before in
+    let l = c .before .before .before .before .before .before in
     let a = l .before .before .before .args in
     let i = l .loop .i in
-    let f = l .loop .inv .1 in
-    let says = c .before .before .before .before .before .before .piece-of .ensures .says in
-    let b = getD (now (a .text)) i 0 in (
-      omega arith,
-      fill-more _ _ _ _ f (bytes-next (a .delimiters .bytes) (now (a .text)) i (omega arith) ∙ ap (λ (x : List ℕ). x ++ escapeBytes (a .delimiters .bytes) (drop (i + 1) (now (a .text)))) (sym says)) (c .before .before .put .ensures .1) (c .before .before .put .ensures .0),
-    )
+    let p = c .before .before .put-written in
+    (omega arith, fill-more _ _ _ _ (l .loop .inv .1) (bytes-next (a .delimiters .bytes) (now (a .text)) i (omega arith)) (p .ensures .1) (p .ensures .0))
 
 same-length : tie.Need-same-length Inv-loop μ-loop
 same-length c = fill-length (c .before .loop .inv .1) (c .before .before .before .before .pre)
@@ -69,10 +55,7 @@ write-escaped-spec =
     μ-loop
     loop-holds
     (λ c. omega arith)
-    (λ c κs. search needs)
-    array-share-prefix-bytes
-    slice-aggregate-put
-    put-requires
+    put-written-requires
     (λ c. omega arith)
     (λ c. omega arith)
     loop-again
