@@ -2,12 +2,21 @@
 //! written out. A verb has one function here; its rules stand in a module of their own.
 
 use crate::element::{self, Address, State};
+use crate::hex;
 use crate::numbers::{self, Numeric};
 use crate::reading::{self, Refusal};
+use crate::structure::{self, Misfit};
+use crate::text::{self, Delimiters};
 use crate::times::{self, Offset, Time};
 
 /// The line buffer of the program `ask`, in bytes without the LF.
 pub const LONGEST_LINE: usize = 200_000;
+
+/// "`ROOM` is the size of the buffer lent, at most 65,536 (more: `?`)."
+pub const MOST_ROOM: u64 = 65_536;
+
+/// "Before the call each of its bytes is A5."
+const UNWRITTEN: u8 = 0xA5;
 
 /// The answer to a line that came without its LF: `?` where it is no question.
 pub fn answer(line: &[u8]) -> String {
@@ -30,6 +39,8 @@ fn answer_question(line: &[u8]) -> Option<String> {
         b"dt" => answer_value(words, times::date, time_words),
         b"tm" => answer_value(words, times::time_of_day, time_words),
         b"ts" => answer_value(words, times::time_stamp, time_words),
+        b"escape" => answer_text(words, text::escape),
+        b"unescape" => answer_text(words, text::unescape),
         _ => None,
     }
 }
@@ -73,6 +84,59 @@ fn answer_value<Value: Default>(
             format!("{} {} - {}", refusal.number, refusal.place, value_words(&Value::default()))
         }
     })
+}
+
+/// `escape` and `unescape` are asked by `TEXT DELIMITERS ROOM`; "DELIMITERS are five bytes: field,
+/// component, repetition, escape, subcomponent".
+fn answer_text(
+    words: &[&[u8]],
+    write_text: fn(&[u8], Delimiters, usize) -> Result<Vec<u8>, Refusal>,
+) -> Option<String> {
+    let [text, delimiters, room] = words else { return None };
+    let text = bytes(text)?;
+    let delimiters = Delimiters::try_from(bytes(delimiters)?).ok()?;
+    let room = room_lent(room)?;
+    Some(written_words(write_text(&text, delimiters, room), room))
+}
+
+fn room_lent(word: &[u8]) -> Option<usize> {
+    let room = number(word)?;
+    (room <= MOST_ROOM).then_some(room as usize)
+}
+
+/// `NUMBER PLACE LENGTH BUFFER`, of what was written into so much room. "`BUFFER` is the whole buffer
+/// after the call, so an answer shows what was written and that the rest stayed."
+fn written_words(written: Result<Vec<u8>, Refusal>, room: usize) -> String {
+    let mut buffer = vec![UNWRITTEN; room];
+    match written {
+        Ok(bytes) => {
+            // "Fills the front of its buffer, its length is given, the bytes behind it stay."
+            buffer[..bytes.len()].copy_from_slice(&bytes);
+            format!("0 0 {} {}", bytes.len(), bytes_word(&buffer))
+        }
+        // "A refusal gives number and place, length 0, and writes nothing."
+        Err(refusal) => format!("{} {} 0 {}", refusal.number, refusal.place, bytes_word(&buffer)),
+    }
+}
+
+/// `structure MSG` is answered `NUMBER PLACE END NAMES`; accepted is "an empty list and a no"
+/// (ruling 29).
+fn answer_structure(words: &[&[u8]]) -> Option<String> {
+    let [message] = words else { return None };
+    let message = bytes(message)?;
+    Some(match structure::judge(&message) {
+        Ok(()) => format!("0 0 {}", end_and_names(false, &[])),
+        Err(Misfit { refusal, could_end, names }) => {
+            format!("{} {} {}", refusal.number, refusal.place, end_and_names(could_end, &names))
+        }
+    })
+}
+
+/// "END is `yes` or `no`; NAMES joined by commas, `-` where none."
+fn end_and_names(could_end: bool, names: &[&str]) -> String {
+    let end = if could_end { "yes" } else { "no" };
+    let names = if names.is_empty() { "-".to_string() } else { names.join(",") };
+    format!("{end} {names}")
 }
 
 /// `MSG S F R C U`: "segment, field, repetition, component and subcomponent".
@@ -147,17 +211,13 @@ fn bytes(word: &[u8]) -> Option<Vec<u8>> {
     if word == b"-" {
         return Some(Vec::new());
     }
-    if word.is_empty() || word.len() % 2 != 0 {
-        return None;
-    }
-    word.chunks(2).map(|pair| Some(hex_digit(pair[0])? * 16 + hex_digit(pair[1])?)).collect()
+    hex::bytes_of_pairs(word)
 }
 
-fn hex_digit(byte: u8) -> Option<u8> {
-    match byte {
-        b'0'..=b'9' => Some(byte - b'0'),
-        b'a'..=b'f' => Some(byte - b'a' + 10),
-        b'A'..=b'F' => Some(byte - b'A' + 10),
-        _ => None,
+/// "The program answers in lower-case hex."
+pub fn bytes_word(bytes: &[u8]) -> String {
+    if bytes.is_empty() {
+        return "-".to_string();
     }
+    bytes.iter().map(|byte| format!("{byte:02x}")).collect()
 }

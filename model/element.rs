@@ -100,7 +100,7 @@ fn part_at(message: &[u8], segment: Part, address: &Address) -> Option<Part> {
 }
 
 /// The segments of a message that was read, each without the CR that ends it.
-fn segments(message: &[u8]) -> Vec<Part> {
+pub fn segments(message: &[u8]) -> Vec<Part> {
     split(message, 0..message.len() - 1, CR)
 }
 

@@ -2,15 +2,19 @@
 //! makes and checks the test vectors of the program `ask`. It shares no code and no table with it.
 //!
 //!     model stored              prints the questions of the stored vectors, always the same
+//!     model wide                prints all questions of some small worlds, too many to be stored
 //!     model fresh SEED COUNT    prints COUNT random questions, the same for the same seed
 //!     model answer              answers questions from standard input, one line for each
 
 mod ask;
 mod chance;
 mod element;
+mod hex;
 mod numbers;
 mod questions;
 mod reading;
+mod structure;
+mod text;
 mod times;
 
 use chance::Chance;
@@ -22,6 +26,7 @@ fn main() -> ExitCode {
     let words: Vec<&str> = words.iter().map(String::as_str).collect();
     let done = match words[..] {
         ["stored"] => print_stored(),
+        ["wide"] => print_wide(),
         ["fresh", seed, count] => match (seed.parse(), count.parse()) {
             (Ok(seed), Ok(count)) => print_fresh(seed, count),
             _ => return usage(),
@@ -38,7 +43,7 @@ fn main() -> ExitCode {
 }
 
 fn usage() -> ExitCode {
-    eprintln!("usage: model stored | model fresh SEED COUNT | model answer");
+    eprintln!("usage: model stored | model wide | model fresh SEED COUNT | model answer");
     ExitCode::from(2)
 }
 
@@ -47,6 +52,15 @@ fn usage() -> ExitCode {
 fn print_stored() -> io::Result<()> {
     let mut out = BufWriter::new(io::stdout().lock());
     out.write_all(&questions::stored().join(&b'\n'))?;
+    out.flush()
+}
+
+fn print_wide() -> io::Result<()> {
+    let mut out = BufWriter::new(io::stdout().lock());
+    for question in questions::wide() {
+        out.write_all(&question)?;
+        out.write_all(b"\n")?;
+    }
     out.flush()
 }
 

@@ -1,5 +1,6 @@
-//! The questions of the vectors. Each verb has a set of stored questions and a maker of fresh ones:
-//! a new verb adds its modules below and a line in each of the two functions.
+//! The questions of the vectors. Each verb has a set of stored questions and a maker of fresh ones,
+//! and some have a wide set, complete over a small world and not stored: a new verb adds its modules
+//! below and a line in each of the functions.
 
 mod find_stored;
 mod lookup_fresh;
@@ -9,16 +10,30 @@ mod number_stored;
 mod read_fresh;
 mod read_stored;
 mod sound;
+mod structure_fresh;
+mod structure_stored;
+mod structure_wide;
+mod text_fresh;
+mod text_stored;
+mod text_wide;
 mod time_stored;
 mod value_fresh;
 
+use crate::ask::bytes_word;
 use crate::chance::Chance;
+use crate::text::Delimiters;
 use std::collections::HashSet;
 
 pub type Bytes = Vec<u8>;
 
 /// The verbs that ask for one element of a message, by the same words.
 const LOOKUPS: [&str; 6] = ["find", "nm", "si", "dt", "tm", "ts"];
+
+/// The verbs that write a text into a buffer, by the same words.
+const TEXTS: [&str; 2] = ["escape", "unescape"];
+
+/// The delimiters that most senders use.
+const USUAL_DELIMITERS: Delimiters = *br"|^~\&";
 
 /// An address by its five numbers: segment, field, repetition, component, subcomponent.
 type Numbers = [u64; 5];
@@ -27,16 +42,21 @@ type Numbers = [u64; 5];
 pub fn stored() -> Vec<Bytes> {
     let mut lines = no_question::stored();
     lines.extend(read_stored::stored());
-    let lookups = [
+    let others = [
         find_stored::stored(),
         lookup_stored::stored(),
         number_stored::stored(),
         time_stored::stored(),
+        text_stored::stored(),
     ];
     // Two sets may hold the same question: once is enough.
-    let mut asked = HashSet::new();
-    lines.extend(lookups.concat().into_iter().filter(|line| asked.insert(line.clone())));
+    lines.extend(once_each(others.concat()));
     lines
+}
+
+/// The questions of the wide sets, each a line without its LF.
+pub fn wide() -> Vec<Bytes> {
+    once_each(text_wide::wide())
 }
 
 /// One random question, a line without its LF: as many of each verb, and some damaged lines.
@@ -44,34 +64,53 @@ pub fn fresh(chance: &mut Chance) -> Bytes {
     if chance.one_in(12) {
         return no_question::fresh(chance);
     }
-    match chance.below(1 + LOOKUPS.len()) {
-        0 => read_fresh::fresh(chance),
-        lookup => lookup_fresh::fresh(chance, LOOKUPS[lookup - 1]),
+    fresh_question(chance)
+}
+
+fn fresh_question(chance: &mut Chance) -> Bytes {
+    let verbs = [&["read"], &LOOKUPS[..], &TEXTS[..]].concat();
+    match chance.pick(&verbs) {
+        "read" => read_fresh::fresh(chance),
+        verb @ ("escape" | "unescape") => text_fresh::fresh(chance, verb),
+        verb => lookup_fresh::fresh(chance, verb),
     }
 }
 
-/// Bytes as ASK.md writes them.
-fn hex(bytes: &[u8]) -> String {
-    if bytes.is_empty() {
-        return "-".to_string();
-    }
-    bytes.iter().map(|byte| format!("{byte:02x}")).collect()
+/// The lines without those that came before.
+fn once_each(lines: Vec<Bytes>) -> Vec<Bytes> {
+    let mut asked = HashSet::new();
+    lines.into_iter().filter(|line| asked.insert(line.clone())).collect()
 }
 
 fn read_question(message: &[u8]) -> Bytes {
-    format!("read {}", hex(message)).into_bytes()
+    format!("read {}", bytes_word(message)).into_bytes()
 }
 
 fn lookup_question(verb: &str, message: &[u8], address: Numbers) -> Bytes {
     let [segment, field, repetition, component, subcomponent] = address;
     let address = format!("{segment} {field} {repetition} {component} {subcomponent}");
-    format!("{verb} {} {address}", hex(message)).into_bytes()
+    format!("{verb} {} {address}", bytes_word(message)).into_bytes()
 }
 
 /// The question of a verb for a field that stands in the shortest message that can hold one.
 fn field_question(verb: &str, field: &[u8]) -> Bytes {
     let message = [br"MSH|^~\&|", field, b"\r"].concat();
     lookup_question(verb, &message, [0, 3, 0, 0, 0])
+}
+
+fn text_question(verb: &str, text: &[u8], delimiters: &[u8], room: usize) -> Bytes {
+    let (text, delimiters) = (bytes_word(text), bytes_word(delimiters));
+    format!("{verb} {text} {delimiters} {room}").into_bytes()
+}
+
+fn structure_question(message: &[u8]) -> Bytes {
+    format!("structure {}", bytes_word(message)).into_bytes()
+}
+
+/// A message of this type, MSH-9 as it stands, with these segments behind its header.
+fn message_of_type(message_type: &str, segments: &[&str]) -> Bytes {
+    let header = format!(r"MSH|^~\&|||||||{message_type}");
+    message(&[&[&header[..]], segments].concat())
 }
 
 /// Repetition, component and subcomponent of every address of a field that splits into at most so

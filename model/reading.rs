@@ -60,13 +60,18 @@ fn check_header(message: &[u8]) -> Result<(), Refusal> {
 
 /// 3: "first delimiter byte not permitted or equal to an earlier one".
 fn check_delimiters(message: &[u8]) -> Result<(), Refusal> {
-    for place in FIELD_SEPARATOR..=LAST_DELIMITER {
-        let earlier = &message[FIELD_SEPARATOR..place];
-        if !may_delimit(message[place]) || earlier.contains(&message[place]) {
-            return refuse(3, place);
-        }
+    match first_bad_delimiter(&message[FIELD_SEPARATOR..=LAST_DELIMITER]) {
+        Some(place) => refuse(3, FIELD_SEPARATOR + place),
+        None => Ok(()),
     }
-    Ok(())
+}
+
+/// The number of the delimiter that 3 is given for: among the five alone, they "count 0 to 4".
+pub fn first_bad_delimiter(delimiters: &[u8]) -> Option<usize> {
+    (0..delimiters.len()).find(|&place| {
+        let earlier = &delimiters[..place];
+        !may_delimit(delimiters[place]) || earlier.contains(&delimiters[place])
+    })
 }
 
 /// "Each is ASCII punctuation (0x21-2F, 3A-40, 5B-60, 7B-7E) but none of `"` `+` `-` `.`."

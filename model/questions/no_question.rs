@@ -1,7 +1,7 @@
 //! Lines that are no question of ASK.md, and the lines next to them that are: a word missing or too
 //! many, a bad digit, the wrong space. They test how a line is taken apart, and no rule.
 
-use super::{field_question, lookup_fresh, message, read_question, sound, Bytes, LOOKUPS};
+use super::{field_question, fresh_question, message, read_question, sound, Bytes, LOOKUPS};
 use crate::ask::LONGEST_LINE;
 use crate::chance::Chance;
 
@@ -117,8 +117,8 @@ pub fn fresh(chance: &mut Chance) -> Bytes {
     }
     let mut line = match chance.below(9) {
         0 => b"read -".to_vec(),
-        1..=2 => read_question(&sound::random(chance)),
-        lookup => lookup_fresh::fresh(chance, LOOKUPS[lookup - 3]),
+        1 => read_question(&sound::random(chance)),
+        _ => fresh_question(chance),
     };
     for _ in 0..chance.between(1, 2) {
         let place = match chance.below(4) {

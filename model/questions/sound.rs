@@ -1,26 +1,20 @@
 //! Sound messages: written ones of every kind for the stored vectors, and random ones. The segments
 //! of a random message are grown from the structures as document 01 prints them.
 
-use super::{latin, message, Bytes};
+use super::{latin, message, Bytes, USUAL_DELIMITERS};
 use crate::chance::Chance;
 use crate::reading::{allowed, may_delimit, CR};
+use crate::structure::{ACK, ADT_A01, ADT_A02_AND_A12, ADT_A40, ORU_R01};
 
-/// The structures as document 01 prints them, with the type and the event that choose each.
-const STRUCTURES: [(&str, &str, &str); 6] = [
-    (
-        "ORU",
-        "R01",
-        "MSH { [PID [PD1] [{NK1}] [{NTE}] [PV1 [PV2]]] \
-         { [ORC] OBR [{NTE}] [{ [OBX] [{NTE}] }] [{CTI}] } } [DSC]",
-    ),
-    ("ACK", "R01", "MSH MSA [ERR]"),
-    ("ADT", "A40", "MSH EVN { PID [PD1] MRG [PV1] }"),
-    ("ADT", "A01", "MSH EVN PID [{NK1}] PV1 [PV2] [{AL1}] [{IN1}] [ZVI] [ZPD]"),
-    ("ADT", "A02", "MSH EVN PID PV1 [PV2] [ZVI] [ZPD]"),
-    ("ADT", "A12", "MSH EVN PID PV1 [PV2] [ZVI] [ZPD]"),
+/// The structures, each with a type and an event that choose it.
+pub const STRUCTURES: [(&str, &str, &str); 6] = [
+    ("ORU", "R01", ORU_R01),
+    ("ACK", "R01", ACK),
+    ("ADT", "A40", ADT_A40),
+    ("ADT", "A01", ADT_A01),
+    ("ADT", "A02", ADT_A02_AND_A12),
+    ("ADT", "A12", ADT_A02_AND_A12),
 ];
-
-const USUAL_DELIMITERS: [u8; 5] = *b"|^~\\&";
 
 /// One message of each structure at its fullest and at its least.
 pub fn of_each_structure() -> Vec<Bytes> {
@@ -76,8 +70,7 @@ pub fn of_other_kinds() -> Vec<Bytes> {
 pub fn random(chance: &mut Chance) -> Bytes {
     let delimiters = random_delimiters(chance);
     let (kind, event, structure) = chance.pick(&STRUCTURES);
-    let mut names = Vec::new();
-    grow(&tokens(structure), chance, &mut names);
+    let mut names = random_names(chance, structure, seldom_twice);
     names.truncate(12);
     if chance.one_in(4) {
         let at = chance.between(1, names.len());
@@ -108,13 +101,27 @@ fn tokens(structure: &str) -> Vec<String> {
     spaced.split_whitespace().map(str::to_string).collect()
 }
 
-/// Adds names that the line may yield: brackets none or once, braces once or now and then more.
-fn grow(tokens: &[String], chance: &mut Chance, names: &mut Vec<String>) {
+/// Names that the structure may yield: brackets none or once, braces as often as `times` says.
+pub fn random_names(chance: &mut Chance, structure: &str, times: Times) -> Vec<String> {
+    let mut names = Vec::new();
+    grow(&tokens(structure), chance, times, &mut names);
+    names
+}
+
+/// How often a brace is repeated.
+type Times = fn(&mut Chance) -> usize;
+
+/// Once, or now and then twice.
+pub fn seldom_twice(chance: &mut Chance) -> usize {
+    1 + chance.below(6) / 5
+}
+
+fn grow(tokens: &[String], chance: &mut Chance, times: Times, names: &mut Vec<String>) {
     let mut at = 0;
     while at < tokens.len() {
-        let times = match tokens[at].as_str() {
+        let count = match tokens[at].as_str() {
             "[" => chance.below(2),
-            "{" => 1 + chance.below(6) / 5,
+            "{" => times(chance),
             name => {
                 names.push(name.to_string());
                 at += 1;
@@ -122,8 +129,8 @@ fn grow(tokens: &[String], chance: &mut Chance, names: &mut Vec<String>) {
             }
         };
         let end = closing(tokens, at);
-        for _ in 0..times {
-            grow(&tokens[at + 1..end], chance, names);
+        for _ in 0..count {
+            grow(&tokens[at + 1..end], chance, times, names);
         }
         at = end + 1;
     }

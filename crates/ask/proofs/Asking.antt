@@ -7,9 +7,6 @@ use lib.ListN.{length, take, getD}
 use Rattle.io.specs.Digits.{digits}
 use Rattle.ask.specs.declared.hex.Decoded.{Decoded}
 use Rattle.ask.specs.declared.hex.Decoded.the-variants.{Length, Refused}
-use Rattle.ask.specs.declared.lookups.Lookup.{Lookup}
-use Rattle.ask.specs.declared.lookups.Meaning.{Meaning}
-use Rattle.ask.specs.declared.lookups.Meaning.the-variants.{Asks, Unknown}
 use Rattle.ask.specs.Hex.{Said, nothing, said, fitting, Told, front, refused}
 use Rattle.ask.specs.Answers.{NumberPut}
 use Rattle.ask.specs.Questions.{Verb, noQuestion, readAsked, TwoNumbers, ReadAnswer, numbers, unknown}
@@ -18,9 +15,9 @@ use Rattle.ask.specs.Questions.{Verb, noQuestion, readAsked, TwoNumbers,
 pub is-verb : {X : Type 0} {word verb : List ℕ} → Verb verb → word ≡ verb → (Verb word → ⊥) → X
 is-verb v e n = absurd (n (subst Verb (sym e) v))
 
--- so is one that asks something about an element
-pub asks : {X : Type 0} {word first : List ℕ} {m : Meaning} {l : Lookup} → word ≡ first → ((Verb word → ⊥) → m ≡ Unknown) → m ≡ Asks l → (Verb first → ⊥) → X
-asks w u e n = absurd (let q = u (λ v. n (subst Verb w v)) in let z : _≡_ {A = ℕ} 0 1 = cc in omega arith)
+-- so is one that does not mean what any other word means
+pub asks : {X M : Type 0} {word first : List ℕ} {meaning unknown : M} → word ≡ first → ((Verb word → ⊥) → meaning ≡ unknown) → (meaning ≡ unknown → ⊥) → (Verb first → ⊥) → X
+asks w u k n = absurd (k (u (λ v. n (subst Verb w v))))
 
 pub asked-two : (ws : List (List ℕ)) → length ws ≡ 2 → readAsked ws ≡ said (getD ws 1 [])
 unfolding readAsked

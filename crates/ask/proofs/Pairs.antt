@@ -1,15 +1,16 @@
--- Laws of words that say bytes: what the whole word says, and what is told of it. Assumes nothing.
-use Prim.Native.Nat.{ℕ, _≤_, _<_}
+-- Laws of words that say bytes: what the whole word says, and what is told of it; and the digits that say a byte and those behind it. Assumes nothing.
+use Prim.Native.Nat.{ℕ, _+_, _/_, _%_, _≤_, _<_}
 use mathlib.Core.Path.{_≡_, refl, ap}
 use mathlib.Core.Bool.{true, false}
 use mathlib.Core.List.{List, [], _∷_}
 use native.Mathlib.Omega.{arith}
-use lib.ListN.{length, getD, take, length-take}
+use lib.ListN.{length, getD, take, drop, length-take, drop-of-length-le}
 use borrow.Author.Tests.{le-leb, lt-leb, eq-eqb, ne-eqb}
 use Rattle.ask.specs.declared.hex.Decoded.{Decoded}
 use Rattle.ask.specs.declared.hex.Decoded.the-variants.{Length, Refused}
 use Rattle.alphabet.specs.Hex.{allHex, pairsOf}
-use Rattle.ask.specs.Hex.{Said, bytes, nothing, said, fitting, Told, front, refused}
+use Rattle.alphabet.proofs.ListLaws.{drop-next}
+use Rattle.ask.specs.Hex.{Said, bytes, nothing, said, fitting, Told, front, refused, hexDigit, hexed}
 
 pub said-empty : (l : List ℕ) → length l ≡ 0 → said l ≡ nothing
 unfolding said
@@ -62,3 +63,13 @@ told-within {n = n} {d = d} (front {xs} t) e =
     let m : n ≡ length xs = cc in
     omega (arith, ap length t, length-take (length xs) d)
 told-within refused e = absurd (let z : _≡_ {A = ℕ} 0 1 = cc in omega arith)
+
+-- ---- from bytes to digits
+
+pub hexed-next : (l : List ℕ) (i : ℕ) → i < length l → hexed (drop i l) ≡ hexDigit (getD l i 0 / 16) ∷ hexDigit (getD l i 0 % 16) ∷ hexed (drop (i + 1) l)
+unfolding hexed
+hexed-next l i h = rw (drop-next l i)
+
+pub hexed-end : (l : List ℕ) (i : ℕ) → length l ≤ i → hexed (drop i l) ≡ []
+unfolding hexed
+hexed-end l i h = rw (drop-of-length-le l h)

@@ -7,7 +7,7 @@ use Rattle.io.specs.Digits.{digits, Fewest}
 
 -- there is room for the longest answer
 abbrev pub Roomy : List ℕ → Type 0
-Roomy answer = 320 ≤ length answer
+Roomy answer = 131200 ≤ length answer
 
 -- a buffer's front up to `at` has grown by a text and the byte that ends it, up to `next`
 abbrev pub Grown : List ℕ → ℕ → List ℕ → ℕ → List ℕ → ℕ → Type 0

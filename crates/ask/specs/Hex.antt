@@ -1,9 +1,9 @@
--- The bytes that a word of a question says. Assumes nothing.
-use Prim.Native.Nat.{ℕ}
+-- The bytes that a word of a question says, and the word that an answer says bytes by. Assumes nothing.
+use Prim.Native.Nat.{ℕ, _+_, _/_, _%_}
 use mathlib.Core.Path.{_≡_}
 use mathlib.Core.Bool.{cond}
 use mathlib.Core.List.{List, [], _∷_}
-use lib.Dec.{eqb, leb}
+use lib.Dec.{eqb, leb, ltb}
 use lib.ListN.{length, take}
 use Rattle.alphabet.specs.Hex.{allHex, pairsOf}
 use Rattle.ask.specs.declared.hex.Decoded.{Decoded}
@@ -29,3 +29,12 @@ fitting room nothing = nothing
 pub data Told : Said → Decoded → List ℕ → Type 0 where
   front : {xs buffer : List ℕ} → take (length xs) buffer ≡ xs → Told (bytes xs) (Length (length xs)) buffer
   refused : {buffer : List ℕ} → Told nothing Refused buffer
+
+-- the lower-case hex digit of a number below 16
+abbrev pub hexDigit : ℕ → ℕ
+hexDigit n = cond (ltb n 10) (n + 48) (n + 87)
+
+-- bytes as pairs of lower-case hex digits
+unfoldable pub hexed : List ℕ → List ℕ
+hexed [] = []
+hexed (b ∷ r) = hexDigit (b / 16) ∷ hexDigit (b % 16) ∷ hexed r

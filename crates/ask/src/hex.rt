@@ -1,11 +1,13 @@
 // A word that says bytes: `-` says none, and otherwise each pair of hex digits says one. They are decoded into a buffer
-// that the caller lends, and a word that says more than fits says nothing.
-ghost use Prim.Native.Nat.{_/_, _≤_};
+// that the caller lends, and a word that says more than fits says nothing. An answer says bytes the same way, in lower case.
+ghost use Prim.Native.Nat.{_+_, _*_, _/_, _≤_, _<_};
 ghost use mathlib.Core.Path.{_≡_};
 ghost use mathlib.Core.Bool.{true};
+ghost use mathlib.Core.List.{_++_};
 ghost use lib.ListN.{length, take};
 ghost use Rattle.alphabet.specs.Hex.{allHex, pairsOf};
-ghost use Rattle.ask.specs.Hex.{said, fitting, Told};
+ghost use Rattle.ask.specs.Hex.{said, fitting, Told, hexDigit, hexed};
+use crate::bytes;
 
 // What a word says: so many bytes, which are at the front of the buffer now, or nothing.
 pub enum Decoded {
@@ -52,4 +54,45 @@ pub fn decode(word: &[u8], buffer: &mut [u8]) -> Decoded
         return Decoded::Refused;
     }
     Decoded::Length(put_pairs(word, buffer))
+}
+
+// The lower-case hex digit of a number below 16.
+fn digit(number: u8) -> u8
+    requires { ⌜ number < 16 ⌝ }
+    ensures { λ r. ⌜ r ≡ hexDigit number ⌝ }
+{
+    if number < 10 {
+        number + 48
+    } else {
+        number + 87
+    }
+}
+
+// Puts bytes as pairs of hex digits into the answer from place `at` on, and returns the place behind them.
+fn put_digits(answer: &mut [u8], at: usize, said: &[u8]) -> usize
+    requires { ⌜ at + 2 * length (now said) ≤ length (now answer) ⌝ }
+    ensures { λ r. ⌜ r ≡ at + 2 * length (now (said .entry)) ⌝ }
+    ensures { λ r. ⌜ take r (now (answer .exit)) ≡ take at (now (answer .entry)) ++ hexed (now (said .entry)) ⌝ }
+{
+    let mut i = 0;
+    let mut next = at;
+    while i < said.len() {
+        let byte = said[i];
+        answer[next] = digit(byte / 16);
+        answer[next + 1] = digit(byte % 16);
+        next += 2;
+        i += 1;
+    }
+    next
+}
+
+// Puts the word that says bytes into the answer, likewise.
+pub fn encode(answer: &mut [u8], at: usize, said: &[u8]) -> usize
+    requires { ⌜ at + 2 * length (now said) + 1 ≤ length (now answer) ⌝ }
+    ensures { λ r. ⌜ r ≤ at + 2 * length (now (said .entry)) + 1 ⌝ }
+{
+    if said.len() == 0 {
+        return bytes::put(answer, at, b"-");
+    }
+    put_digits(answer, at, said)
 }

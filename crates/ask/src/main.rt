@@ -10,6 +10,7 @@ mod numbers;
 mod printing;
 mod questions;
 mod words;
+mod writers;
 
 ghost use lib.ListN.{length};
 ghost use Rattle.io.specs.Counts.{Counts};
@@ -25,8 +26,9 @@ const LONGEST_LINE: usize = 200_000;
 // All the bytes that a line of that length can say.
 const LONGEST_MESSAGE: usize = 100_000;
 
-// The longest answer is that about a time: 12 words, each of at most 22 bytes with the one that ends it, take 264 bytes.
-const LONGEST_ANSWER: usize = 320;
+// The longest answer shows a buffer of 64 KiB, which at two digits a byte is 131,072 bytes. The three numbers before it and
+// the end of the line take at most 67 more.
+const LONGEST_ANSWER: usize = 131_200;
 
 // Puts the answer to a line into `answer`, and returns its length.
 fn reply(line: Line, buffer: &[u8], message: &mut [u8], answer: &mut [u8]) -> usize

@@ -14,6 +14,7 @@ use crate::hex;
 use crate::hex::Decoded;
 use crate::lookups;
 use crate::words;
+use crate::writers;
 
 // Puts what reading a message comes to into the answer: the number of the refusal, and its place.
 fn put_reading(message: &[u8], answer: &mut [u8]) -> usize
@@ -49,6 +50,9 @@ pub fn answer(line: &[u8], message: &mut [u8], answer: &mut [u8]) -> usize
     ensures { λ r. ⌜ Counts r (now (answer .exit)) ⌝ }
     ensures { λ r. ⌜ ((Verb (getD (Words·words (now (line .entry))) 0 []) → ⊥) → take r (now (answer .exit)) ≡ noQuestion) ⌝ }
 {
+    if words::count(line) == 4 {
+        return writers::answer(line, message, answer);
+    }
     if bytes::same(words::word(line, 0), b"read") {
         return read(line, message, answer);
     }

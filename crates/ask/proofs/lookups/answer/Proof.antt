@@ -1,5 +1,7 @@
 -- `ask::lookups::answer` meets its contract: what `decode` says of the message lies within its buffer, the answer lies within its own, and a word that asks something is a verb.
-use mathlib.Core.Path.{sym}
+use Prim.Native.Nat.{ℕ}
+use mathlib.Core.Path.{_≡_, sym}
+use native.Mathlib.Omega.{arith}
 use lib.Seq.{length-take-le}
 use Rattle.ask.proofs.Pairs.{told-within}
 use Rattle.ask.proofs.Asking.{asks}
@@ -19,7 +21,8 @@ returns-5 : tie.Need-returns-5
 returns-5 c =
     let p = c .before .before .put-lookup in
     let m = c .before .before .before .before .before .before .before .before .before .before .before .before .before .before .before .before .before .before in
-    ((p .ensures, sym (length-take-le _ _ (p .ensures))), asks (m .before .before .before .word .ensures) (m .before .before .meaning-of .ensures) (m .meaning .given .1))
+    let g = m .meaning .given .1 in
+    ((p .ensures, sym (length-take-le _ _ (p .ensures))), asks (m .before .before .before .word .ensures) (m .before .before .meaning-of .ensures) (λ e. let z : _≡_ {A = ℕ} 0 1 = cc in omega arith))
 
 pub answer-spec : {M : Type 1} → statement M
 answer-spec =

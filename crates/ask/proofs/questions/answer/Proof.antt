@@ -1,4 +1,4 @@
--- `ask::questions::answer` meets its contract: `read` is a verb, and any other line gets the answer of `lookups::answer`.
+-- `ask::questions::answer` meets its contract: `read` is a verb, and any other line gets the answer of `writers::answer` or of `lookups::answer`.
 use mathlib.Core.Path.{sym, _∙_}
 use Rattle.ask.specs.Questions.{read}
 use Rattle.ask.proofs.Asking.{is-verb}
@@ -6,22 +6,27 @@ use borrow.Author.Needs.{needs}
 use Rattle.ask.proofs.questions.answer.Statement.{statement}
 use Rattle.ask.proofs.questions.answer.Tie as tie
 
-returns : tie.Need-returns
-returns c =
+returns-2 : tie.Need-returns-2
+returns-2 c =
     let k = c .before .before .before .before .before .before .before in
-    (c .before .before .before .before .read .ensures .0, is-verb read (sym (k .before .before .before .word .ensures) ∙ k .before .same .ensures .0 (k .if1 .taken)))
+    (c .before .before .before .before .read .ensures .0, is-verb read (sym (k .before .before .before .word .ensures) ∙ k .before .same .ensures .0 (k .if2 .taken)))
 
 pub answer-spec : {M : Type 1} → statement M
 answer-spec =
     tie.close
     (tie.spec
     (λ c κs. search needs)
+    (λ c κs. search needs)
+    (λ c. search needs)
+    (λ c. search needs)
+    (λ c. search needs)
+    (λ c κs. search needs)
     (λ c. search needs)
     (λ c κs. search needs)
     (λ c κs. search needs)
     (λ c. search needs)
     (λ c. search needs)
-    returns
+    returns-2
     (λ c κs. search needs)
     (λ c. search needs)
     (λ c. search needs)
