@@ -1,16 +1,17 @@
 -- Laws of lists and of `first`, for any test: what a loop that searches cites, and where what it finds stands. Assumes nothing.
 use mathlib.Core.Path.{_≡_, refl, sym, ap, _∙_}
 use mathlib.Core.List.{List, [], _∷_}
-use mathlib.Core.Bool.{Bool, true, false, cond}
+use mathlib.Core.Bool.{Bool, true, false, cond, _&&_}
 use Prim.Native.Nat.{ℕ, zero, suc, _+_, _-_, _≤_, _<_}
 use native.Mathlib.Numerals.{add-one}
 use native.Mathlib.Omega.{arith}
 use lib.Dec.{eqb}
+use Rattle.alphabet.proofs.BoolLaws.{and-both, false-true}
 use lib.ListN.{length, getD, take, drop, drop-of-length-le, length-drop}
 use lib.Seq.{drop-cons, take-all, take-nil, take-take, drop-drop}
 use native.Mathlib.Nat.{sub-zero, zero-sub}
-use borrow.Author.Tests.{eqb-true, eq-eqb}
-use Rattle.alphabet.specs.Lists.{first, find}
+use borrow.Author.Tests.{eqb-true, eq-eqb, ne-eqb}
+use Rattle.alphabet.specs.Lists.{first, find, same}
 
 -- what stands from i on, by its first element
 pub drop-next : (l : List ℕ) (i : ℕ) → i < length l → drop i l ≡ getD l i 0 ∷ drop (i + 1) l
@@ -99,3 +100,46 @@ find-is b l h = sym (eqb-true b _ (first-passes (eqb b) l h))
 -- an element is found at its own place or before
 pub find-own : (l : List ℕ) (i : ℕ) → i < length l → find (getD l i 0) l ≤ i
 find-own l i h = first-least (eqb (getD l i 0)) l i h (eq-eqb (getD l i 0) (getD l i 0) refl)
+
+-- ---- two lists that are the same
+
+pub same-own : (l : List ℕ) → same l l ≡ true
+unfolding same
+same-own [] = refl
+same-own (x ∷ l) = rw (eq-eqb x x refl, same-own l)
+
+pub same-is : (k l : List ℕ) → same k l ≡ true → k ≡ l
+unfolding same
+same-is [] [] e = refl
+same-is [] (y ∷ l) e = absurd (false-true e)
+same-is (x ∷ k) [] e = absurd (false-true e)
+same-is (x ∷ k) (y ∷ l) e =
+    let p = and-both (eqb x y) (same k l) e in
+    let h : x ≡ y = eqb-true x y (p .0) in
+    let t = same-is k l (p .1) in
+    cc
+
+pub same-unlike : (k l : List ℕ) → (length k ≡ length l → ⊥) → same k l ≡ false
+unfolding same
+same-unlike [] [] h = absurd (h refl)
+same-unlike [] (y ∷ l) h = refl
+same-unlike (x ∷ k) [] h = refl
+same-unlike (x ∷ k) (y ∷ l) h = at (eqb x y) (same-unlike k l (λ e. h (ap suc e)))
+  where
+    at : (t : Bool) → same k l ≡ false → (t && same k l) ≡ false
+    at true e = e
+    at false e = refl
+
+module _ (k l : List ℕ) (i : ℕ) where
+  pub same-end : length k ≤ i → length k ≡ length l → same (drop i k) (drop i l) ≡ true
+  unfolding same
+  same-end h e = let g : length l ≤ i = omega arith in rw (drop-of-length-le k h, drop-of-length-le l g)
+
+  module _ (h : i < length k) (g : i < length l) where
+    pub same-next : getD k i 0 ≡ getD l i 0 → same (drop i k) (drop i l) ≡ same (drop (i + 1) k) (drop (i + 1) l)
+    unfolding same
+    same-next e = rw (drop-next k i h, drop-next l i g) (rw (eq-eqb (getD k i 0) (getD l i 0) e))
+
+    pub same-not : (getD k i 0 ≡ getD l i 0 → ⊥) → same (drop i k) (drop i l) ≡ false
+    unfolding same
+    same-not n = rw (drop-next k i h, drop-next l i g) (rw (ne-eqb (getD k i 0) (getD l i 0) n))

@@ -1,10 +1,10 @@
-// What a byte may be, by document 01's 'Bytes and segments', and where a byte first stands.
+// What a byte may be, by document 01's 'Bytes and segments', where a byte first stands, and whether two texts are the same.
 // The tests are free of branches and nested as their definitions are, so that they need no proof.
 ghost use mathlib.Core.Path.{_≡_};
 ghost use Prim.Native.Nat.{_%_};
 ghost use lib.ListN.{getD};
 ghost use Rattle.alphabet.specs.Bytes.{printable, allowed, forbidden, capital, digit, hexOf, hexDigit, isNull};
-ghost use Rattle.alphabet.specs.Lists.{first, find};
+ghost use Rattle.alphabet.specs.Lists.{first, find, same};
 
 // CR, which ends every segment.
 pub const CARRIAGE_RETURN: u8 = 13;
@@ -101,4 +101,21 @@ pub fn first_not_allowed(bytes: &[u8]) -> usize
         i += 1;
     }
     bytes.len()
+}
+
+// Whether two texts are the same, byte for byte.
+pub fn same(one: &[u8], other: &[u8]) -> bool
+    ensures { λ r. ⌜ r ≡ same (now (one .entry)) (now (other .entry)) ⌝ }
+{
+    if one.len() != other.len() {
+        return false;
+    }
+    let mut i = 0;
+    while i < one.len() {
+        if one[i] != other[i] {
+            return false;
+        }
+        i += 1;
+    }
+    true
 }

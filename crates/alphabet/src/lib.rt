@@ -25,6 +25,7 @@ pub use bytes::is_capital;
 pub use bytes::is_digit;
 pub use bytes::is_null;
 pub use bytes::is_printable;
+pub use bytes::same;
 pub use delimiters::Delimiters;
 pub use delimiters::is_permitted;
 pub use delimiters::wrong_delimiter;

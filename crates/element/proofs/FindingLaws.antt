@@ -19,7 +19,7 @@ use Rattle.reading.proofs.Accepted.{accepted}
 use Rattle.element.specs.States.{stateOf}
 use Rattle.element.specs.declared.states.State.{State}
 use Rattle.element.specs.Levels.{between, Within, repetitionAt, componentAt, elementAt}
-use Rattle.element.specs.Finding.{lookupCheck, elementIn, elementOf, elementIf, nowhere, found, bytesAt, elementBytes}
+use Rattle.element.specs.Finding.{lookupCheck, elementIn, elementOf, elementIf, nowhere, found, bytesAt, elementBytes, partBytes, rawBytes}
 use Rattle.element.specs.declared.Element.{Element}
 use Rattle.element.specs.declared.address.Address.{Address}
 use Rattle.element.proofs.LevelLaws.{within-segment, within-field, within-below}
@@ -90,3 +90,19 @@ module _ (m : List ℕ) (e : Element) where
 -- what is shown of an element that was found is the part of the message where it stands
 pub shown : (m : List ℕ) (a : Address) → elementBytes m a ≡ between m (found m a .element .start) (found m a .element .end)
 shown m a = let w = found-within m a in bytes-in m (found m a .element) (w .0) (w .1)
+
+-- ---- raw bytes
+
+module _ (m : List ℕ) (a : Address) where
+  pub raw-short : length m < 4 → rawBytes m a ≡ []
+  unfolding rawBytes
+  raw-short h = rw (lt-leb 4 (length m) h)
+
+  module _ (h : 4 ≤ length m) where
+    pub raw-absent : elementAt m a ≡ Absent → rawBytes m a ≡ []
+    unfolding rawBytes
+    raw-absent e = rw (le-leb 4 (length m) h) (rw e)
+
+    pub raw-at : (s e : ℕ) → elementAt m a ≡ At s e → rawBytes m a ≡ between m s e
+    unfolding rawBytes
+    raw-at s e q = rw (le-leb 4 (length m) h) (rw q)

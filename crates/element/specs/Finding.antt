@@ -54,3 +54,14 @@ bytesAt m e = cond (leb (e .start) (e .end) && leb (e .end) (length m)) (between
 
 abbrev pub elementBytes : List ℕ → Address → List ℕ
 elementBytes m a = bytesAt m (found m a .element)
+
+-- ---- raw, for judges that have read the message already
+
+-- the bytes of a part of the message
+abbrev pub partBytes : List ℕ → Part → List ℕ
+partBytes m Absent = []
+partBytes m (At s e) = between m s e
+
+-- "raw": the bytes at an address, for which no fault is looked for; none where nothing stands. Four bytes have a field separator
+unfoldable pub rawBytes : List ℕ → Address → List ℕ
+rawBytes m a = cond (leb 4 (length m)) (partBytes m (elementAt m a)) []

@@ -14,7 +14,7 @@ use states::state_of;
 ghost use mathlib.Core.Path.{_≡_};
 ghost use Prim.Native.Nat.{_≤_};
 ghost use lib.ListN.{length};
-ghost use Rattle.element.specs.Finding.{lookupCheck, elementOf, found, bytesAt, elementBytes};
+ghost use Rattle.element.specs.Finding.{lookupCheck, elementOf, found, bytesAt, elementBytes, rawBytes};
 pub use address::Address;
 pub use states::State;
 
@@ -122,4 +122,19 @@ pub fn bytes_of(message: &[u8], address: Address) -> &[u8]
     let found = find(message, address);
     let element = found.element;
     bytes_at(message, element)
+}
+
+// The bytes at an address as they were sent, for judges that have read the message already: no fault is looked for, and there
+// are none where nothing stands.
+pub fn raw(message: &[u8], address: Address) -> &[u8]
+    ensures { λ r. ⌜ now r ≡ rawBytes (now (message .entry)) address ⌝ }
+{
+    if message.len() < 4 {
+        return &message[..0];
+    }
+    let part = part_of(message, address);
+    let Part::At { start, end } = part else {
+        return &message[..0];
+    };
+    &message[start..end]
 }
