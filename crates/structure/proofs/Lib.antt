@@ -1,0 +1,12 @@
+pub mod SetLaws
+pub mod FollowLaws
+pub mod PlaceLaws
+pub mod RunLaws
+pub mod GatherLaws
+pub mod Going
+pub mod ListingLaws
+pub mod WalkLaws
+pub mod Telling
+pub mod SegmentWalk
+pub mod NameLaws
+pub mod TableTest

@@ -1,0 +1,42 @@
+-- The names of a message's segments, and which segments are looked at. A name is a number, its three letters in base 256, so that a list of names is
+-- a list of numbers.
+use Prim.Native.Nat.{ℕ, _+_, _*_, _/_}
+use Prim.Native.Char.{code}
+use Prim.Native.String.{String}
+use Prim.Native.String as S
+use mathlib.Core.List.{List, [], _∷_, map}
+use mathlib.Core.Bool.{Bool, false, cond, not, _&&_, _||_}
+use lib.ListN.{getD}
+use lib.Dec.{eqb}
+use Rattle.reading.specs.Segments.{segments}
+
+-- the name of a segment: its first three bytes
+unfoldable pub nameOf : List ℕ → ℕ
+nameOf s = (getD s 0 0 * 256 + getD s 1 0) * 256 + getD s 2 0
+
+-- the bytes of an ASCII text
+abbrev pub ascii : String → List ℕ
+ascii S.[] = []
+ascii (S._∷_ c s) = code c ∷ ascii s
+
+-- the name of three letters
+abbrev pub name : String → ℕ
+name s = (getD (ascii s) 0 0 * 256 + getD (ascii s) 1 0) * 256 + getD (ascii s) 2 0
+
+-- the names of a message's segments, as sent
+unfoldable pub segmentNames : List ℕ → List ℕ
+segmentNames m = map nameOf (segments m)
+
+-- whether n is one of the names
+unfoldable pub among : ℕ → List ℕ → Bool
+among n [] = false
+among n (x ∷ l) = eqb n x || among n l
+
+-- "A segment whose name begins with Z and isn't in the structure", which has these names; Z is 90
+unfoldable pub passedOver : List ℕ → ℕ → Bool
+passedOver ns n = eqb (n / 65536) 90 && not (among n ns)
+
+-- "is taken out first": what is left of some names
+unfoldable pub kept : List ℕ → List ℕ → List ℕ
+kept ns [] = []
+kept ns (n ∷ l) = cond (passedOver ns n) (kept ns l) (n ∷ kept ns l)

@@ -1,0 +1,24 @@
+// Which segments stand in a message, and whether its structure yields them. A refusal says at which segment, what could
+// have stood there, and whether the message could have ended there. Every function takes any bytes.
+mod judging;
+mod listing;
+mod names;
+mod structures;
+mod walking;
+
+use alphabet::Check;
+ghost use Rattle.structure.specs.Judged.{Answers};
+pub use judging::Judgement;
+pub use listing::Names;
+pub use structures::judge_read;
+
+// Judges the structure of a message: a reading fault, 20, 21, 22, or accepted.
+pub fn judge_structure(message: &[u8]) -> Judgement
+    ensures { λ r. ⌜ Answers (now (message .entry)) r ⌝ }
+{
+    let read = reading::check_message(message);
+    match read {
+        Check::Passes => structures::judge_read(message),
+        Check::Fails { kind, place } => judging::plain(kind, place),
+    }
+}

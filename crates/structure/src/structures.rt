@@ -1,0 +1,233 @@
+// The structures of document 01 as tables, and which of them the type of a message chooses. One table has the rows of all
+// structures, a row for each place where a name stands: the name, and the set of places that can be filled next, in which
+// bit p is place p of the same structure.
+use crate::judging::Judgement;
+use crate::judging::judge_by;
+use crate::judging::plain;
+use crate::walking::Next;
+use alphabet::Refusal;
+use element::Address;
+ghost use mathlib.Core.Path.{_≡_};
+ghost use mathlib.Core.List.{List};
+ghost use Rattle.structure.specs.Structures.{admissionOf, structureOf, typeAddress};
+ghost use Rattle.structure.specs.Judged.{Structured};
+
+// The structures that are listed; a type that chooses none is unlisted.
+pub enum Structure {
+    ObservationReport,
+    Acknowledgement,
+    Merge,
+    Admission,
+    Transfer,
+    Unlisted,
+}
+
+const AL1: u32 = 0x414c31;
+
+const CTI: u32 = 0x435449;
+
+const DSC: u32 = 0x445343;
+
+const ERR: u32 = 0x455252;
+
+const EVN: u32 = 0x45564e;
+
+const IN1: u32 = 0x494e31;
+
+const MRG: u32 = 0x4d5247;
+
+const MSA: u32 = 0x4d5341;
+
+const MSH: u32 = 0x4d5348;
+
+const NK1: u32 = 0x4e4b31;
+
+const NTE: u32 = 0x4e5445;
+
+const OBR: u32 = 0x4f4252;
+
+const OBX: u32 = 0x4f4258;
+
+const ORC: u32 = 0x4f5243;
+
+const PD1: u32 = 0x504431;
+
+const PID: u32 = 0x504944;
+
+const PV1: u32 = 0x505631;
+
+const PV2: u32 = 0x505632;
+
+const ZPD: u32 = 0x5a5044;
+
+const ZVI: u32 = 0x5a5649;
+
+const NAMES: [u32; 40] = [
+    // ORU^R01: places 0 to 13 in rows 0 to 13
+    MSH,
+    PID,
+    PD1,
+    NK1,
+    NTE,
+    PV1,
+    PV2,
+    ORC,
+    OBR,
+    NTE,
+    OBX,
+    NTE,
+    CTI,
+    DSC,
+    // ACK: rows 14 to 16
+    MSH,
+    MSA,
+    ERR,
+    // ADT^A40: rows 17 to 22
+    MSH,
+    EVN,
+    PID,
+    PD1,
+    MRG,
+    PV1,
+    // ADT^A01: rows 23 to 32
+    MSH,
+    EVN,
+    PID,
+    NK1,
+    PV1,
+    PV2,
+    AL1,
+    IN1,
+    ZVI,
+    ZPD,
+    // ADT^A02 and A12: rows 33 to 39
+    MSH,
+    EVN,
+    PID,
+    PV1,
+    PV2,
+    ZVI,
+    ZPD,
+];
+
+const FOLLOW: [u64; 40] = [
+    // ORU^R01
+    386,
+    444,
+    440,
+    440,
+    432,
+    448,
+    384,
+    256,
+    16258,
+    16258,
+    15746,
+    15746,
+    12674,
+    0,
+    // ACK
+    2,
+    4,
+    0,
+    // ADT^A40
+    2,
+    4,
+    24,
+    16,
+    36,
+    4,
+    // ADT^A01
+    2,
+    4,
+    24,
+    24,
+    992,
+    960,
+    960,
+    896,
+    512,
+    0,
+    // ADT^A02 and A12
+    2,
+    4,
+    8,
+    112,
+    96,
+    64,
+    0,
+];
+
+// The structure of an admission by its event.
+fn admission_of(event: &[u8]) -> Structure
+    ensures { λ r. ⌜ r ≡ admissionOf (now (event .entry)) ⌝ }
+{
+    if alphabet::same(event, b"A40") {
+        return Structure::Merge;
+    }
+    if alphabet::same(event, b"A01") {
+        return Structure::Admission;
+    }
+    if alphabet::same(event, b"A02") | alphabet::same(event, b"A12") {
+        return Structure::Transfer;
+    }
+    Structure::Unlisted
+}
+
+// Where a component of the type stands.
+fn type_address(component: usize) -> Address
+    ensures { λ r. ⌜ r ≡ typeAddress component ⌝ }
+{
+    Address {
+        segment: 0,
+        field: 9,
+        repetition: 1,
+        component: component,
+        subcomponent: 0,
+    }
+}
+
+// The structure that the type of a message chooses.
+fn structure_of(message: &[u8]) -> Structure
+    ensures { λ r. ⌜ r ≡ structureOf (now (message .entry)) ⌝ }
+{
+    let kind = element::raw(message, type_address(1));
+    let event = element::raw(message, type_address(2));
+    if alphabet::same(kind, b"ACK") {
+        return Structure::Acknowledgement;
+    }
+    if alphabet::same(kind, b"ORU") & alphabet::same(event, b"R01") {
+        return Structure::ObservationReport;
+    }
+    if alphabet::same(kind, b"ADT") {
+        return admission_of(event);
+    }
+    Structure::Unlisted
+}
+
+// Judges the structure of a message that was read: no reading fault is looked for.
+pub fn judge_read(message: &[u8]) -> Judgement
+    ensures { λ r. ⌜ Structured (now (message .entry)) r ⌝ }
+{
+    let names = NAMES;
+    let follow = FOLLOW;
+    let begin = Next {
+        places: 1,
+        ends: false,
+    };
+    let structure = structure_of(message);
+    match structure {
+        Structure::ObservationReport => judge_by(
+            message,
+            &names[..14],
+            &follow[..14],
+            16128,
+            begin,
+        ),
+        Structure::Acknowledgement => judge_by(message, &names[14..17], &follow[14..17], 6, begin),
+        Structure::Merge => judge_by(message, &names[17..23], &follow[17..23], 48, begin),
+        Structure::Admission => judge_by(message, &names[23..33], &follow[23..33], 1008, begin),
+        Structure::Transfer => judge_by(message, &names[33..40], &follow[33..40], 120, begin),
+        Structure::Unlisted => plain(Refusal::NoStructure, 0),
+    }
+}
