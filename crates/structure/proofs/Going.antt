@@ -30,7 +30,7 @@ label-below (opt b s) k p (inr l) = let h = label-below s (k + size b) p l in om
 label-below (rep b s) k p (inl l) = let h = label-below b k p l in omega arith
 label-below (rep b s) k p (inr l) = let h = label-below s (k + size b) p l in omega arith
 
-map-append : (f : ℕ → ℕ) (xs ys : List ℕ) → map f (xs ++ ys) ≡ map f xs ++ map f ys
+pub map-append : (f : ℕ → ℕ) (xs ys : List ℕ) → map f (xs ++ ys) ≡ map f xs ++ map f ys
 map-append f [] ys = refl
 map-append f (x ∷ xs) ys = ap (λ (l : List ℕ). f x ∷ l) (map-append f xs ys)
 

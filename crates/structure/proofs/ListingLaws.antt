@@ -179,6 +179,7 @@ module _ (ns : List ℕ) (set : ℕ) where
         rising = u .rising;
         exactly = λ p. (λ i. to p (u .each p i .1), λ e. u .all p (below p (pos p .1 (e .possible))) (from p e));
         named = u .named ∙ map-same (u .places);
+        every = λ q m. let h = pos q .1 m in subst (λ (x : ℕ). In x (listing ns set k)) (same q) (u .every q (below q h) h);
       }
     where
       to : (p : ℕ) → First p → Earliest Possible nameAt p

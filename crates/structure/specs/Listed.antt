@@ -19,9 +19,10 @@ pub record Earliest (Possible : ℕ → Type 0) (nameAt : ℕ → ℕ) (p : ℕ)
   pub possible : Possible p
   pub no-earlier : (q : ℕ) → q < p → Possible q → nameAt q ≡ nameAt p → ⊥
 
--- l has the names of exactly those places, in written order
+-- l has the names of exactly those places, in written order; so each name that is possible stands in it
 pub record Listed (Possible : ℕ → Type 0) (nameAt : ℕ → ℕ) (l : List ℕ) : Type 0 where
   pub places : List ℕ
   pub rising : Rising 0 places
   pub exactly : (p : ℕ) → In p places ↔ Earliest Possible nameAt p
   pub named : l ≡ map nameAt places
+  pub every : (q : ℕ) → Possible q → In (nameAt q) l

@@ -112,50 +112,50 @@ const NAMES: [u32; 40] = [
 
 const FOLLOW: [u64; 40] = [
     // ORU^R01
-    386,
-    444,
-    440,
-    440,
-    432,
-    448,
-    384,
-    256,
-    16258,
-    16258,
-    15746,
-    15746,
-    12674,
-    0,
+    386, // behind MSH: PID ORC OBR
+    444, // behind PID: PD1 NK1 NTE PV1 ORC OBR
+    440, // behind PD1: NK1 NTE PV1 ORC OBR
+    440, // behind NK1: NK1 NTE PV1 ORC OBR
+    432, // behind NTE: NTE PV1 ORC OBR
+    448, // behind PV1: PV2 ORC OBR
+    384, // behind PV2: ORC OBR
+    256, // behind ORC: OBR
+    16258, // behind OBR: PID ORC OBR NTE OBX NTE CTI DSC
+    16258, // behind NTE: PID ORC OBR NTE OBX NTE CTI DSC
+    15746, // behind OBX: PID ORC OBR OBX NTE CTI DSC
+    15746, // behind NTE: PID ORC OBR OBX NTE CTI DSC
+    12674, // behind CTI: PID ORC OBR CTI DSC
+    0, // behind DSC: nothing
     // ACK
-    2,
-    4,
-    0,
+    2, // behind MSH: MSA
+    4, // behind MSA: ERR
+    0, // behind ERR: nothing
     // ADT^A40
-    2,
-    4,
-    24,
-    16,
-    36,
-    4,
+    2, // behind MSH: EVN
+    4, // behind EVN: PID
+    24, // behind PID: PD1 MRG
+    16, // behind PD1: MRG
+    36, // behind MRG: PID PV1
+    4, // behind PV1: PID
     // ADT^A01
-    2,
-    4,
-    24,
-    24,
-    992,
-    960,
-    960,
-    896,
-    512,
-    0,
+    2, // behind MSH: EVN
+    4, // behind EVN: PID
+    24, // behind PID: NK1 PV1
+    24, // behind NK1: NK1 PV1
+    992, // behind PV1: PV2 AL1 IN1 ZVI ZPD
+    960, // behind PV2: AL1 IN1 ZVI ZPD
+    960, // behind AL1: AL1 IN1 ZVI ZPD
+    896, // behind IN1: IN1 ZVI ZPD
+    512, // behind ZVI: ZPD
+    0, // behind ZPD: nothing
     // ADT^A02 and A12
-    2,
-    4,
-    8,
-    112,
-    96,
-    64,
-    0,
+    2, // behind MSH: EVN
+    4, // behind EVN: PID
+    8, // behind PID: PV1
+    112, // behind PV1: PV2 ZVI ZPD
+    96, // behind PV2: ZVI ZPD
+    64, // behind ZVI: ZPD
+    0, // behind ZPD: nothing
 ];
 
 // The structure of an admission by its event.

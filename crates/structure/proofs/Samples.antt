@@ -1,0 +1,45 @@
+-- Samples 10, 11 and 12 of document 01, and the observation group that may be empty, as theorems about the definitions. The walk is computed, and what it
+-- comes to is told by the laws. Assumes nothing.
+use mathlib.Core.Path.{_≡_, refl}
+use mathlib.Core.Bool.{true, false}
+use mathlib.Core.List.{List, [], _∷_}
+use Prim.Native.Nat.{ℕ}
+use Rattle.structure.specs.Shapes.{Yields, names}
+use Rattle.structure.specs.Shapes.Spans.{ended, stand, skip, once, last, more}
+use Rattle.structure.specs.SegmentNames.{name, among, passedOver}
+use Rattle.structure.specs.Structures.{oruR01}
+use Rattle.structure.specs.Judged.{Judged, refusedAs}
+use Rattle.structure.specs.Engine.{into, gathered, endedWith, walked, listing, Tables}
+use Rattle.structure.specs.declared.walking.Walked.the-variants.{Misplaced, Early}
+use Rattle.structure.proofs.TableTest.{tables-of}
+use Rattle.structure.proofs.Telling.{told-misplaced, told-early}
+
+-- what can come next behind each place of ORU^R01
+abbrev follow : List ℕ
+follow = 386 ∷ 444 ∷ 440 ∷ 440 ∷ 432 ∷ 448 ∷ 384 ∷ 256 ∷ 16258 ∷ 16258 ∷ 15746 ∷ 15746 ∷ 12674 ∷ 0 ∷ []
+
+tables : Tables oruR01 (names oruR01) follow 16128 (into 1)
+tables = tables-of oruR01 (names oruR01) follow 16128 (into 1) refl tt tt
+
+-- "MSH alone as ORU: 22; PID, ORC, OBR; could not end."
+pub sample-10 : Judged oruR01 (name "MSH" ∷ []) (refusedAs 1 1 false (name "PID" ∷ name "ORC" ∷ name "OBR" ∷ []))
+unfolding among passedOver gathered endedWith walked listing
+sample-10 = told-early oruR01 (names oruR01) follow 16128 (into 1) tables (name "MSH" ∷ []) 1 386 _ refl (Early 1 386) refl refl
+
+-- "MSH PID EVN: 21 at segment 2; PD1, NK1, NTE, PV1, ORC, OBR; could not end."
+pub sample-11 : Judged oruR01 (name "MSH" ∷ name "PID" ∷ name "EVN" ∷ [])
+    (refusedAs 3 2 false (name "PD1" ∷ name "NK1" ∷ name "NTE" ∷ name "PV1" ∷ name "ORC" ∷ name "OBR" ∷ []))
+unfolding among passedOver gathered endedWith walked listing
+sample-11 =
+    told-misplaced oruR01 (names oruR01) follow 16128 (into 1) tables (name "MSH" ∷ name "PID" ∷ name "EVN" ∷ []) 2 444 _ refl false (Misplaced 2 444 false) refl refl
+
+-- "MSH OBR EVN: 21 at segment 2; PID, ORC, OBR, NTE, OBX, CTI, DSC; could end."
+pub sample-12 : Judged oruR01 (name "MSH" ∷ name "OBR" ∷ name "EVN" ∷ [])
+    (refusedAs 3 2 true (name "PID" ∷ name "ORC" ∷ name "OBR" ∷ name "NTE" ∷ name "OBX" ∷ name "CTI" ∷ name "DSC" ∷ []))
+unfolding among passedOver gathered endedWith walked listing
+sample-12 =
+    told-misplaced oruR01 (names oruR01) follow 16128 (into 1) tables (name "MSH" ∷ name "OBR" ∷ name "EVN" ∷ []) 2 16258 _ refl true (Misplaced 2 16258 true) refl refl
+
+-- "the observation group, whose body may be empty": MSH OBR is yielded with the group taken twice and empty both times
+pub empty-group : Yields oruR01 (name "MSH" ∷ name "OBR" ∷ [])
+empty-group = stand (last (skip (last (skip (stand (skip (once (more (skip (skip ended)) (last (skip (skip ended)) ended)) (skip ended))))) ended)) (skip ended))
