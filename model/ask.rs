@@ -41,6 +41,7 @@ fn answer_question(line: &[u8]) -> Option<String> {
         b"ts" => answer_value(words, times::time_stamp, time_words),
         b"escape" => answer_text(words, text::escape),
         b"unescape" => answer_text(words, text::unescape),
+        b"structure" => answer_structure(words),
         _ => None,
     }
 }

@@ -48,6 +48,7 @@ pub fn stored() -> Vec<Bytes> {
         number_stored::stored(),
         time_stored::stored(),
         text_stored::stored(),
+        structure_stored::stored(),
     ];
     // Two sets may hold the same question: once is enough.
     lines.extend(once_each(others.concat()));
@@ -56,7 +57,7 @@ pub fn stored() -> Vec<Bytes> {
 
 /// The questions of the wide sets, each a line without its LF.
 pub fn wide() -> Vec<Bytes> {
-    once_each(text_wide::wide())
+    once_each([text_wide::wide(), structure_wide::wide()].concat())
 }
 
 /// One random question, a line without its LF: as many of each verb, and some damaged lines.
@@ -68,9 +69,10 @@ pub fn fresh(chance: &mut Chance) -> Bytes {
 }
 
 fn fresh_question(chance: &mut Chance) -> Bytes {
-    let verbs = [&["read"], &LOOKUPS[..], &TEXTS[..]].concat();
+    let verbs = [&["read", "structure"], &LOOKUPS[..], &TEXTS[..]].concat();
     match chance.pick(&verbs) {
         "read" => read_fresh::fresh(chance),
+        "structure" => structure_fresh::fresh(chance),
         verb @ ("escape" | "unescape") => text_fresh::fresh(chance, verb),
         verb => lookup_fresh::fresh(chance, verb),
     }

@@ -1,21 +1,28 @@
 -- Laws of a question's verb, and of the question `read MSG`: what its words ask, and the answer to what is said, to what is not, and to another count of words. Assumes nothing.
 use Prim.Native.Nat.{ℕ}
 use mathlib.Core.Path.{_≡_, refl, sym, ap, subst, _∙_}
+use mathlib.Core.Bool.{Bool, true}
 use mathlib.Core.List.{List, [], _∷_, _++_}
 use native.Mathlib.Omega.{arith}
 use lib.ListN.{length, take, getD}
 use Rattle.io.specs.Digits.{digits}
+use Rattle.alphabet.specs.Lists.{same}
+use Rattle.alphabet.proofs.ListLaws.{same-is}
 use Rattle.ask.specs.declared.hex.Decoded.{Decoded}
 use Rattle.ask.specs.declared.hex.Decoded.the-variants.{Length, Refused}
 use Rattle.ask.specs.Hex.{Said, nothing, said, fitting, Told, front, refused}
 use Rattle.ask.specs.Answers.{NumberPut}
 use Rattle.ask.specs.Questions.{Verb, noQuestion, readAsked, TwoNumbers, ReadAnswer, numbers, unknown}
 
--- a word that is the same as a verb is one
-pub is-verb : {X : Type 0} {word verb : List ℕ} → Verb verb → word ≡ verb → (Verb word → ⊥) → X
-is-verb v e n = absurd (n (subst Verb (sym e) v))
+-- a word that was found to be the same as a verb is one
+pub same-verb : {X : Type 0} {word verb : List ℕ} {found : Bool} → Verb verb → found ≡ same word verb → found ≡ true → (Verb word → ⊥) → X
+same-verb {word = word} {verb = verb} v s t n = absurd (n (subst Verb (sym (same-is word verb (sym s ∙ t))) v))
 
--- so is one that does not mean what any other word means
+-- so is the first word of a line, where it is that word
+pub first-verb : {X : Type 0} {word first verb : List ℕ} {found : Bool} → Verb verb → word ≡ first → found ≡ same word verb → found ≡ true → (Verb first → ⊥) → X
+first-verb v w s t n = same-verb v s t (λ k. n (subst Verb w k))
+
+-- and where it does not mean what any other word means
 pub asks : {X M : Type 0} {word first : List ℕ} {meaning unknown : M} → word ≡ first → ((Verb word → ⊥) → meaning ≡ unknown) → (meaning ≡ unknown → ⊥) → (Verb first → ⊥) → X
 asks w u k n = absurd (k (u (λ v. n (subst Verb w v))))
 
@@ -42,12 +49,12 @@ module _ {answer : List ℕ} where
   answer-other ws room h q = rw (asked-other ws h) (unasked q)
 
   pub answer-refused : {asked s : Said} {r : Decoded} {d : List ℕ} → asked ≡ s → Told s r d → r ≡ Refused → answer ≡ noQuestion → ReadAnswer asked answer
-  answer-refused same (front t) e q = absurd (let z : _≡_ {A = ℕ} 0 1 = cc in omega arith)
-  answer-refused same refused e q = rw same (unasked q)
+  answer-refused s (front t) e q = absurd (let z : _≡_ {A = ℕ} 0 1 = cc in omega arith)
+  answer-refused s refused e q = rw s (unasked q)
 
   pub answer-said : {asked s : Said} {r : Decoded} {d : List ℕ} {n : ℕ} → asked ≡ s → Told s r d → r ≡ Length n → TwoNumbers answer → ReadAnswer asked answer
-  answer-said same (front t) e q = rw same (numbers q)
-  answer-said same refused e q = absurd (let z : _≡_ {A = ℕ} 0 1 = cc in omega arith)
+  answer-said s (front t) e q = rw s (numbers q)
+  answer-said s refused e q = absurd (let z : _≡_ {A = ℕ} 0 1 = cc in omega arith)
 
 -- one number put at the front, and one behind it
 pub two-put : {before between after : List ℕ} {next end number place : ℕ} → NumberPut before 0 between next number 32 → NumberPut between next after end place 10 → TwoNumbers (take end after)

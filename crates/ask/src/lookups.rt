@@ -10,7 +10,6 @@ ghost use Rattle.ask.specs.Words.{words as Words·words};
 ghost use Rattle.ask.specs.Questions.{Verb, noQuestion};
 ghost use Rattle.ask.specs.declared.lookups.Meaning.the-variants.{Unknown};
 use crate::answers;
-use crate::bytes;
 use crate::hex;
 use crate::hex::Decoded;
 use crate::printing;
@@ -41,22 +40,22 @@ enum Meaning {
 fn meaning_of(verb: &[u8]) -> Meaning
     ensures { λ r. ⌜ ((Verb (now (verb .entry)) → ⊥) → r ≡ Unknown) ⌝ }
 {
-    if bytes::same(verb, b"find") {
+    if alphabet::same(verb, b"find") {
         return Meaning::Asks(Lookup::Find);
     }
-    if bytes::same(verb, b"nm") {
+    if alphabet::same(verb, b"nm") {
         return Meaning::Asks(Lookup::Nm);
     }
-    if bytes::same(verb, b"si") {
+    if alphabet::same(verb, b"si") {
         return Meaning::Asks(Lookup::Si);
     }
-    if bytes::same(verb, b"dt") {
+    if alphabet::same(verb, b"dt") {
         return Meaning::Asks(Lookup::Dt);
     }
-    if bytes::same(verb, b"tm") {
+    if alphabet::same(verb, b"tm") {
         return Meaning::Asks(Lookup::Tm);
     }
-    if bytes::same(verb, b"ts") {
+    if alphabet::same(verb, b"ts") {
         return Meaning::Asks(Lookup::Ts);
     }
     Meaning::Unknown

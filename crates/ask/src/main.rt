@@ -4,6 +4,7 @@
 mod answers;
 mod bytes;
 mod hex;
+mod judges;
 mod lines;
 mod lookups;
 mod numbers;

@@ -14,7 +14,7 @@ use value::Offset;
 use value::Sign;
 
 // Puts a short word.
-fn put_text(answer: &mut [u8], at: usize, text: &[u8], end: u8) -> usize
+pub fn put_text(answer: &mut [u8], at: usize, text: &[u8], end: u8) -> usize
     requires { ⌜ length (now text) ≤ 21 ⌝ }
     requires { ⌜ at + 22 ≤ length (now answer) ⌝ }
     ensures { λ r. ⌜ r ≤ at + 22 ⌝ }

@@ -9,9 +9,9 @@ ghost use Rattle.ask.specs.Words.{words as Words·words};
 ghost use Rattle.ask.specs.Hex.{fitting};
 ghost use Rattle.ask.specs.Questions.{Verb, noQuestion, readAsked, TwoNumbers, ReadAnswer};
 use crate::answers;
-use crate::bytes;
 use crate::hex;
 use crate::hex::Decoded;
+use crate::judges;
 use crate::lookups;
 use crate::words;
 use crate::writers;
@@ -53,8 +53,11 @@ pub fn answer(line: &[u8], message: &mut [u8], answer: &mut [u8]) -> usize
     if words::count(line) == 4 {
         return writers::answer(line, message, answer);
     }
-    if bytes::same(words::word(line, 0), b"read") {
+    if alphabet::same(words::word(line, 0), b"read") {
         return read(line, message, answer);
+    }
+    if words::count(line) == 2 {
+        return judges::answer(line, message, answer);
     }
     lookups::answer(line, message, answer)
 }

@@ -40,10 +40,10 @@ enum Meaning {
 fn meaning_of(verb: &[u8]) -> Meaning
     ensures { λ r. ⌜ ((Verb (now (verb .entry)) → ⊥) → r ≡ Unknown) ⌝ }
 {
-    if bytes::same(verb, b"escape") {
+    if alphabet::same(verb, b"escape") {
         return Meaning::Asks(Writing::Escape);
     }
-    if bytes::same(verb, b"unescape") {
+    if alphabet::same(verb, b"unescape") {
         return Meaning::Asks(Writing::Unescape);
     }
     Meaning::Unknown

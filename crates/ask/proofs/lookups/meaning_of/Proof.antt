@@ -1,27 +1,27 @@
 -- `ask::lookups::meaning_of` meets its contract: a word that is the same as one of the verbs is a verb.
 use Rattle.ask.specs.Questions.{find, nm, si, dt, tm, ts}
-use Rattle.ask.proofs.Asking.{is-verb}
+use Rattle.ask.proofs.Asking.{same-verb}
 use borrow.Author.Needs.{needs}
 use Rattle.ask.proofs.lookups.meaning_of.Statement.{statement}
 use Rattle.ask.proofs.lookups.meaning_of.Tie as tie
 
 returns : tie.Need-returns
-returns c = is-verb find (c .before .same .ensures .0 (c .if1 .taken))
+returns c = same-verb find (c .before .same .ensures) (c .if1 .taken)
 
 returns-2 : tie.Need-returns-2
-returns-2 c = is-verb nm (c .before .same2 .ensures .0 (c .if2 .taken))
+returns-2 c = same-verb nm (c .before .same2 .ensures) (c .if2 .taken)
 
 returns-3 : tie.Need-returns-3
-returns-3 c = is-verb si (c .before .same3 .ensures .0 (c .if3 .taken))
+returns-3 c = same-verb si (c .before .same3 .ensures) (c .if3 .taken)
 
 returns-4 : tie.Need-returns-4
-returns-4 c = is-verb dt (c .before .same4 .ensures .0 (c .if4 .taken))
+returns-4 c = same-verb dt (c .before .same4 .ensures) (c .if4 .taken)
 
 returns-5 : tie.Need-returns-5
-returns-5 c = is-verb tm (c .before .same5 .ensures .0 (c .if5 .taken))
+returns-5 c = same-verb tm (c .before .same5 .ensures) (c .if5 .taken)
 
 returns-6 : tie.Need-returns-6
-returns-6 c = is-verb ts (c .before .same6 .ensures .0 (c .if6 .taken))
+returns-6 c = same-verb ts (c .before .same6 .ensures) (c .if6 .taken)
 
 pub meaning-of-spec : {M : Type 1} → statement M
 meaning-of-spec =
