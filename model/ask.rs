@@ -1,13 +1,16 @@
 //! One line of ASK.md: its words are taken apart, the rules are asked once, and the answer is
 //! written out. A verb has one function here; its rules stand in a module of their own.
 
+use crate::acknowledgement;
 use crate::element::{self, Address, State};
+use crate::fields;
 use crate::hex;
 use crate::numbers::{self, Numeric};
 use crate::reading::{self, Refusal};
 use crate::structure::{self, Misfit};
 use crate::text::{self, Delimiters};
 use crate::times::{self, Offset, Time};
+use crate::verdict::{self, Fault};
 
 /// The line buffer of the program `ask`, in bytes without the LF.
 pub const LONGEST_LINE: usize = 200_000;
@@ -42,6 +45,8 @@ fn answer_question(line: &[u8]) -> Option<String> {
         b"escape" => answer_text(words, text::escape),
         b"unescape" => answer_text(words, text::unescape),
         b"structure" => answer_structure(words),
+        b"verdict" => answer_verdict(words),
+        b"ack" => answer_acknowledgement(words),
         _ => None,
     }
 }
@@ -131,6 +136,31 @@ fn answer_structure(words: &[&[u8]]) -> Option<String> {
             format!("{} {} {}", refusal.number, refusal.place, end_and_names(could_end, &names))
         }
     })
+}
+
+/// `verdict MSG` is answered `NUMBER PLACE FIELD REPETITION END NAMES`; "PLACE is the byte offset
+/// or the segment, as the paper says for that number".
+fn answer_verdict(words: &[&[u8]]) -> Option<String> {
+    let [message] = words else { return None };
+    let message = bytes(message)?;
+    Some(match verdict::judge(&message) {
+        Ok(()) => format!("0 0 0 0 {}", end_and_names(false, &[])),
+        Err(Fault::OfStructure(Misfit { refusal, could_end, names })) => {
+            let end_and_names = end_and_names(could_end, &names);
+            format!("{} {} 0 0 {end_and_names}", refusal.number, refusal.place)
+        }
+        Err(Fault::OfField(fields::Fault { number, segment, field, repetition })) => {
+            format!("{number} {segment} {field} {repetition} {}", end_and_names(false, &[]))
+        }
+    })
+}
+
+/// `ack MSG TIME ID ROOM` is answered `NUMBER PLACE LENGTH BUFFER`.
+fn answer_acknowledgement(words: &[&[u8]]) -> Option<String> {
+    let [message, time, id, room] = words else { return None };
+    let (message, time, id) = (bytes(message)?, bytes(time)?, bytes(id)?);
+    let room = room_lent(room)?;
+    Some(written_words(acknowledgement::acknowledge(&message, &time, &id, room), room))
 }
 
 /// "END is `yes` or `no`; NAMES joined by commas, `-` where none."

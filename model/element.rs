@@ -106,7 +106,7 @@ pub fn segments(message: &[u8]) -> Vec<Part> {
 
 /// The fields behind a segment's name. "Field 1 of MSH is the separator byte, field 2 the four
 /// encoding bytes": so only field 1 is another than behind other names.
-fn fields(message: &[u8], segment: Part, is_header: bool) -> Vec<Part> {
+pub fn fields(message: &[u8], segment: Part, is_header: bool) -> Vec<Part> {
     let mut parts = split(message, segment, message[FIELD_SEPARATOR]);
     let name = parts.remove(0);
     if is_header {
@@ -124,7 +124,7 @@ fn unsplit(field: Part, address: &Address) -> Option<Part> {
 
 /// "Each level splits the part above it at its own separator; an empty part splits into one empty
 /// part."
-fn split(message: &[u8], part: Part, separator: u8) -> Vec<Part> {
+pub fn split(message: &[u8], part: Part, separator: u8) -> Vec<Part> {
     let mut start = part.start;
     let mut parts = Vec::new();
     for piece in message[part].split(|&byte| byte == separator) {
@@ -148,7 +148,7 @@ fn part_from_one(parts: Vec<Part>, number: u64) -> Option<Part> {
 
 /// "Empty, no bytes or only component, subcomponent or repetition separators; null, exactly `""`;
 /// present, anything else."
-fn state_of(message: &[u8], part: &Part) -> State {
+pub fn state_of(message: &[u8], part: &Part) -> State {
     let separators = [
         message[COMPONENT_SEPARATOR],
         message[SUBCOMPONENT_SEPARATOR],

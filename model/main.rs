@@ -4,11 +4,14 @@
 //!     model stored              prints the questions of the stored vectors, always the same
 //!     model wide                prints all questions of some small worlds, too many to be stored
 //!     model fresh SEED COUNT    prints COUNT random questions, the same for the same seed
+//!     model ahead               prints questions of verbs that the program does not know yet
 //!     model answer              answers questions from standard input, one line for each
 
+mod acknowledgement;
 mod ask;
 mod chance;
 mod element;
+mod fields;
 mod hex;
 mod numbers;
 mod questions;
@@ -16,6 +19,7 @@ mod reading;
 mod structure;
 mod text;
 mod times;
+mod verdict;
 
 use chance::Chance;
 use std::io::{self, BufRead, BufWriter, Write};
@@ -26,7 +30,8 @@ fn main() -> ExitCode {
     let words: Vec<&str> = words.iter().map(String::as_str).collect();
     let done = match words[..] {
         ["stored"] => print_stored(),
-        ["wide"] => print_wide(),
+        ["wide"] => print_lines(questions::wide()),
+        ["ahead"] => print_lines(questions::ahead(&mut Chance::of_seed(1))),
         ["fresh", seed, count] => match (seed.parse(), count.parse()) {
             (Ok(seed), Ok(count)) => print_fresh(seed, count),
             _ => return usage(),
@@ -43,7 +48,9 @@ fn main() -> ExitCode {
 }
 
 fn usage() -> ExitCode {
-    eprintln!("usage: model stored | model wide | model fresh SEED COUNT | model answer");
+    eprintln!(
+        "usage: model stored | model wide | model fresh SEED COUNT | model ahead | model answer"
+    );
     ExitCode::from(2)
 }
 
@@ -55,10 +62,10 @@ fn print_stored() -> io::Result<()> {
     out.flush()
 }
 
-fn print_wide() -> io::Result<()> {
+fn print_lines(lines: Vec<Vec<u8>>) -> io::Result<()> {
     let mut out = BufWriter::new(io::stdout().lock());
-    for question in questions::wide() {
-        out.write_all(&question)?;
+    for line in lines {
+        out.write_all(&line)?;
         out.write_all(b"\n")?;
     }
     out.flush()

@@ -2,7 +2,12 @@
 //! and some have a wide set, complete over a small world and not stored: a new verb adds its modules
 //! below and a line in each of the functions.
 
+mod ack_fresh;
+mod ack_stored;
+mod ack_wide;
+mod filled;
 mod find_stored;
+mod lifelike;
 mod lookup_fresh;
 mod lookup_stored;
 mod no_question;
@@ -18,6 +23,9 @@ mod text_stored;
 mod text_wide;
 mod time_stored;
 mod value_fresh;
+mod verdict_fresh;
+mod verdict_stored;
+mod verdict_wide;
 
 use crate::ask::bytes_word;
 use crate::chance::Chance;
@@ -49,6 +57,7 @@ pub fn stored() -> Vec<Bytes> {
         time_stored::stored(),
         text_stored::stored(),
         structure_stored::stored(),
+        verdict_stored::stored(),
     ];
     // Two sets may hold the same question: once is enough.
     lines.extend(once_each(others.concat()));
@@ -57,7 +66,14 @@ pub fn stored() -> Vec<Bytes> {
 
 /// The questions of the wide sets, each a line without its LF.
 pub fn wide() -> Vec<Bytes> {
-    once_each([text_wide::wide(), structure_wide::wide()].concat())
+    once_each([text_wide::wide(), structure_wide::wide(), verdict_wide::wide()].concat())
+}
+
+/// The questions of verbs that the program does not know yet, each a line without its LF: they join
+/// the others when it does.
+pub fn ahead(chance: &mut Chance) -> Vec<Bytes> {
+    let fresh = (0..1000).map(|_| ack_fresh::fresh(chance)).collect();
+    once_each([ack_stored::stored(), ack_wide::wide(), fresh].concat())
 }
 
 /// One random question, a line without its LF: as many of each verb, and some damaged lines.
@@ -69,10 +85,11 @@ pub fn fresh(chance: &mut Chance) -> Bytes {
 }
 
 fn fresh_question(chance: &mut Chance) -> Bytes {
-    let verbs = [&["read", "structure"], &LOOKUPS[..], &TEXTS[..]].concat();
+    let verbs = [&["read", "structure", "verdict"], &LOOKUPS[..], &TEXTS[..]].concat();
     match chance.pick(&verbs) {
         "read" => read_fresh::fresh(chance),
         "structure" => structure_fresh::fresh(chance),
+        "verdict" => verdict_fresh::fresh(chance),
         verb @ ("escape" | "unescape") => text_fresh::fresh(chance, verb),
         verb => lookup_fresh::fresh(chance, verb),
     }
@@ -107,6 +124,15 @@ fn text_question(verb: &str, text: &[u8], delimiters: &[u8], room: usize) -> Byt
 
 fn structure_question(message: &[u8]) -> Bytes {
     format!("structure {}", bytes_word(message)).into_bytes()
+}
+
+fn verdict_question(message: &[u8]) -> Bytes {
+    format!("verdict {}", bytes_word(message)).into_bytes()
+}
+
+fn ack_question(message: &[u8], time: &[u8], id: &[u8], room: usize) -> Bytes {
+    let (message, time, id) = (bytes_word(message), bytes_word(time), bytes_word(id));
+    format!("ack {message} {time} {id} {room}").into_bytes()
 }
 
 /// A message of this type, MSH-9 as it stands, with these segments behind its header.

@@ -50,7 +50,7 @@ fn check_room(result: Vec<u8>, room: usize) -> Result<Vec<u8>, Refusal> {
 }
 
 /// House: "text that is exactly two quotes is written `\X2222\`, so that it isn't null".
-fn escaped(text: &[u8], delimiters: Delimiters) -> Vec<u8> {
+pub fn escaped(text: &[u8], delimiters: Delimiters) -> Vec<u8> {
     if text == NULL {
         return sequence("X2222", delimiters);
     }

@@ -68,7 +68,7 @@ fn random_names(chance: &mut Chance, kind: &str, event: &str) -> Vec<String> {
 }
 
 /// The names behind MSH that a walk through the structure of this type comes by.
-fn walk(chance: &mut Chance, kind: &str, event: &str) -> Vec<String> {
+pub fn walk(chance: &mut Chance, kind: &str, event: &str) -> Vec<String> {
     let times = if chance.one_in(2) { sound::seldom_twice } else { up_to_three };
     let mut names = sound::random_names(chance, structure_of(kind, event), times);
     names.truncate(24);
@@ -90,7 +90,7 @@ fn up_to_twelve(chance: &mut Chance) -> usize {
 
 /// About as many segments as may be where the structure repeats enough, or else filled with Z
 /// segments.
-fn long_walk(chance: &mut Chance, kind: &str, event: &str) -> Vec<String> {
+pub fn long_walk(chance: &mut Chance, kind: &str, event: &str) -> Vec<String> {
     let mut names = sound::random_names(chance, structure_of(kind, event), up_to_twelve);
     names.remove(0);
     let count = chance.between(MOST_SEGMENTS - 5, MOST_SEGMENTS);
@@ -181,7 +181,7 @@ fn other_type(chance: &mut Chance) -> String {
 }
 
 /// The byte, or where it is one of the usual delimiters the one that stands for it.
-fn translated(byte: u8, delimiters: [u8; 5]) -> u8 {
+pub fn translated(byte: u8, delimiters: [u8; 5]) -> u8 {
     match USUAL_DELIMITERS.iter().position(|&usual| usual == byte) {
         Some(number) => delimiters[number],
         None => byte,

@@ -1,10 +1,11 @@
 -- Laws of checks in order: what a check that passes or fails makes of the whole. Assumes nothing.
-use mathlib.Core.Path.{_≡_, refl, sym, _∙_}
+use mathlib.Core.Path.{_≡_, refl, sym, _∙_, subst}
 use mathlib.Core.Bool.{Bool, true, false}
 use Prim.Native.Nat.{ℕ}
 use native.Mathlib.Omega.{arith}
 use Rattle.alphabet.specs.Answers.{failsIf, orElse}
 use Rattle.alphabet.specs.declared.answers.Refusal.{Refusal}
+use Rattle.alphabet.specs.declared.answers.Refusal.the-variants.{None}
 use Rattle.alphabet.specs.declared.answers.Check.{Check}
 use Rattle.alphabet.specs.declared.answers.Check.the-variants.{Passes, Fails}
 
@@ -44,3 +45,21 @@ goes-on {later = later} e p q = q ∙ sym (passes-or (sym e ∙ p) later)
 pub ends : {r c : Check} → r ≡ c → r ≡ orElse c Passes
 ends {c = Passes} e = e
 ends {c = Fails kind place} e = e
+
+-- ---- a check that fails says why
+
+-- it passes, or its kind is that of a refusal
+abbrev pub Honest : Check → Type 0
+Honest Passes = Unit {0}
+Honest (Fails kind place) = kind ≡ None → ⊥
+
+pub honest-if : (t : Bool) (kind : Refusal) (place : ℕ) → (kind ≡ None → ⊥) → Honest (failsIf t kind place)
+honest-if true kind place h = h
+honest-if false kind place h = tt
+
+pub honest-or : (c d : Check) → Honest c → Honest d → Honest (orElse c d)
+honest-or Passes d h k = k
+honest-or (Fails kind place) d h k = h
+
+pub honest-fails : (c : Check) (kind : Refusal) (place : ℕ) → Honest c → c ≡ Fails kind place → kind ≡ None → ⊥
+honest-fails c kind place h e = subst Honest e h

@@ -7,3 +7,5 @@ pub mod DelimiterLaws
 pub mod LimitLaws
 pub mod CheckLaws
 pub mod NullLaws
+pub mod FillingLaws
+pub mod EachLaws

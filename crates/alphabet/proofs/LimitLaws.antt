@@ -15,6 +15,11 @@ pub segment-limit-some : 1 ≤ segmentLimit
 unfolding segmentLimit
 segment-limit-some = lit≤ tt
 
+-- an acknowledgement has two segments
+pub segment-limit-two : 2 ≤ segmentLimit
+unfolding segmentLimit
+segment-limit-two = lit≤ tt
+
 pub segment-limit-fits : segmentLimit < 2 ^ 32
 unfolding segmentLimit
 segment-limit-fits = lit< tt
@@ -26,3 +31,8 @@ id-limit-some = lit≤ tt
 pub id-limit-fits : idLimit < 2 ^ 32
 unfolding idLimit
 id-limit-fits = lit< tt
+
+-- an ID that is escaped byte by byte, five for one, goes into a buffer of a thousand
+pub id-limit-small : idLimit ≤ 200
+unfolding idLimit
+id-limit-small = lit≤ tt

@@ -8,13 +8,13 @@ use Prim.Native.Nat.{ℕ, zero, suc, _+_, _-_, _≤_, _<_}
 use native.Mathlib.Numerals.{add-one}
 use native.Mathlib.Omega.{arith}
 use lib.Dec.{eqb, ltb}
-use lib.ListN.{length, getD, take, drop, length-append}
-use lib.Seq.{drop-drop, drop-append-add, take-append-seam, length-take-le}
-use borrow.Author.Tests.{ltb-true, ltb-false, eqb-true, eq-eqb}
+use lib.ListN.{length, getD, take, drop, length-append, length-drop}
+use lib.Seq.{drop-drop, drop-append-add, take-append-seam, take-all, length-take-le}
+use borrow.Author.Tests.{ltb-true, ltb-false, lt-ltb, eqb-true, eq-eqb}
 use Rattle.alphabet.specs.Lists.{first, find}
 use Rattle.alphabet.specs.Parts.{grown, split, join, standing, partAt}
 use Rattle.alphabet.specs.declared.parts.Part.the-variants.{At, Absent}
-use Rattle.alphabet.proofs.ListLaws.{first-le}
+use Rattle.alphabet.proofs.ListLaws.{rest-of, first-le}
 
 -- ---- a piece of a list that is put together of two
 
@@ -239,3 +239,72 @@ unfolding standing
 absent-past at [] k q = omega arith
 absent-past at (p ∷ ps) zero q = absurd (let z : _≡_ {A = ℕ} 0 1 = cc in omega arith)
 absent-past at (p ∷ ps) (suc k) q = let i = absent-past (at + length p + 1) ps k q in omega arith
+
+-- ---- a walk as code makes it: from `start`, with the separator looked for in the rest of the slice
+
+module _ (sep : ℕ) (l : List ℕ) (start n : ℕ) (inside : start ≤ length l) (found : n ≡ find sep (take (length l - start) (drop start l))) where
+  place : n ≡ find sep (drop start l)
+  place = found ∙ ap (find sep) (rest-of l start)
+
+  -- the part ends within the bytes
+  pub walk-in : start + n ≤ length l
+  walk-in =
+      let e = place in
+      let u = first-le (eqb sep) (drop start l) in
+      let d = length-drop start l in
+      omega arith
+
+  -- where it ends before them, the rest stands behind its separator
+  pub walk-more : (start + n ≡ length l → ⊥) → split sep (drop start l) ≡ take (start + n - start) (drop start l) ∷ split sep (drop (start + n + 1) l)
+  walk-more h =
+      let i = walk-in in
+      let d = length-drop start l in
+      let k : start + n < length l = omega (arith, h) in
+      let e : n ≡ start + n - start = omega arith in
+      split-walk sep l start n place (omega arith)
+      ∙ ap (λ (i : ℕ). take i (drop start l) ∷ split sep (drop (start + n + 1) l)) e
+
+  -- and where it ends with them, it is the last
+  pub walk-last : start + n ≡ length l → split sep (drop start l) ≡ take (start + n - start) (drop start l) ∷ []
+  walk-last h =
+      let e = place in
+      let d = length-drop start l in
+      split-last sep (drop start l) (omega arith)
+      ∙ ap (λ (q : List ℕ). q ∷ []) (sym (take-all (start + n - start) (drop start l) (omega arith)))
+
+-- ---- the first part
+
+pub first-part : (sep : ℕ) (l : List ℕ) → getD (split sep l) 0 [] ≡ take (find sep l) l
+first-part sep l = at (ltb (find sep l) (length l)) refl
+  where
+    at : (t : Bool) → ltb (find sep l) (length l) ≡ t → getD (split sep l) 0 [] ≡ take (find sep l) l
+    at true e = ap (λ (ps : List (List ℕ)). getD ps 0 []) (split-step sep l (ltb-true _ _ e))
+    at false e =
+        let h = ltb-false (find sep l) (length l) e in
+        ap (λ (ps : List (List ℕ)). getD ps 0 []) (split-last sep l h) ∙ sym (take-all (find sep l) l h)
+
+-- there are more parts than one exactly where the first ends before the bytes do
+pub more-parts : (sep : ℕ) (l : List ℕ) → ltb 1 (length (split sep l)) ≡ ltb (find sep l) (length l)
+more-parts sep l = at (ltb (find sep l) (length l)) refl
+  where
+    at : (t : Bool) → ltb (find sep l) (length l) ≡ t → ltb 1 (length (split sep l)) ≡ t
+    at true e =
+        let s = split-some sep (drop (find sep l + 1) l) in
+        ap (λ (ps : List (List ℕ)). ltb 1 (length ps)) (split-step sep l (ltb-true _ _ e)) ∙ lt-ltb 1 (suc (length (split sep (drop (find sep l + 1) l)))) (omega arith)
+    at false e = ap (λ (ps : List (List ℕ)). ltb 1 (length ps)) (split-last sep l (ltb-false _ _ e))
+
+-- ---- past the last part
+
+pub past-none : (ps : List (List ℕ)) (k : ℕ) → length ps ≤ k → getD ps k [] ≡ []
+past-none [] k h = refl
+past-none (p ∷ ps) zero h = absurd (omega arith)
+past-none (p ∷ ps) (suc k) h = past-none ps k (omega arith)
+
+pub none-past : (sep : ℕ) (l : List ℕ) (k : ℕ) → partAt sep l k ≡ Absent → length (split sep l) ≤ k
+unfolding partAt
+none-past sep l k q = absent-past 0 (split sep l) k q
+
+-- no bytes are one part, with no bytes
+pub split-nothing : (sep : ℕ) → split sep [] ≡ [] ∷ []
+unfolding split
+split-nothing sep = refl

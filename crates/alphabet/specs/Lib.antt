@@ -6,3 +6,4 @@ pub mod Hex
 pub mod Limits
 pub mod Answers
 pub mod Parts
+pub mod Filling

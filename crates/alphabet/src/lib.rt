@@ -1,8 +1,9 @@
 // What every other crate shares: what a byte may be, the five delimiters, the refusals and the
-// answer that carries one, the limits, and how bytes fall into parts at a separator.
+// answer that carries one, the limits, how bytes fall into parts at a separator, and how a buffer is filled.
 mod answers;
 mod bytes;
 mod delimiters;
+mod filling;
 mod hex;
 mod limits;
 mod parts;
@@ -29,6 +30,7 @@ pub use bytes::same;
 pub use delimiters::Delimiters;
 pub use delimiters::is_permitted;
 pub use delimiters::wrong_delimiter;
+pub use filling::put;
 pub use hex::all_hex;
 pub use limits::id_limit;
 pub use limits::message_limit;

@@ -1,6 +1,6 @@
-// The questions that ask for a judgement of a whole message: `structure`. Behind the verb stands the message alone. The
-// answer has the number of the refusal and its place, whether the message could have ended there, and the names that could
-// have stood there.
+// The questions that ask for a judgement of a whole message: `structure` and `verdict`. Behind the verb stands the message
+// alone. The answer has the number of the refusal and its place, for `verdict` the field and the repetition too, whether the
+// message could have ended there, and the names that could have stood there.
 ghost use Prim.Native.Nat.{_+_, _*_, _%_, _≤_};
 ghost use mathlib.Core.Path.{_≡_};
 ghost use mathlib.Core.List.{[]};
@@ -9,6 +9,7 @@ ghost use Rattle.io.specs.Counts.{Counts};
 ghost use Rattle.ask.specs.Answers.{Roomy};
 ghost use Rattle.ask.specs.Words.{words as Words·words};
 ghost use Rattle.ask.specs.Questions.{Verb, noQuestion};
+ghost use Rattle.ask.specs.declared.judges.Meaning.the-variants.{Unknown};
 use crate::answers;
 use crate::hex;
 use crate::hex::Decoded;
@@ -16,6 +17,32 @@ use crate::printing;
 use crate::words;
 use structure::Judgement;
 use structure::Names;
+use verdict::FaultRecord;
+
+// Who is to judge.
+enum Judge {
+    Structure,
+    All,
+}
+
+// What a verb asks: a judgement, or nothing that is known here.
+enum Meaning {
+    Asks(Judge),
+    Unknown,
+}
+
+// What a verb asks.
+fn meaning_of(verb: &[u8]) -> Meaning
+    ensures { λ r. ⌜ ((Verb (now (verb .entry)) → ⊥) → r ≡ Unknown) ⌝ }
+{
+    if alphabet::same(verb, b"structure") {
+        return Meaning::Asks(Judge::Structure);
+    }
+    if alphabet::same(verb, b"verdict") {
+        return Meaning::Asks(Judge::All);
+    }
+    Meaning::Unknown
+}
 
 // The most names that a judgement has.
 const MOST_NAMES: usize = 64;
@@ -112,12 +139,30 @@ fn put_judgement(found: Judgement, answer: &mut [u8]) -> usize
     put_names(answer, fourth, names)
 }
 
-// Calls the library once, and puts what came back into the answer.
-fn put_structure(message: &[u8], answer: &mut [u8]) -> usize
+// Puts a verdict: the same, with field and repetition behind the place.
+fn put_verdict(found: FaultRecord, answer: &mut [u8]) -> usize
     requires { ⌜ Roomy (now answer) ⌝ }
     ensures { λ r. ⌜ r ≤ length (now (answer .exit)) ⌝ }
 {
-    put_judgement(structure::judge_structure(message), answer)
+    let kind = found.kind;
+    let names = found.names;
+    let second = printing::put_plain(answer, 0, alphabet::number(kind) as u64, b' ');
+    let third = printing::put_plain(answer, second, found.place as u64, b' ');
+    let fourth = printing::put_plain(answer, third, found.field as u64, b' ');
+    let fifth = printing::put_plain(answer, fourth, found.repetition as u64, b' ');
+    let sixth = put_could_end(answer, fifth, found.could_end);
+    put_names(answer, sixth, names)
+}
+
+// Calls the library once, and puts what came back into the answer.
+fn put_judged(judge: Judge, message: &[u8], answer: &mut [u8]) -> usize
+    requires { ⌜ Roomy (now answer) ⌝ }
+    ensures { λ r. ⌜ r ≤ length (now (answer .exit)) ⌝ }
+{
+    match judge {
+        Judge::Structure => put_judgement(structure::judge_structure(message), answer),
+        Judge::All => put_verdict(verdict::verdict(message), answer),
+    }
 }
 
 // Puts the answer to a line with one of these verbs into `answer`, and returns its length. Any other line is no question.
@@ -129,12 +174,13 @@ pub fn answer(line: &[u8], message: &mut [u8], answer: &mut [u8]) -> usize
     if words::count(line) != 2 {
         return answers::no_question(answer);
     }
-    if !alphabet::same(words::word(line, 0), b"structure") {
+    let meaning = meaning_of(words::word(line, 0));
+    let Meaning::Asks(judge) = meaning else {
         return answers::no_question(answer);
-    }
+    };
     let decoded = hex::decode(words::word(line, 1), message);
     let Decoded::Length(length) = decoded else {
         return answers::no_question(answer);
     };
-    put_structure(&message[..length], answer)
+    put_judged(judge, &message[..length], answer)
 }

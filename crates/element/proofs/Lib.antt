@@ -2,3 +2,4 @@ pub mod LevelLaws
 pub mod StateLaws
 pub mod FindingLaws
 pub mod ElementLaws
+pub mod RawLaws

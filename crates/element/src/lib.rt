@@ -10,13 +10,13 @@ use alphabet::Check;
 use alphabet::Part;
 use alphabet::Refusal;
 use levels::part_of;
-use states::state_of;
 ghost use mathlib.Core.Path.{_≡_};
 ghost use Prim.Native.Nat.{_≤_};
 ghost use lib.ListN.{length};
 ghost use Rattle.element.specs.Finding.{lookupCheck, elementOf, found, bytesAt, elementBytes, rawBytes};
 pub use address::Address;
 pub use states::State;
+pub use states::state_of;
 
 // An element: its state, and the bytes of the message that it is, from `start` up to and without `end`.
 // An absent element stands nowhere: 0 and 0.

@@ -1,3 +1,4 @@
 pub mod SegmentLaws
 pub mod Accepted
 pub mod HeaderLaws
+pub mod Honest

@@ -14,9 +14,10 @@ use Rattle.alphabet.specs.Lists.{find}
 use Rattle.alphabet.specs.Parts.{split, standing, partAt}
 use Rattle.alphabet.specs.declared.parts.Part.{Part}
 use Rattle.alphabet.specs.declared.parts.Part.the-variants.{At, Absent}
-use Rattle.alphabet.proofs.PartLaws.{split-walk, split-last, split-some, join-split, joined-end, standing-absent, absent-past, part-bytes}
+use Rattle.alphabet.proofs.PartLaws.{split-walk, split-last, split-cons, split-some, join-split, joined-end, standing-absent, absent-past, part-bytes}
 use Rattle.reading.specs.Segments.{allButLast, segments, segmentAt}
 use Rattle.reading.specs.Reading.{segmentCheck, segmentChecks}
+use Rattle.reading.specs.Message.{ended}
 
 -- ---- all but the last of some parts
 
@@ -128,6 +129,11 @@ segment-bytes m k s e q =
     let c = but-last-count (split carriageReturn m) (split-some carriageReturn m) in
     (omega arith, b .1, l, b .3 ∙ sym (but-last-get (split carriageReturn m) k n))
 
+-- past the last segment none stands
+pub segment-past : (m : List ℕ) (k : ℕ) → segmentAt m k ≡ Absent → length (segments m) ≤ k
+unfolding segmentAt
+segment-past m k q = absent-past 0 (segments m) k q
+
 -- ---- the segments from `start` on, and their checks: up to the next CR, which stands at `end`, or with none left
 
 module _ (m : List ℕ) (start : ℕ) where
@@ -161,3 +167,13 @@ module _ (m : List ℕ) (start : ℕ) where
   pub checks-over : (sep k : ℕ) → length m ≤ start + find carriageReturn (drop start m) → segmentChecks sep k start (allButLast (split carriageReturn (drop start m))) ≡ []
   unfolding segmentChecks
   checks-over sep k h = rw (segments-over h)
+
+-- ---- segments one after another, each ended by CR and with none inside, are the segments
+
+pub segments-ended : (ss : List (List ℕ)) → ((k : ℕ) → k < length ss → find carriageReturn (getD ss k []) ≡ length (getD ss k [])) → segments (ended ss) ≡ ss
+unfolding segments ended split
+segments-ended [] h = but-last-one []
+segments-ended (s ∷ ss) h =
+    ap allButLast (split-cons carriageReturn s (ended ss) (h 0 (omega arith)))
+    ∙ but-last-cons s (split carriageReturn (ended ss)) (split-some carriageReturn (ended ss))
+    ∙ ap (λ (l : List (List ℕ)). s ∷ l) (segments-ended ss (λ k l. h (suc k) (omega arith)))

@@ -10,6 +10,7 @@ use alphabet::Check;
 ghost use Rattle.structure.specs.Judged.{Answers};
 pub use judging::Judgement;
 pub use listing::Names;
+pub use listing::no_names;
 pub use structures::judge_read;
 
 // Judges the structure of a message: a reading fault, 20, 21, 22, or accepted.

@@ -11,6 +11,7 @@ use lib.Seq.{take-append-seam}
 use borrow.Author.Tests.{le-leb, le-ltb, ltb-true, ltb-false}
 use Rattle.alphabet.proofs.BoolLaws.{and-both, between-true}
 use Rattle.alphabet.proofs.DelimiterLaws.{delimiter-permitted}
+use Rattle.alphabet.proofs.EachLaws.{Each, each-append, each-at}
 use Rattle.alphabet.specs.Lists.{find}
 use Rattle.alphabet.specs.Bytes.{between, printable, hexDigit, isNull}
 use Rattle.alphabet.specs.Delimiters.{punctuation, kept, permitted, wrongDelimiter}
@@ -18,28 +19,12 @@ use Rattle.alphabet.specs.declared.answers.Refusal.the-variants.{None}
 use Rattle.alphabet.specs.declared.answers.Answer.{Answer}
 use Rattle.text.specs.Escape.{letters, escapeOf, escapeByte, escapeBytes, twoQuotes, escape}
 use Rattle.text.specs.Unescape.{Outcome, text}
-use Rattle.text.specs.Answers.{fitting, escaping, unescaping, answer, over, filled}
+use Rattle.alphabet.specs.Filling.{over}
+use Rattle.text.specs.Answers.{fitting, escaping, unescaping, answer, filled}
 use Rattle.text.proofs.PieceLaws.{written-letter, written-plain, written-hex}
 use Rattle.text.proofs.OutcomeLaws.{escape-null, escape-other}
 use Rattle.text.proofs.TableLaws.{letter-back, digit-back, letter-printable, digit-printable}
 use Rattle.text.proofs.RoundTrip.{AreBytes, absent, round-trip}
-
--- ---- each byte of a list
-
-Each : (ℕ → Type 0) → List ℕ → Type 0
-Each P [] = Unit {0}
-Each P (b ∷ r) = P b × Each P r
-
-each-append : (P : ℕ → Type 0) (s r : List ℕ) → Each P s → Each P r → Each P (s ++ r)
-unfolding Each
-each-append P [] r h k = k
-each-append P (b ∷ s) r h k = (h .0, each-append P s r (h .1) k)
-
-each-at : (P : ℕ → Type 0) (s : List ℕ) → Each P s → (i : ℕ) → i < length s → P (getD s i 0)
-unfolding Each
-each-at P [] h i l = absurd (omega arith)
-each-at P (b ∷ s) h zero l = h .0
-each-at P (b ∷ s) h (suc i) l = each-at P s (h .1) i (omega arith)
 
 -- ---- a delimiter is printable
 
@@ -48,7 +33,7 @@ within lo hi b l h e =
     let p = between-true lo hi b e in
     rw (le-leb 32 b (omega arith)) (rw (le-leb b 126 (omega arith)))
 
-permitted-printable : (b : ℕ) → permitted b ≡ true → printable b ≡ true
+pub permitted-printable : (b : ℕ) → permitted b ≡ true → printable b ≡ true
 permitted-printable b e =
     at (between 33 47 b) refl (between 58 64 b) refl (between 91 96 b) refl (and-both (punctuation b) (not (kept b)) e .0)
   where

@@ -1,7 +1,6 @@
 pub mod PieceLaws
 pub mod SequenceLaws
 pub mod OutcomeLaws
-pub mod FillingLaws
 pub mod StepLaws
 pub mod TableLaws
 pub mod RoundTrip

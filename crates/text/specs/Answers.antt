@@ -7,6 +7,7 @@ use mathlib.Core.Bool.{Bool, true, false, cond}
 use lib.ListN.{length, take, drop}
 use lib.Dec.{leb, ltb}
 use Rattle.alphabet.specs.Bytes.{isNull}
+use Rattle.alphabet.specs.Filling.{over}
 use Rattle.alphabet.specs.Delimiters.{wrongDelimiter}
 use Rattle.alphabet.specs.declared.answers.Refusal.the-variants.{None, Delimiter, TextTooLong, NullText}
 use Rattle.alphabet.specs.declared.answers.Answer.{Answer}
@@ -38,10 +39,6 @@ unfoldable pub answer : Outcome → Answer
 answer (text t) = record { kind = None; place = 0; length = length t }
 answer (fault k p) = record { kind = k; place = p; length = 0 }
 
--- the buffer d with w over its front, and "the bytes behind it stay"
-abbrev pub over : List ℕ → List ℕ → List ℕ
-over w d = w ++ drop (length w) d
-
 -- "A written text fills the front of its buffer"; a refusal "writes nothing"
 unfoldable pub filled : Outcome → List ℕ → List ℕ
 filled (text t) d = over t d
@@ -61,10 +58,6 @@ textOf (fault k p) = []
 -- whether n bytes go into `room`
 unfoldable pub roomFor : ℕ → ℕ → Room
 roomFor room n = cond (leb n room) (Takes n) Short
-
--- d with s in it from place `at` on
-abbrev pub pasted : List ℕ → ℕ → List ℕ → List ℕ
-pasted d at s = take at d ++ s ++ drop (at + length s) d
 
 -- what the judge gives of a step, and of a whole text
 unfoldable pub seen : Step → Found

@@ -5,31 +5,16 @@ use alphabet::Answer;
 use alphabet::Delimiters;
 use alphabet::Refusal;
 ghost use mathlib.Core.Path.{_≡_};
-ghost use Prim.Native.Nat.{_+_, _≤_};
+ghost use Prim.Native.Nat.{_≤_};
 ghost use lib.ListN.{length};
 ghost use Rattle.text.specs.Escape.{escapeBytes};
-ghost use Rattle.text.specs.Answers.{roomFor, pasted, over, escaping, answer, filled};
+ghost use Rattle.alphabet.specs.Filling.{over};
+ghost use Rattle.text.specs.Answers.{roomFor, escaping, answer, filled};
 
 // Whether something of a length goes into a room.
 pub enum Room {
     Takes(usize),
     Short,
-}
-
-// Copies the source into the buffer from `at` on, and returns the place behind it.
-fn put(buffer: &mut [u8], at: usize, source: &[u8]) -> usize
-    requires { ⌜ at + length (now source) ≤ length (now buffer) ⌝ }
-    ensures { λ r. ⌜ r ≡ at + length (now (source .entry)) ⌝ }
-    ensures { λ _. ⌜ now (buffer .exit) ≡ pasted (now (buffer .entry)) at (now (source .entry)) ⌝ }
-{
-    let mut i = 0;
-    let mut place = at;
-    while i < source.len() {
-        buffer[place] = source[i];
-        place += 1;
-        i += 1;
-    }
-    place
 }
 
 // The length of a text as it is written, byte by byte, where that is at most `room`. It is counted against the room, since
@@ -87,7 +72,7 @@ pub fn escape(delimiters: Delimiters, text: &[u8], buffer: &mut [u8]) -> Answer
         let five = delimiters.bytes;
         let mark = five[3];
         let quotes = [mark, 88, 50, 50, 50, 50, mark];
-        put(buffer, 0, &quotes);
+        alphabet::put(buffer, 0, &quotes);
         return Answer {
             kind: Refusal::None,
             place: 0,

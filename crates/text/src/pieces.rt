@@ -6,7 +6,7 @@ ghost use Prim.Native.Nat.{_+_, _≤_};
 ghost use lib.ListN.{length};
 ghost use Rattle.alphabet.specs.Lists.{find};
 ghost use Rattle.text.specs.Escape.{escapeByte};
-ghost use Rattle.text.specs.Answers.{pasted};
+ghost use Rattle.alphabet.specs.Filling.{pasted};
 
 // The letter of each delimiter, in the delimiters' order: F S R E T.
 pub const LETTERS: [u8; 5] = [70, 83, 82, 69, 84];

@@ -7,7 +7,7 @@ ghost use Prim.Native.Nat.{_+_, _≤_};
 ghost use lib.ListN.{length};
 ghost use Rattle.alphabet.specs.Hex.{allHex, pairsOf};
 ghost use Rattle.text.specs.Unescape.{known, meaning};
-ghost use Rattle.text.specs.Answers.{pasted};
+ghost use Rattle.alphabet.specs.Filling.{pasted};
 
 // Whether what stands between two escape delimiters is known.
 pub fn is_known(inside: &[u8]) -> bool

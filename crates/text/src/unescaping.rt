@@ -11,7 +11,8 @@ ghost use mathlib.Core.Bool.{true};
 ghost use Prim.Native.Nat.{_+_, _≤_, _<_};
 ghost use lib.ListN.{length, getD, drop};
 ghost use Rattle.text.specs.Unescape.{step, scan};
-ghost use Rattle.text.specs.Answers.{isText, textOf, seen, judged, over, unescaping, answer, filled};
+ghost use Rattle.text.specs.Answers.{isText, textOf, seen, judged, unescaping, answer, filled};
+ghost use Rattle.alphabet.specs.Filling.{over};
 
 // What stands at a place of a text: a fault, or bytes, as many as `length`, with `skip` bytes more after the first.
 pub enum Found {

@@ -4,3 +4,4 @@ pub mod TimeLaws
 pub mod AskedLaws
 pub mod ValueLaws
 pub mod OneSpelling
+pub mod TimeBytes

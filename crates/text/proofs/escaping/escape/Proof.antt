@@ -9,6 +9,7 @@ use Rattle.alphabet.specs.declared.answers.Refusal.the-variants.{None, Delimite
 use Rattle.alphabet.specs.declared.answers.Answer.{Answer}
 use Rattle.text.specs.Unescape.{fault}
 use Rattle.text.specs.Answers.{answer, filled}
+use Rattle.alphabet.proofs.FillingLaws.{put-fits}
 use Rattle.text.proofs.OutcomeLaws.{ended, takes-is, short-is, escape-null, escape-other, escaping-bad, escaping-fits, escaping-long}
 use Rattle.text.proofs.escaping.escape.Statement.{statement}
 use Rattle.text.proofs.escaping.escape.Tie as tie
@@ -37,7 +38,7 @@ returns-3 c =
     let z = escape-null (a .delimiters .bytes) (now (a .text)) (sym (c .before .before .before .before .before .before .before .before .is-null .ensures) ∙ c .before .before .before .before .before .before .before .if2 .taken) in
     let e = escaping-fits (a .delimiters .bytes) (now (a .text)) _ (length (now (a .buffer))) (omega arith) z (omega arith) in
     let r = ended _ _ (now (a .buffer)) e in
-    (r .0, c .before .before .put .ensures .1 ∙ r .1)
+    (r .0, c .before .before .put .ensures .1 ∙ put-fits (now (a .buffer)) _ 0 (omega arith) .1 ∙ r .1)
 
 write-escaped-requires : tie.Need-write-escaped-requires
 write-escaped-requires c κs =

@@ -9,7 +9,7 @@ use denote.Ref.{now}
 use lib.Seq.{length-take-le}
 use Rattle.text.specs.Escape.{escapeBytes}
 use Rattle.text.proofs.PieceLaws.{bytes-next, bytes-end, length-next}
-use Rattle.text.proofs.FillingLaws.{Filling, fill-start, fill-more, fill-room, fill-length, fill-end}
+use Rattle.alphabet.proofs.FillingLaws.{Filling, fill-start, fill-more, fill-room, fill-length, fill-end}
 use Rattle.text.proofs.escaping.write_escaped.Statement.{statement}
 use Rattle.text.proofs.escaping.write_escaped.Tie as tie
 

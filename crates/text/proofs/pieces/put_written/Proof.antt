@@ -8,9 +8,9 @@ use denote.Ref.{now}
 use borrow.Author.Needs.{needs}
 use Rattle.alphabet.specs.Bytes.{hexDigit}
 use Rattle.text.specs.Escape.{letters, escapeOf, escapeByte}
-use Rattle.text.specs.Answers.{pasted}
+use Rattle.alphabet.specs.Filling.{pasted}
 use Rattle.text.proofs.PieceLaws.{written-letter, written-plain, written-hex}
-use Rattle.text.proofs.FillingLaws.{set-pasted, three-pasted, five-pasted}
+use Rattle.alphabet.proofs.FillingLaws.{set-pasted, three-pasted, five-pasted}
 use Rattle.text.proofs.pieces.put_written.Statement.{statement}
 use Rattle.text.proofs.pieces.put_written.Tie as tie
 

@@ -13,9 +13,9 @@ use Rattle.alphabet.proofs.ListLaws.{rest-of}
 use Rattle.alphabet.specs.Lists.{find}
 use Rattle.text.specs.Escape.{letters}
 use Rattle.alphabet.specs.Hex.{allHex, pairsOf}
-use Rattle.text.specs.Answers.{pasted}
+use Rattle.alphabet.specs.Filling.{pasted}
 use Rattle.text.proofs.SequenceLaws.{known-one, known-more, meaning-letter, meaning-pairs, known-some}
-use Rattle.text.proofs.FillingLaws.{set-pasted}
+use Rattle.alphabet.proofs.FillingLaws.{set-pasted}
 use Rattle.text.proofs.sequences.put_meaning.Statement.{statement}
 use Rattle.text.proofs.sequences.put_meaning.Tie as tie
 

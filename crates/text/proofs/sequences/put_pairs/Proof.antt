@@ -11,7 +11,7 @@ use mathlib.Core.Bool.{true}
 use Rattle.alphabet.specs.Bytes.{hexOf}
 use Rattle.alphabet.specs.Hex.{allHex, pairsOf}
 use Rattle.alphabet.proofs.HexLaws.{hex-holds, pairs-next, pairs-end}
-use Rattle.text.proofs.FillingLaws.{Filling, fill-more, fill-room, fill-length, fill-from, fill-from-end, set-pasted}
+use Rattle.alphabet.proofs.FillingLaws.{Filling, fill-more, fill-room, fill-length, fill-from, fill-from-end, set-pasted}
 use Rattle.text.proofs.sequences.put_pairs.Statement.{statement}
 use Rattle.text.proofs.sequences.put_pairs.Tie as tie
 

@@ -13,7 +13,7 @@ use Rattle.alphabet.specs.Lists.{find}
 use Rattle.text.specs.Escape.{escapeOf}
 use Rattle.text.specs.Unescape.{known, meaning, emit, step, scan}
 use Rattle.text.specs.Answers.{isText, textOf}
-use Rattle.text.proofs.FillingLaws.{Filling, fill-start, fill-more, fill-room, fill-length, fill-end, set-pasted}
+use Rattle.alphabet.proofs.FillingLaws.{Filling, fill-start, fill-more, fill-room, fill-length, fill-end, set-pasted}
 use Rattle.text.proofs.StepLaws.{step-known, scan-end, text-past, text-opens, text-plain}
 use Rattle.text.proofs.unescaping.write_text.Statement.{statement}
 use Rattle.text.proofs.unescaping.write_text.Tie as tie

@@ -7,8 +7,9 @@ use native.Mathlib.Omega.{arith}
 use lib.ListN.{length, getD, take, drop, set, take-append-drop, drop-of-length-le, length-append, length-drop, length-set}
 use lib.Seq.{take-at, drop-at, drop-drop, length-take-le, set-split, append-snoc, paste, paste-suc, take-length}
 use native.Mathlib.Numerals.{add-one}
-use borrow.Rule.Slice.PartMut.{putMid, postOf}
-use Rattle.text.specs.Answers.{over, pasted}
+use lib.Dec.{leb}
+use borrow.Author.Tests.{le-leb, lt-leb}
+use Rattle.alphabet.specs.Filling.{over, pasted, putAt, behind}
 
 pub record Filling (W d₀ rest d : List ℕ) (o : ℕ) : Type 0 where
   pub front : List ℕ
@@ -93,14 +94,6 @@ module _ (d : List ℕ) (at : ℕ) where
       let f₅ = next-set w (at + 5) (f₄ .0) (omega arith) (f₄ .1) (omega arith) in
       fill-from-end (x ∷ y ∷ z ∷ v ∷ w ∷ []) at (f₅ .0) (omega arith) refl .1
 
--- ---- a part `&mut d[at..]` that was lent: the whole when it comes back
-
-pub part-back : (d ys : List ℕ) (at : ℕ) → putMid at (length d - at) d ys ≡ take at d ++ ys
-part-back d ys at = ap (λ (l : List ℕ). take at d ++ l) (ap (λ (l : List ℕ). ys ++ l) none ∙ append-nil ys)
-  where
-    none : postOf at (length d - at) d ≡ []
-    none = let h : length (drop at d) ≤ length d - at = omega (arith, length-drop at d) in drop-of-length-le (drop at d) h
-
 -- ---- copies
 
 pub put-step : (d₀ s d : List ℕ) (at j o : ℕ) → o ≡ at + j → d ≡ paste d₀ at s j → at + j < length d₀ → j < length s → set d o (getD s j 0) ≡ paste d₀ at s (j + 1)
@@ -110,3 +103,14 @@ put-step d₀ s d at j o eo ed hd hs =
 
 pub put-end : (d s : List ℕ) (at j : ℕ) → j ≡ length s → paste d at s j ≡ pasted d at s
 put-end d s at j e = ap (paste d at s) e ∙ ap (λ (l : List ℕ). take at d ++ l ++ drop (at + length s) d) (take-length s)
+
+-- ---- where there is room, and where there is none
+
+module _ (d s : List ℕ) (at : ℕ) where
+  pub put-fits : at + length s ≤ length d → (behind (length d) at (length s) ≡ at + length s) × (putAt d at s ≡ pasted d at s)
+  unfolding putAt behind
+  put-fits h = (rw (le-leb (at + length s) (length d) h), rw (le-leb (at + length s) (length d) h))
+
+  pub put-none : length d < at + length s → (behind (length d) at (length s) ≡ at) × (putAt d at s ≡ d)
+  unfolding putAt behind
+  put-none h = (rw (lt-leb (at + length s) (length d) h), rw (lt-leb (at + length s) (length d) h))

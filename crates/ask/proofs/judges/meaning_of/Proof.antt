@@ -1,0 +1,18 @@
+-- `ask::judges::meaning_of` meets its contract: a word that is the same as one of the verbs is a verb.
+use Rattle.ask.specs.Questions.{structure, verdict}
+use Rattle.ask.proofs.Asking.{same-verb}
+use borrow.Author.Needs.{needs}
+use Rattle.ask.proofs.judges.meaning_of.Statement.{statement}
+use Rattle.ask.proofs.judges.meaning_of.Tie as tie
+
+pub meaning-of-spec : {M : Type 1} → statement M
+meaning-of-spec =
+    tie.close
+    (tie.spec
+    (λ c. search needs)
+    (λ c κs. search needs)
+    (λ c. same-verb structure (c .before .same .ensures) (c .if1 .taken))
+    (λ c. search needs)
+    (λ c κs. search needs)
+    (λ c. same-verb verdict (c .before .same2 .ensures) (c .if2 .taken))
+    (λ c. search needs))

@@ -1,0 +1,76 @@
+-- The raw bytes at an address, as parts of the split: a field of a segment, and a component of its first repetition. Assumes nothing.
+use mathlib.Core.Path.{_≡_, refl, sym, ap, _∙_}
+use mathlib.Core.List.{List, [], _∷_}
+use Prim.Native.Nat.{ℕ, zero, suc, _+_, _-_, _≤_, _<_}
+use native.Mathlib.Omega.{arith}
+use lib.ListN.{length, getD, List·getD-eq-default}
+use borrow.Author.Tests.{le-leb, lt-leb, ne-eqb}
+use Rattle.alphabet.specs.Parts.{split}
+use Rattle.alphabet.specs.declared.parts.Part.{Part}
+use Rattle.alphabet.specs.declared.parts.Part.the-variants.{At, Absent}
+use Rattle.reading.specs.Segments.{delimitersOf, fieldSeparator, segments, segmentAt}
+use Rattle.reading.proofs.SegmentLaws.{segment-bytes, segment-past}
+use Rattle.element.specs.Levels.{between, Within, partIn, fieldIn, below, repetitionAt, componentAt, elementAt}
+use Rattle.element.specs.Finding.{partBytes, rawBytes}
+use Rattle.element.specs.declared.address.Address.{Address}
+use Rattle.element.proofs.LevelLaws.{within-segment, within-field, within-in, field-header, field-other}
+use Rattle.element.proofs.ElementLaws.{part-means, absent-means}
+
+-- a part's part, by its bytes
+pub part-in-bytes : (sep : ℕ) (m : List ℕ) (p : Part) (k : ℕ) → Within m p → partBytes m (partIn sep m p k) ≡ getD (split sep (partBytes m p)) k []
+unfolding partIn split
+part-in-bytes sep m Absent zero w = refl
+part-in-bytes sep m Absent (suc k) w = refl
+part-in-bytes sep m (At s e) k w = at (partIn sep m (At s e) k) refl
+  where
+    at : (q : Part) → partIn sep m (At s e) k ≡ q → partBytes m q ≡ getD (split sep (between m s e)) k []
+    at Absent r = sym (List·getD-eq-default (split sep (between m s e)) [] (absent-means sep m s e k r))
+    at (At b f) r = part-means sep m s e k b f (w .0) (w .1) r .3
+
+module _ (m : List ℕ) (long : 4 ≤ length m) where
+  -- field f of the segment of a number, whole
+  abbrev pub whole : ℕ → ℕ → Address
+  whole k f = record { segment = k; field = f; repetition = 0; component = 0; subcomponent = 0 }
+
+  -- component c of repetition 1 of that field
+  abbrev pub component : ℕ → ℕ → ℕ → Address
+  component k f c = record { segment = k; field = f; repetition = 1; component = c; subcomponent = 0 }
+
+  abbrev fieldPart : ℕ → ℕ → Part
+  fieldPart k f = fieldIn m k (segmentAt m k) f
+
+  pub raw-whole : (k f : ℕ) → rawBytes m (whole k f) ≡ partBytes m (fieldIn m k (segmentAt m k) f)
+  unfolding rawBytes elementAt componentAt repetitionAt below
+  raw-whole k f = rw (le-leb 4 (length m) long)
+
+  field-within : (k f : ℕ) → Within m (fieldPart k f)
+  field-within k f = within-field m k (segmentAt m k) f long (within-segment m k)
+
+  -- the bytes of a segment
+  pub segment-part-bytes : (k : ℕ) → partBytes m (segmentAt m k) ≡ getD (segments m) k []
+  segment-part-bytes k = at (segmentAt m k) refl
+    where
+      at : (p : Part) → segmentAt m k ≡ p → partBytes m p ≡ getD (segments m) k []
+      at Absent q = sym (List·getD-eq-default (segments m) [] (segment-past m k q))
+      at (At s e) q = segment-bytes m k s e q .3
+
+  -- "fields 3, 4, ..": MSH's are counted from the separator itself
+  pub raw-header : (f : ℕ) → (f ≡ 1 → ⊥) → rawBytes m (whole 0 f) ≡ getD (split (fieldSeparator m) (getD (segments m) 0 [])) (f - 1) []
+  raw-header f n =
+      raw-whole 0 f ∙ ap (partBytes m) (field-header m 0 (segmentAt m 0) f refl n) ∙ part-in-bytes (fieldSeparator m) m (segmentAt m 0) (f - 1) (within-segment m 0)
+      ∙ ap (λ (x : List ℕ). getD (split (fieldSeparator m) x) (f - 1) []) (segment-part-bytes 0)
+
+  pub raw-other : (k f : ℕ) → (k ≡ 0 → ⊥) → rawBytes m (whole k f) ≡ getD (split (fieldSeparator m) (getD (segments m) k [])) f []
+  raw-other k f n =
+      raw-whole k f ∙ ap (partBytes m) (field-other m k (segmentAt m k) f n) ∙ part-in-bytes (fieldSeparator m) m (segmentAt m k) f (within-segment m k)
+      ∙ ap (λ (x : List ℕ). getD (split (fieldSeparator m) x) f []) (segment-part-bytes k)
+
+  -- component c of the first repetition of a field of MSH, which is not one of the first two
+  pub raw-component : (f c : ℕ) → 3 ≤ f → 1 ≤ c
+      → rawBytes m (component 0 f c) ≡ getD (split (getD (delimitersOf m) 1 0) (getD (split (getD (delimitersOf m) 2 0) (rawBytes m (whole 0 f))) 0 [])) (c - 1) []
+  unfolding rawBytes elementAt componentAt repetitionAt below
+  raw-component f c h l =
+      let repetition = part-in-bytes (getD (delimitersOf m) 2 0) m (fieldPart 0 f) 0 (field-within 0 f) in
+      let inner = part-in-bytes (getD (delimitersOf m) 1 0) m (partIn (getD (delimitersOf m) 2 0) m (fieldPart 0 f) 0) (c - 1) (within-in (getD (delimitersOf m) 2 0) m (fieldPart 0 f) 0 (field-within 0 f)) in
+      rw (le-leb 4 (length m) long, lt-leb f 2 (omega arith), ne-eqb c 0 (λ z. omega arith))
+      (inner ∙ ap (λ (x : List ℕ). getD (split (getD (delimitersOf m) 1 0) x) (c - 1) []) repetition)

@@ -1,0 +1,165 @@
+-- A field's repetitions by its segment's bytes: they are those of `element`, where no row is of MSH-1, and an absent field is judged as one with no bytes.
+-- Assumes nothing.
+use mathlib.Core.Path.{_≡_, refl, sym, ap, _∙_}
+use mathlib.Core.List.{List, [], _∷_}
+use mathlib.Core.Bool.{Bool, true, false, not, _&&_, _||_}
+use mathlib.Core.Logic.{_⊎_, inl, inr, ⊎-elim}
+use Prim.Native.Nat.{ℕ, zero, suc, _+_, _-_, _≤_, _<_}
+use native.Mathlib.Omega.{arith}
+use lib.Dec.{eqb, leb}
+use lib.ListN.{length, getD, take, drop}
+use borrow.Author.Tests.{eqb-true, eqb-false, eq-eqb, leb-true, not-true}
+use Rattle.alphabet.specs.Answers.{inOrder}
+use Rattle.alphabet.specs.Lists.{first}
+use Rattle.alphabet.specs.Parts.{split, partAt}
+use Rattle.alphabet.specs.declared.parts.Part.{Part}
+use Rattle.alphabet.specs.declared.parts.Part.the-variants.{At, Absent}
+use Rattle.alphabet.proofs.BoolLaws.{false-true, and-both}
+use Rattle.alphabet.proofs.ListLaws.{piece-of-piece}
+use Rattle.alphabet.proofs.PartLaws.{split-nothing, part-bytes, past-none, none-past}
+use Rattle.reading.specs.Segments.{delimitersOf, fieldSeparator}
+use Rattle.element.specs.States.{stateOf}
+use Rattle.element.specs.declared.states.State.the-variants.{Absent, Empty}
+use Rattle.element.specs.Levels.{between, partIn, fieldIn}
+use Rattle.element.proofs.LevelLaws.{between-length, in-at, in-none, field-other, field-header}
+use Rattle.fields.specs.Table.{ascii, nameOf, rows, noRow}
+use Rattle.fields.specs.Rules.{judgedPart, partState, repetitionCheck, repetitionChecks, requiredCheck, somePresent, isSaid, saidField, kindOf, portionOf, rowCheck}
+use Rattle.fields.specs.Judging.{repetitionsIn, repetitionsOf, saidIn}
+use Rattle.fields.specs.Walk.{partNumber, fieldBytes, saidBytes}
+use Rattle.fields.specs.declared.table.Portion.{Portion}
+use Rattle.fields.specs.declared.table.Portion.the-variants.{Whole, Component}
+use Rattle.fields.specs.declared.table.Kind.{Kind}
+use Rattle.fields.specs.declared.table.Row.{Row}
+use Rattle.fields.proofs.CursorLaws.{part-other, part-header}
+
+-- ---- an absent field is judged as one with no bytes
+
+nothing-part : (ds : List ℕ) (portion : Portion) → judgedPart ds portion [] ≡ []
+unfolding judgedPart split
+nothing-part ds Whole = refl
+nothing-part ds Component = refl
+
+nothing-state : (ds : List ℕ) → stateOf ds [] ≡ Empty
+unfolding stateOf first
+nothing-state ds = refl
+
+nothing-first : (ds : List ℕ) (required : Bool) (portion : Portion) → requiredCheck required Absent ≡ requiredCheck required (partState ds portion [])
+nothing-first ds required portion = rw (nothing-part ds portion, nothing-state ds)
+
+nothing-present : (ds : List ℕ) → somePresent ds [] ≡ somePresent ds ([] ∷ [])
+unfolding somePresent
+nothing-present ds = rw (nothing-state ds)
+
+nothing-passes : (ds : List ℕ) (portion : Portion) (kind : Kind) → inOrder (repetitionChecks ds portion kind 1 []) ≡ inOrder (repetitionChecks ds portion kind 1 ([] ∷ []))
+unfolding repetitionChecks repetitionCheck
+nothing-passes ds portion kind = rw (nothing-part ds portion, nothing-state ds)
+
+nothing-row : (ds : List ℕ) (row : Row) (said : List ℕ) → rowCheck ds row said [] ≡ rowCheck ds row said ([] ∷ [])
+unfolding rowCheck
+nothing-row ds row said =
+    rw (nothing-first ds (row .required) (row .portion), nothing-present ds, nothing-passes ds (portionOf row said) (kindOf (row .kind) said))
+
+-- ---- the repetitions of a part of the segment that stands from st to en
+
+-- the same, or none where the other has one with no bytes
+abbrev Alike : List (List ℕ) → List (List ℕ) → Type 0
+Alike rs rs′ = (rs ≡ rs′) ⊎ ((rs ≡ []) × (rs′ ≡ [] ∷ []))
+
+alike-row : (ds : List ℕ) (row : Row) (said : List ℕ) (rs rs′ : List (List ℕ)) → Alike rs rs′ → rowCheck ds row said rs ≡ rowCheck ds row said rs′
+alike-row ds row said rs rs′ = ⊎-elim (λ e. ap (rowCheck ds row said) e) (λ n. ap (rowCheck ds row said) (n .0) ∙ nothing-row ds row said ∙ ap (rowCheck ds row said) (sym (n .1)))
+
+alike-first : (rs rs′ : List (List ℕ)) → Alike rs rs′ → getD rs 0 [] ≡ getD rs′ 0 []
+alike-first rs rs′ = ⊎-elim (λ e. ap (λ (ps : List (List ℕ)). getD ps 0 []) e) (λ n. ap (λ (ps : List (List ℕ)). getD ps 0 []) (n .0) ∙ ap (λ (ps : List (List ℕ)). getD ps 0 []) (sym (n .1)))
+
+module _ (m : List ℕ) (st en : ℕ) (ordered : st ≤ en) (inside : en ≤ length m) where
+  abbrev segment : List ℕ
+  segment = between m st en
+
+  parts-alike : (i : ℕ) → Alike (repetitionsIn m (partIn (fieldSeparator m) m (At st en) i)) (split (getD (delimitersOf m) 2 0) (getD (split (fieldSeparator m) segment) i []))
+  parts-alike i = at (partAt (fieldSeparator m) segment i) refl
+    where
+      at : (p : Part) → partAt (fieldSeparator m) segment i ≡ p → Alike (repetitionsIn m (partIn (fieldSeparator m) m (At st en) i)) (split (getD (delimitersOf m) 2 0) (getD (split (fieldSeparator m) segment) i []))
+      at (At a b) q =
+          let p = part-bytes (fieldSeparator m) segment i a b q in
+          let n = between-length m st en ordered inside in
+          let p1 = p .1 in
+          let p2 = p .2 in
+          let e : (st + b) - (st + a) ≡ b - a = omega arith in
+          inl
+          (ap (repetitionsIn m) (in-at (fieldSeparator m) m (At st en) i st en refl a b q)
+          ∙ ap (λ (k : ℕ). split (getD (delimitersOf m) 2 0) (take k (drop (st + a) m))) e
+          ∙ ap (split (getD (delimitersOf m) 2 0)) (sym (piece-of-piece m st (en - st) a (b - a) (omega arith)) ∙ p .3))
+      at Absent q =
+          inr (
+            ap (repetitionsIn m) (in-none (fieldSeparator m) m (At st en) i st en refl q),
+            ap (split (getD (delimitersOf m) 2 0)) (past-none (split (fieldSeparator m) segment) i (none-past (fieldSeparator m) segment i q)) ∙ split-nothing (getD (delimitersOf m) 2 0),
+          )
+
+  module _ (number : ℕ) where
+    field-part : (f : ℕ) → (number ≡ 0 → f ≡ 1 → ⊥) → fieldIn m number (At st en) f ≡ partIn (fieldSeparator m) m (At st en) (partNumber number f)
+    field-part f h = at (eqb number 0) refl
+      where
+        at : (t : Bool) → eqb number 0 ≡ t → fieldIn m number (At st en) f ≡ partIn (fieldSeparator m) m (At st en) (partNumber number f)
+        at true e =
+            let z = eqb-true number 0 e in
+            field-header m number (At st en) f z (h z) ∙ ap (partIn (fieldSeparator m) m (At st en)) (sym (part-header number f (f - 1) z refl))
+        at false e =
+            let z = eqb-false number 0 e in
+            field-other m number (At st en) f z ∙ ap (partIn (fieldSeparator m) m (At st en)) (sym (part-other number f z))
+
+    fields-alike : (f : ℕ) → (number ≡ 0 → f ≡ 1 → ⊥) → Alike (repetitionsOf m number (At st en) f) (split (getD (delimitersOf m) 2 0) (fieldBytes (delimitersOf m) segment number f))
+    fields-alike f h = rw (field-part f h) (parts-alike (partNumber number f))
+
+    said-agrees : (kind : Kind) → (number ≡ 0 → isSaid kind ≡ false) → saidIn m number (At st en) kind ≡ saidBytes (delimitersOf m) segment number kind
+    said-agrees kind h = at (isSaid kind) refl
+      where
+        at : (t : Bool) → isSaid kind ≡ t → saidIn m number (At st en) kind ≡ saidBytes (delimitersOf m) segment number kind
+        at false e = rw e
+        at true e =
+            rw e
+            (alike-first (repetitionsOf m number (At st en) (saidField kind)) (split (getD (delimitersOf m) 2 0) (fieldBytes (delimitersOf m) segment number (saidField kind)))
+            (fields-alike (saidField kind) (λ z w. false-true (sym (h z) ∙ e))))
+
+    -- a row asks the same of the segment's bytes
+    pub row-agrees : (row : Row) → (number ≡ 0 → (row .field ≡ 1 → ⊥) × (isSaid (row .kind) ≡ false))
+        → rowCheck (delimitersOf m) row (saidIn m number (At st en) (row .kind)) (repetitionsOf m number (At st en) (row .field))
+        ≡ rowCheck (delimitersOf m) row (saidBytes (delimitersOf m) segment number (row .kind)) (split (getD (delimitersOf m) 2 0) (fieldBytes (delimitersOf m) segment number (row .field)))
+    row-agrees row h =
+        alike-row (delimitersOf m) row (saidIn m number (At st en) (row .kind)) (repetitionsOf m number (At st en) (row .field))
+        (split (getD (delimitersOf m) 2 0) (fieldBytes (delimitersOf m) segment number (row .field)))
+        (fields-alike (row .field) (λ z. h z .0))
+        ∙ ap (λ (said : List ℕ). rowCheck (delimitersOf m) row said (split (getD (delimitersOf m) 2 0) (fieldBytes (delimitersOf m) segment number (row .field))))
+        (said-agrees (row .kind) (λ z. h z .1))
+
+-- ---- no row is of MSH-1, and no row of MSH has a type that is said
+
+unfoldable headed : Row → Bool
+headed row = not (eqb (row .segment) (nameOf (ascii "MSH"))) || (leb 2 (row .field) && not (isSaid (row .kind)))
+
+unfoldable every : List Row → Bool
+every [] = true
+every (row ∷ rest) = headed row && every rest
+
+every-at : (rs : List Row) (i : ℕ) → every rs ≡ true → i < length rs → headed (getD rs i noRow) ≡ true
+unfolding every
+every-at [] i e h = absurd (omega arith)
+every-at (row ∷ rest) zero e h = and-both (headed row) (every rest) e .0
+every-at (row ∷ rest) (suc i) e h = every-at rest i (and-both (headed row) (every rest) e .1) (omega arith)
+
+every-row : every rows ≡ true
+unfolding rows every headed
+every-row = refl
+
+or-second : (x y : Bool) → x ≡ false → (x || y) ≡ true → y ≡ true
+or-second false y e h = h
+or-second true y e h = false-true (sym e)
+
+header-fits : (row : Row) → row .segment ≡ nameOf (ascii "MSH") → headed row ≡ true → (row .field ≡ 1 → ⊥) × (isSaid (row .kind) ≡ false)
+unfolding headed
+header-fits row e h =
+    let b = and-both (leb 2 (row .field)) (not (isSaid (row .kind))) (or-second _ _ (ap not (eq-eqb (row .segment) (nameOf (ascii "MSH")) e)) h) in
+    let l = leb-true 2 (row .field) (b .0) in
+    ((λ q. omega arith), not-true (isSaid (row .kind)) (b .1))
+
+pub header-row : (i : ℕ) → i < length rows → getD rows i noRow .segment ≡ nameOf (ascii "MSH") → (getD rows i noRow .field ≡ 1 → ⊥) × (isSaid (getD rows i noRow .kind) ≡ false)
+header-row i h e = header-fits (getD rows i noRow) e (every-at rows i every-row h)

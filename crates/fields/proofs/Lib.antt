@@ -1,0 +1,6 @@
+pub mod TableLaws
+pub mod RuleLaws
+pub mod CursorLaws
+pub mod FieldLaws
+pub mod JudgeLaws
+pub mod Agreement

@@ -1,0 +1,80 @@
+-- What the contracts of private functions say of a walk along one segment's bytes. Nobody has to believe these: the judge's own contract names none of them.
+use Prim.Native.Nat.{ℕ, _+_, _-_, _^_, _≤_, _<_}
+use mathlib.Core.Path.{_≡_}
+use mathlib.Core.List.{List, []}
+use mathlib.Core.Bool.{cond}
+use lib.Dec.{eqb, leb}
+use lib.ListN.{length, getD, take, drop}
+use Rattle.alphabet.specs.Answers.{orElse, inOrder}
+use Rattle.alphabet.specs.Parts.{split}
+use Rattle.alphabet.specs.declared.answers.Check.{Check}
+use Rattle.alphabet.specs.declared.answers.Check.the-variants.{Passes}
+use Rattle.fields.specs.Rules.{firstState, requiredCheck, repeatedCheck, saidCheck, isSaid, saidField, repetitionChecks, rowCheck}
+use Rattle.fields.specs.declared.table.Kind.{Kind}
+use Rattle.fields.specs.declared.table.Row.{Row}
+use Rattle.fields.specs.declared.walk.Cursor.{Cursor}
+use Rattle.fields.specs.declared.walk.Sought.{Sought}
+use Rattle.fields.specs.declared.walk.Turn.{Turn}
+
+-- the checks of a row before its repetitions are judged in turn
+unfoldable pub openingCheck : List ℕ → Row → List ℕ → List (List ℕ) → Check
+openingCheck ds row said repetitions =
+    orElse
+    (orElse (requiredCheck (row .required) (firstState ds (row .portion) repetitions)) (repeatedCheck (row .repeats) repetitions))
+    (saidCheck ds (row .kind) said repetitions)
+
+-- which part of a segment a field is: MSH has its fields counted from the separator
+abbrev pub partNumber : ℕ → ℕ → ℕ
+partNumber number field = cond (eqb number 0) (field - 1) field
+
+-- the bytes of a field, none where it is absent; and its repetition 1
+abbrev pub fieldBytes : List ℕ → List ℕ → ℕ → ℕ → List ℕ
+fieldBytes ds s number field = getD (split (getD ds 0 0) s) (partNumber number field) []
+
+abbrev pub saidBytes : List ℕ → List ℕ → ℕ → Kind → List ℕ
+saidBytes ds s number kind = cond (isSaid kind) (getD (split (getD ds 2 0) (fieldBytes ds s number (saidField kind))) 0 []) []
+
+-- a cursor: part `index` of the segment begins at `place`
+pub record Stands (sep : ℕ) (s : List ℕ) (c : Cursor) : Type 0 where
+  pub inside : c .place ≤ length s
+  pub counted : c .index ≤ c .place
+  pub parts : drop (c .index) (split sep s) ≡ split sep (drop (c .place) s)
+
+-- what was sought: the bytes of part `wanted`
+pub record Finds (sep : ℕ) (s : List ℕ) (wanted : ℕ) (r : Sought) : Type 0 where
+  pub stands : Stands sep s (r .cursor)
+  pub ordered : r .start ≤ r .end
+  pub inside : r .end ≤ length s
+  pub bytes : take (r .end - r .start) (drop (r .start) s) ≡ getD (split sep s) wanted []
+
+-- what the repetitions of a row that are left are found to be; none are where `start` is past `end`
+abbrev pub leftOf : List ℕ → List ℕ → Turn → Check
+leftOf ds s t =
+    cond (leb (t .start) (t .end))
+    (inOrder (repetitionChecks ds (t .portion) (t .kind) (t .repetition) (split (getD ds 2 0) (take (t .end - t .start) (drop (t .start) s)))))
+    Passes
+
+-- a row begun: its opening was checked, and all its repetitions are left
+pub record Begins (ds s : List ℕ) (number : ℕ) (row : Row) (r : Turn) : Type 0 where
+  pub stands : Stands (getD ds 0 0) s (r .cursor)
+  pub ordered : r .start ≤ r .end
+  pub inside : r .end ≤ length s
+  pub first : r .repetition ≡ 1
+  pub asks :
+      rowCheck ds row (saidBytes ds s number (row .kind)) (split (getD ds 2 0) (fieldBytes ds s number (row .field)))
+      ≡ orElse (r .found) (leftOf ds s r)
+
+-- a repetition is left, in a segment that is shorter than the numbers reach
+pub record Goes (s : List ℕ) (t : Turn) : Type 0 where
+  pub ordered : t .start ≤ t .end
+  pub inside : t .end ≤ length s
+  pub counted : t .repetition ≤ t .start + 1
+  pub room : length s + 1 < 2 ^ 64
+
+-- one repetition on
+pub record Steps (ds s : List ℕ) (t r : Turn) : Type 0 where
+  pub same-end : r .end ≡ t .end
+  pub forward : t .start < r .start
+  pub most : r .start ≤ r .end + 1
+  pub counted : r .repetition ≤ r .start + 1
+  pub asks : leftOf ds s t ≡ orElse (r .found) (leftOf ds s r)

@@ -1,0 +1,173 @@
+// A walk along the bytes of one segment: a cursor goes forward from field to field, so that the rows of a segment, whose fields
+// rise, pass over its bytes once. A row that asks for a field behind the cursor is answered from the segment's start.
+use crate::rules::check_opening;
+use crate::rules::check_repetition;
+use crate::rules::is_said;
+use crate::rules::kind_of;
+use crate::rules::portion_of;
+use crate::rules::said_field;
+use crate::table::Kind;
+use crate::table::Portion;
+use crate::table::Row;
+use alphabet::Check;
+use alphabet::Delimiters;
+use alphabet::Part;
+ghost use mathlib.Core.Path.{_≡_};
+ghost use Prim.Native.Nat.{_≤_};
+ghost use lib.ListN.{getD};
+ghost use Rattle.fields.specs.Walk.{partNumber, saidBytes, Stands, Finds, Begins, Goes, Steps};
+
+// Part `index` of a segment, from 0, begins at `place`.
+pub struct Cursor {
+    pub index: usize,
+    pub place: usize,
+}
+
+// A part of a segment, from `start` up to and without `end`, and the cursor from which to seek the next.
+pub struct Sought {
+    pub cursor: Cursor,
+    pub start: usize,
+    pub end: usize,
+}
+
+// A row of a segment as it is judged: what the last check found, first the row's opening; where those of its repetitions stand
+// that are left, from `start` up to and without `end`, or none where `start` is past `end`; the number of the first of them; and
+// what they are to be judged by.
+pub struct Turn {
+    pub cursor: Cursor,
+    pub found: Check,
+    pub start: usize,
+    pub end: usize,
+    pub repetition: usize,
+    pub portion: Portion,
+    pub kind: Kind,
+}
+
+// Which part of its segment a field is.
+fn part_number(number: usize, field: usize) -> usize
+    ensures { λ r. ⌜ r ≡ partNumber number field ⌝ }
+{
+    if number != 0 {
+        return field;
+    }
+    if field == 0 { 0 } else { field - 1 }
+}
+
+// The cursor, or the segment's start where the part that is wanted stands before it.
+fn rewound(segment: &[u8], separator: u8, cursor: Cursor, wanted: usize) -> Cursor
+    requires { ⌜ Stands separator (now segment) cursor ⌝ }
+    ensures { λ r. ⌜ Stands separator (now (segment .entry)) r × (r .index ≤ wanted) ⌝ }
+{
+    if wanted < cursor.index {
+        return Cursor { index: 0, place: 0 };
+    }
+    cursor
+}
+
+// The part of an index, from 0; where there is none, no bytes.
+fn seek(segment: &[u8], separator: u8, cursor: Cursor, wanted: usize) -> Sought
+    requires { ⌜ Stands separator (now segment) cursor ⌝ }
+    ensures { λ r. ⌜ Finds separator (now (segment .entry)) wanted r ⌝ }
+{
+    let from = rewound(segment, separator, cursor, wanted);
+    let mut index = from.index;
+    let mut place = from.place;
+    loop {
+        let end = place + alphabet::find(&segment[place..], separator);
+        if index == wanted {
+            return Sought {
+                cursor: Cursor {
+                    index: index,
+                    place: place,
+                },
+                start: place,
+                end: end,
+            };
+        }
+        if end == segment.len() {
+            return Sought {
+                cursor: Cursor {
+                    index: index,
+                    place: place,
+                },
+                start: end,
+                end: end,
+            };
+        }
+        place = end + 1;
+        index += 1;
+    }
+}
+
+// Repetition 1 of the field of a segment that says a row's type; no bytes where none says it or it is absent.
+fn said_in(delimiters: Delimiters, segment: &[u8], number: usize, kind: Kind) -> &[u8]
+    ensures { λ r. ⌜ now r ≡ saidBytes (delimiters .bytes) (now (segment .entry)) number kind ⌝ }
+{
+    if !is_said(kind) {
+        return &segment[..0];
+    }
+    let bytes = delimiters.bytes;
+    let wanted = part_number(number, said_field(kind));
+    let part = alphabet::nth_part(segment, bytes[0], wanted);
+    let Part::At { start, end } = part else {
+        return &segment[..0];
+    };
+    let last = start + alphabet::find(&segment[start..end], bytes[2]);
+    &segment[start..last]
+}
+
+// Begins a row of a segment: its field is sought from the cursor, and its opening checked.
+pub fn begin_row(
+    delimiters: Delimiters,
+    segment: &[u8],
+    number: usize,
+    row: Row,
+    cursor: Cursor,
+) -> Turn
+    requires { ⌜ Stands (getD (delimiters .bytes) 0 0) (now segment) cursor ⌝ }
+    ensures { λ r. ⌜ Begins (delimiters .bytes) (now (segment .entry)) number row r ⌝ }
+{
+    let bytes = delimiters.bytes;
+    let kind = row.kind;
+    let said = said_in(delimiters, segment, number, kind);
+    let wanted = part_number(number, row.field);
+    let sought = seek(segment, bytes[0], cursor, wanted);
+    let next = sought.cursor;
+    let start = sought.start;
+    let end = sought.end;
+    let opening = check_opening(delimiters, row, said, &segment[start..end]);
+    Turn {
+        cursor: next,
+        found: opening,
+        start: start,
+        end: end,
+        repetition: 1,
+        portion: portion_of(row, said),
+        kind: kind_of(kind, said),
+    }
+}
+
+// Judges the next of the repetitions that are left.
+pub fn next_repetition(delimiters: Delimiters, segment: &[u8], turn: Turn) -> Turn
+    requires { ⌜ Goes (now segment) turn ⌝ }
+    ensures { λ r. ⌜ Steps (delimiters .bytes) (now (segment .entry)) turn r ⌝ }
+{
+    let bytes = delimiters.bytes;
+    let start = turn.start;
+    let end = turn.end;
+    let repetition = turn.repetition;
+    let portion = turn.portion;
+    let kind = turn.kind;
+    let next = start + alphabet::find(&segment[start..end], bytes[2]);
+    let found = check_repetition(delimiters, portion, kind, repetition, &segment[start..next]);
+    let cursor = turn.cursor;
+    Turn {
+        cursor: cursor,
+        found: found,
+        start: next + 1,
+        end: end,
+        repetition: repetition + 1,
+        portion: portion,
+        kind: kind,
+    }
+}

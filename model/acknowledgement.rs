@@ -1,0 +1,130 @@
+//! The acknowledgement: what is sent back for a message, by document 01's chapter of that name.
+//! "Acknowledging: 16, 17, 9, 10." The place of each is 0.
+
+use crate::element::{self, Address, Element, State};
+use crate::reading::{self, refuse, Refusal, COMPONENT_SEPARATOR, CR, FIELD_SEPARATOR};
+use crate::reading::{LONGEST_MESSAGE, SUBCOMPONENT_SEPARATOR};
+use crate::text::{self, Delimiters};
+use crate::{times, verdict};
+
+/// The caller's ID is "1 to 20 bytes", and the sender's is not acknowledged if "over 20 bytes".
+const LONGEST_ID: usize = 20;
+
+/// The acknowledgement of a message, with the time and the ID that the caller gives it. "Code AA
+/// exactly when reading, structure and fields all accept; else AE": so a fault behind the header is
+/// no refusal here (ruling 25).
+pub fn acknowledge(
+    message: &[u8],
+    time: &[u8],
+    id: &[u8],
+    room: usize,
+) -> Result<Vec<u8>, Refusal> {
+    check_time(time)?;
+    check_id(id)?;
+    let header = header_of(message)?;
+    check_header(header)?;
+    let code = if verdict::judge(message).is_ok() { b"AA" } else { b"AE" };
+    let header_back = header_back(header, time, id)?;
+    let acknowledgement = [header_back, answer_back(header, code)?].concat();
+    check_room(acknowledgement, room)
+}
+
+/// 16: "caller's time isn't TS", as it stands (ruling 28).
+fn check_time(time: &[u8]) -> Result<(), Refusal> {
+    if times::time_stamp(time).is_err() {
+        return refuse(16, 0);
+    }
+    Ok(())
+}
+
+/// 17: "caller's ID not 1 to 20 bytes", of the bytes handed in (ruling 27).
+fn check_id(id: &[u8]) -> Result<(), Refusal> {
+    if id.is_empty() || id.len() > LONGEST_ID {
+        return refuse(17, 0);
+    }
+    Ok(())
+}
+
+/// 9: "the header (through the first CR) is missing that CR or has fault 1 to 4 itself", judged as
+/// bytes of its own (ruling 25). It ends with a CR and is one segment: no other fault is possible.
+fn header_of(message: &[u8]) -> Result<&[u8], Refusal> {
+    let Some(end) = message.iter().position(|&byte| byte == CR) else {
+        return refuse(9, 0);
+    };
+    let header = &message[..=end];
+    if reading::read(header).is_err() {
+        return refuse(9, 0);
+    }
+    Ok(header)
+}
+
+/// 9: "type ACK; MSH-10, the whole field, not present or over 20 bytes". 'Type ACK' is component 1
+/// of repetition 1 (ruling 18).
+fn check_header(header: &[u8]) -> Result<(), Refusal> {
+    let kind = find(header, 9, 1, 1)?;
+    let id = find(header, 10, 0, 0)?;
+    if &header[kind.part] == b"ACK" || id.state != State::Present || id.part.len() > LONGEST_ID {
+        return refuse(9, 0);
+    }
+    Ok(())
+}
+
+/// 10: "acknowledgement longer than the buffer or 32,768".
+fn check_room(acknowledgement: Vec<u8>, room: usize) -> Result<Vec<u8>, Refusal> {
+    if acknowledgement.len() > room || acknowledgement.len() > LONGEST_MESSAGE {
+        return refuse(10, 0);
+    }
+    Ok(acknowledgement)
+}
+
+/// MSH with its CR. "It uses the sender's delimiters." "Fields 3, 4, 5, 6 are the sender's 5, 6, 3,
+/// 4 as raw bytes (absent gives empty); 7 the caller's time; 8 empty"; then 9; "10 the caller's ID,
+/// escaped; 11 copied raw; 12 `2.4`".
+fn header_back(header: &[u8], time: &[u8], id: &[u8]) -> Result<Vec<u8>, Refusal> {
+    let fields = [
+        &header[..=SUBCOMPONENT_SEPARATOR],
+        field(header, 5)?,
+        field(header, 6)?,
+        field(header, 3)?,
+        field(header, 4)?,
+        time,
+        b"",
+        &type_back(header)?,
+        &text::escaped(id, delimiters(header)),
+        field(header, 11)?,
+        b"2.4",
+    ];
+    Ok([&fields.join(&header[FIELD_SEPARATOR]), &[CR][..]].concat())
+}
+
+/// MSH-9: "`ACK`, and a component separator and raw component 2 of the sender's MSH-9, repetition
+/// 1, after it where that is present".
+fn type_back(header: &[u8]) -> Result<Vec<u8>, Refusal> {
+    let event = find(header, 9, 1, 2)?;
+    if event.state != State::Present {
+        return Ok(b"ACK".to_vec());
+    }
+    Ok([b"ACK", &header[event.part]].join(&header[COMPONENT_SEPARATOR]))
+}
+
+/// MSA with its CR: "code, and the sender's MSH-10 raw".
+fn answer_back(header: &[u8], code: &[u8]) -> Result<Vec<u8>, Refusal> {
+    let fields = [b"MSA", code, field(header, 10)?];
+    Ok([&fields.join(&header[FIELD_SEPARATOR]), &[CR][..]].concat())
+}
+
+/// The bytes of a whole field of the sender's header, none where it is absent.
+fn field(header: &[u8], number: u64) -> Result<&[u8], Refusal> {
+    let element = find(header, number, 0, 0)?;
+    Ok(&header[element.part])
+}
+
+fn find(header: &[u8], field: u64, repetition: u64, component: u64) -> Result<Element, Refusal> {
+    let address = Address { segment: 0, field, repetition, component, subcomponent: 0 };
+    element::find(header, &address)
+}
+
+/// "The five delimiters travel together."
+fn delimiters(header: &[u8]) -> Delimiters {
+    std::array::from_fn(|number| header[FIELD_SEPARATOR + number])
+}

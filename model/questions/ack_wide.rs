@@ -1,0 +1,174 @@
+//! The wide set of the verb `ack`: every telling content in every field of the header, every byte
+//! in an ID and at every place of a header, every room for messages as they are sent, and messages
+//! and acknowledgements about as long as may be.
+
+use super::verdict_wide::TELLING;
+use super::{ack_question, changed, filled, lifelike, message, Bytes};
+use crate::acknowledgement::acknowledge;
+use crate::ask::MOST_ROOM;
+use crate::reading::{CR, LONGEST_MESSAGE, MOST_SEGMENTS};
+
+const TIME: &[u8] = b"20240229";
+const ID: &[u8] = b"K1";
+
+pub fn wide() -> Vec<Bytes> {
+    let questions = [
+        telling_contents(),
+        types_and_control_ids(),
+        telling_times(),
+        telling_ids(),
+        every_byte_in_an_id(),
+        every_byte_in_a_header(),
+        cut_messages(),
+        every_room(),
+        long_headers(),
+        long_messages(),
+    ];
+    questions.concat()
+}
+
+/// A question with one byte of room more than enough.
+fn acknowledged(message: &[u8], time: &[u8], id: &[u8]) -> Bytes {
+    let length = acknowledge(message, time, id, usize::MAX).unwrap_or_default().len();
+    ack_question(message, time, id, length.min(LONGEST_MESSAGE) + 1)
+}
+
+fn telling_contents() -> Vec<Bytes> {
+    let mut lines = Vec::new();
+    for field in [3, 4, 5, 6, 7, 8, 9, 10, 11, 12, 13] {
+        for content in TELLING {
+            let header = filled::header_of_oru(&[(field, content)]);
+            lines.push(acknowledged(&message(&[&header, "OBR"]), TIME, ID));
+        }
+    }
+    lines
+}
+
+/// Every two telling contents in MSH-9 and MSH-10.
+fn types_and_control_ids() -> Vec<Bytes> {
+    let mut lines = Vec::new();
+    for message_type in ["", "ACK", "ACK^R01", "ACK~x", "ORU^", "ORU^\"\"", "ORU^&", "ORU^R01&x"] {
+        for control_id in TELLING {
+            let header = format!(r"MSH|^~\&|||||||{message_type}|{control_id}");
+            lines.push(acknowledged(&message(&[&header]), TIME, ID));
+        }
+    }
+    lines
+}
+
+fn telling_times() -> Vec<Bytes> {
+    let accepted = message(&[&filled::header_of_oru(&[]), "OBR"]);
+    TELLING.map(|time| acknowledged(&accepted, time.as_bytes(), ID)).to_vec()
+}
+
+/// Every telling content as an ID, and every length up to two more than may be.
+fn telling_ids() -> Vec<Bytes> {
+    let accepted = message(&[&filled::header_of_oru(&[]), "OBR"]);
+    let mut lines = TELLING.map(|id| acknowledged(&accepted, TIME, id.as_bytes())).to_vec();
+    for byte in *b"A|\\\"\r\xFF" {
+        for length in 0..=22 {
+            lines.push(acknowledged(&accepted, TIME, &vec![byte; length]));
+        }
+    }
+    lines
+}
+
+/// Every byte alone, and behind another one, with delimiters of two kinds.
+fn every_byte_in_an_id() -> Vec<Bytes> {
+    let mut lines = Vec::new();
+    for header in [r"MSH|^~\&||||||||1", "MSH#$%*@########1"] {
+        let message = message(&[header]);
+        for byte in 0..=0xFF {
+            lines.push(acknowledged(&message, TIME, &[byte]));
+            lines.push(acknowledged(&message, TIME, &[b'"', byte]));
+        }
+    }
+    lines
+}
+
+/// Every byte at every place of a short header, and behind it.
+fn every_byte_in_a_header() -> Vec<Bytes> {
+    let header = message(&[r"MSH|^~\&|a||||||x^y|1", "OBR"]);
+    let mut lines = Vec::new();
+    for place in 0..header.len() {
+        for byte in 0..=0xFF {
+            lines.push(acknowledged(&changed(&header, place, byte), TIME, ID));
+        }
+    }
+    lines
+}
+
+/// Messages as they are sent, cut at every byte.
+fn cut_messages() -> Vec<Bytes> {
+    let mut lines = Vec::new();
+    for whole in lifelike::messages() {
+        for length in 0..=whole.len() {
+            lines.push(acknowledged(&whole[..length], TIME, ID));
+        }
+    }
+    lines
+}
+
+/// From no room to two bytes more than enough.
+fn every_room() -> Vec<Bytes> {
+    let mut lines = Vec::new();
+    for whole in [lifelike::chest_report(), lifelike::merge()] {
+        for id in [ID, b"|", b"\r\"\""] {
+            let length = acknowledge(&whole, TIME, id, usize::MAX).unwrap_or_default().len();
+            lines.extend((0..=length + 2).map(|room| ack_question(&whole, TIME, id, room)));
+        }
+    }
+    lines
+}
+
+/// Headers with which the acknowledgement is as long as may be, or one byte longer or shorter; and
+/// headers as long as may be themselves. The room ends at 32,768 and behind it.
+fn long_headers() -> Vec<Bytes> {
+    let most_room = MOST_ROOM as usize;
+    let mut lines = Vec::new();
+    for field in [3, 4, 5, 6, 11] {
+        let empty = filled::header_of_oru(&[(field, "")]);
+        let length =
+            acknowledge(&message(&[&empty]), TIME, ID, usize::MAX).unwrap_or_default().len();
+        for longer in [LONGEST_MESSAGE - length, LONGEST_MESSAGE - empty.len() - 1] {
+            for filling in [longer - 1, longer, longer + 1] {
+                let header = filled::header_of_oru(&[(field, &"x".repeat(filling))]);
+                lines.push(ack_question(&message(&[&header]), TIME, ID, LONGEST_MESSAGE));
+                lines.push(ack_question(&message(&[&header]), TIME, ID, LONGEST_MESSAGE + 1));
+            }
+        }
+    }
+    let header = filled::header_of_oru(&[]);
+    lines.push(ack_question(&message(&[&header, "OBR"]), TIME, ID, most_room));
+    lines.push(ack_question(&message(&[&header]), TIME, &[CR; 20], most_room));
+    // A header with no CR, and a long field that is not written back.
+    lines.push(ack_question(&vec![b'x'; LONGEST_MESSAGE], TIME, ID, 0));
+    for field in [7, 8, 9, 12, 13] {
+        for filling in [32_000, LONGEST_MESSAGE] {
+            let header = filled::header_of_oru(&[(field, &"x".repeat(filling))]);
+            lines.push(acknowledged(&message(&[&header]), TIME, ID));
+        }
+    }
+    lines
+}
+
+/// As many bytes and segments as may be, and one more: with AE then, since the header is sound.
+fn long_messages() -> Vec<Bytes> {
+    let mut messages = Vec::new();
+    for length in [LONGEST_MESSAGE - 1, LONGEST_MESSAGE, LONGEST_MESSAGE + 1, 60_000] {
+        let mut message = message(&[&filled::header_of_oru(&[]), "OBR|1|"]);
+        message.pop();
+        message.resize(length - 1, b'x');
+        message.push(CR);
+        messages.push(message.clone());
+        message[length - 1] = b'x';
+        messages.push(message);
+    }
+    for count in [MOST_SEGMENTS, MOST_SEGMENTS + 1] {
+        let header = filled::header_of_oru(&[]);
+        let mut segments = vec![&header[..], "OBR"];
+        segments.resize(count, "ZZZ");
+        messages.push(message(&segments));
+    }
+    messages.iter().map(|message| acknowledged(message, TIME, ID)).collect()
+}
