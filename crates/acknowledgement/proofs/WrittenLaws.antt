@@ -1,0 +1,382 @@
+-- What holds of every acknowledgement that is written: it is a message, it fits ACK, and its fields are the sender's and the caller's. Assumes nothing.
+use mathlib.Core.Path.{_≡_, refl, sym, ap, ap₂, _∙_, subst}
+use mathlib.Core.Bool.{Bool, true, false, cond, _&&_, _||_}
+use mathlib.Core.List.{List, [], _∷_, _++_, map}
+use Prim.Native.Nat.{ℕ, zero, suc, _+_, _-_, _≤_, _<_}
+use native.Mathlib.Omega.{arith}
+use lib.Dec.{eqb}
+use lib.ListN.{length, getD, length-append}
+use borrow.Author.Tests.{eq-eqb, le-leb, lt-leb}
+use Rattle.alphabet.specs.Bytes.{carriageReturn, printable, allowed, digit}
+use Rattle.alphabet.specs.Delimiters.{permitted, wrongDelimiter}
+use Rattle.alphabet.specs.Limits.{messageLimit, segmentLimit}
+use Rattle.alphabet.specs.Lists.{find, same}
+use Rattle.alphabet.specs.Parts.{split, join}
+use Rattle.alphabet.specs.declared.answers.Check.the-variants.{Passes}
+use Rattle.alphabet.proofs.BoolLaws.{false-true, between-true}
+use Rattle.alphabet.proofs.DelimiterLaws.{delimiter-own}
+use Rattle.alphabet.proofs.LimitLaws.{segment-limit-two}
+use Rattle.alphabet.proofs.EachLaws.{Each, Every, each-append, each-at, at-each, each-weaken, each-join, every-weaken, each-free, every-at}
+use Rattle.alphabet.proofs.PartLaws.{split-join, split-cons, split-last}
+use Rattle.reading.specs.Segments.{segments, delimitersOf, fieldSeparator, named, isHeader}
+use Rattle.reading.specs.Reading.{reading}
+use Rattle.reading.specs.Message.{ended, Opened, Message}
+use Rattle.reading.proofs.SegmentLaws.{segments-ended}
+use Rattle.reading.proofs.Accepted.{accepting}
+use Rattle.element.specs.Finding.{rawBytes}
+use Rattle.element.proofs.RawLaws.{raw-header, raw-other, raw-component}
+use Rattle.value.specs.Times.{isTs}
+use Rattle.value.proofs.TimeBytes.{time-each}
+use Rattle.text.specs.Escape.{escapeOf, escape}
+use Rattle.text.proofs.RoundTrip.{AreBytes}
+use Rattle.text.proofs.Clean.{MayStand, never-separator}
+use Rattle.alphabet.specs.declared.answers.Refusal.the-variants.{None}
+use Rattle.structure.specs.Shapes.{Yields, names}
+use Rattle.structure.specs.Shapes.Spans.{stand, skip, ended as ended-shape}
+use Rattle.structure.specs.SegmentNames.{name, nameOf, segmentNames, among, passedOver, kept}
+use Rattle.structure.specs.Structures.{ack, typeAddress, structureOf, grammarOf}
+use Rattle.structure.specs.Judged.{plain, Judged, accepted, by, Answers, read}
+use Rattle.structure.specs.declared.structures.Structure.the-variants.{Acknowledgement}
+use Rattle.structure.proofs.NameLaws.{is-acknowledgement}
+use Rattle.acknowledgement.specs.Acknowledgement.{ascii, fieldAddress, sent, typePart, present, encoding, typeSent, version, headerParts, lettersOf, answerParts, acknowledgement}
+use Rattle.acknowledgement.specs.declared.letters.Code.{Code}
+use Rattle.acknowledgement.specs.declared.letters.Code.the-variants.{Accept, Error}
+use Rattle.acknowledgement.proofs.SenderLaws.{Printable, Not, Clean, field-clean, event-clean, delimiter-printable, delimiters-apart, no-delimiter, sign-clean}
+
+or-true : (t : Bool) → (t || true) ≡ true
+or-true true = refl
+or-true false = refl
+
+module _ (h : List ℕ) (o : Opened h) (one : find carriageReturn h + 1 ≡ length h) where
+  abbrev ds : List ℕ
+  ds = delimitersOf h
+
+  abbrev sep : ℕ
+  sep = fieldSeparator h
+
+  abbrev Fine : ℕ → Type 0
+  Fine = Clean sep
+
+  abbrev sign : (x : ℕ) → Printable x → permitted x ≡ false → Fine x
+  sign = sign-clean h o one
+
+  -- ---- each part
+
+  delimiter-fine : (i : ℕ) → i < 5 → (i ≡ 0 → ⊥) → Fine (getD ds i 0)
+  delimiter-fine i l n = (delimiter-printable h o one i l, delimiters-apart h o one i 0 l (omega arith) n)
+
+  encoding-fine : Each Fine (encoding h)
+  unfolding Each
+  encoding-fine = (
+    delimiter-fine 1 (omega arith) (λ e. omega arith),
+    (
+      delimiter-fine 2 (omega arith) (λ e. omega arith),
+      (
+        delimiter-fine 3 (omega arith) (λ e. omega arith),
+        (delimiter-fine 4 (omega arith) (λ e. omega arith), tt),
+      ),
+    ),
+  )
+
+  digit-fine : (b : ℕ) → digit b ≡ true → Fine b
+  digit-fine b e =
+      let d = between-true 48 57 b e in
+      let p : Printable b = rw (le-leb 32 b (omega arith)) (rw (le-leb b 126 (omega arith))) in
+      let f : permitted b ≡ false =
+      rw (le-leb 33 b (omega arith), lt-leb b 47 (omega arith)) (rw (lt-leb 58 b (omega arith), lt-leb 91 b (omega arith), lt-leb 123 b (omega arith))) in
+      sign b p f
+
+  time-fine : (time : List ℕ) → isTs time ≡ true → Each Fine time
+  time-fine time e = time-each Fine digit-fine (sign 43 refl refl) (sign 45 refl refl) (sign 46 refl refl) true time e
+
+  id-fine : (id : List ℕ) → AreBytes id → Each Fine (escape ds id)
+  id-fine id small = at-each Fine (escape ds id) (λ i l. stands (getD (escape ds id) i 0) (never-separator ds refl (o .delimiters-right) id small i l))
+    where
+      stands : (b : ℕ) → MayStand ds b → Fine b
+      stands b s = (
+        s .0,
+        λ e.
+            let own = delimiter-own ds refl (o .delimiters-right) 0 (omega arith) in
+            let here : find b ds ≡ 0 = ap (λ (x : ℕ). find x ds) e ∙ own in
+            delimiters-apart h o one 0 3 (omega arith) (omega arith) (λ z. omega arith) (sym e ∙ s .1 (omega arith)),
+      )
+
+  ack-letters : Each (λ (b : ℕ). Fine b × Not (getD ds 2 0) b) (ascii "ACK")
+  unfolding Each
+  ack-letters = (letter 65 refl refl, (letter 67 refl refl, (letter 75 refl refl, tt)))
+    where
+      letter : (x : ℕ) → Printable x → permitted x ≡ false → Fine x × Not (getD ds 2 0) x
+      letter x p f = (sign x p f, no-delimiter h o one x 2 (omega arith) f)
+
+  type-fine : Each (λ (b : ℕ). Fine b × Not (getD ds 2 0) b) (typeSent h)
+  unfolding typeSent Each
+  type-fine = at (present h (typePart h 2))
+    where
+      at : (t : Bool) → Each (λ (b : ℕ). Fine b × Not (getD ds 2 0) b) (ascii "ACK" ++ cond t (getD h 4 0 ∷ typePart h 2) [])
+      at true =
+          each-append (λ (b : ℕ). Fine b × Not (getD ds 2 0) b) (ascii "ACK") (getD h 4 0 ∷ typePart h 2) ack-letters
+          ((delimiter-fine 1 (omega arith) (λ e. omega arith), delimiters-apart h o one 1 2 (omega arith) (omega arith) (λ e. omega arith)), event-clean h o one)
+      at false = each-append (λ (b : ℕ). Fine b × Not (getD ds 2 0) b) (ascii "ACK") [] ack-letters tt
+
+  field : (f : ℕ) → (f ≡ 1 → ⊥) → Each Fine (sent h f)
+  field = field-clean h o one
+
+  module _ (time id : List ℕ) (timed : isTs time ≡ true) (small : AreBytes id) (letters : Code) where
+    pub header-fine : Every (Each Fine) (headerParts h time id)
+    unfolding Each Every headerParts
+    header-fine = (
+      (sign 77 refl refl, (sign 83 refl refl, (sign 72 refl refl, tt))),
+      (
+        encoding-fine,
+        (
+          field 5 (λ e. omega arith),
+          (
+            field 6 (λ e. omega arith),
+            (
+              field 3 (λ e. omega arith),
+              (
+                field 4 (λ e. omega arith),
+                (
+                  time-fine time timed,
+                  (
+                    tt,
+                    (
+                      each-weaken (λ (b : ℕ). Fine b × Not (getD ds 2 0) b) Fine (λ b p. p .0) (typeSent h) type-fine,
+                      (
+                        id-fine id small,
+                        (
+                          field 11 (λ e. omega arith),
+                          ((sign 50 refl refl, (sign 46 refl refl, (sign 52 refl refl, tt))), tt),
+                        ),
+                      ),
+                    ),
+                  ),
+                ),
+              ),
+            ),
+          ),
+        ),
+      ),
+    )
+
+    code-fine : (c : Code) → Each Fine (lettersOf c)
+    unfolding Each
+    code-fine Accept = (sign 65 refl refl, (sign 65 refl refl, tt))
+    code-fine Error = (sign 65 refl refl, (sign 69 refl refl, tt))
+
+    pub answer-fine : Every (Each Fine) (answerParts h letters)
+    unfolding Each Every answerParts
+    answer-fine = ((sign 77 refl refl, (sign 83 refl refl, (sign 65 refl refl, tt))), (code-fine letters, (field 10 (λ e. omega arith), tt)))
+
+    -- ---- the two segments
+
+    abbrev first : List ℕ
+    first = join sep (headerParts h time id)
+
+    abbrev second : List ℕ
+    second = join sep (answerParts h letters)
+
+    abbrev pub written : List ℕ
+    written = acknowledgement h time id letters
+
+    printable-join : (ps : List (List ℕ)) → Every (Each Fine) ps → Each Printable (join sep ps)
+    printable-join ps e =
+        each-join Printable sep ps (delimiter-printable h o one 0 (omega arith))
+        (every-weaken (Each Fine) (Each Printable) (λ p q. each-weaken Fine Printable (λ b r. r .0) p q) ps e)
+
+    first-printable : Each Printable first
+    first-printable = printable-join (headerParts h time id) header-fine
+
+    second-printable : Each Printable second
+    second-printable = printable-join (answerParts h letters) answer-fine
+
+    no-return : (l : List ℕ) → Each Printable l → find carriageReturn l ≡ length l
+    no-return l p = each-free carriageReturn l (each-weaken Printable (Not carriageReturn) (λ b q e. false-true (sym (ap printable e) ∙ q)) l p)
+
+    both-free : (k : ℕ) → k < 2 → find carriageReturn (getD (first ∷ second ∷ []) k []) ≡ length (getD (first ∷ second ∷ []) k [])
+    both-free zero l = no-return first first-printable
+    both-free (suc zero) l = no-return second second-printable
+    both-free (suc (suc k)) l = absurd (omega arith)
+
+    pub segments-written : segments written ≡ first ∷ second ∷ []
+    unfolding acknowledgement
+    segments-written = segments-ended (first ∷ second ∷ []) both-free
+
+    parts-free : (ps : List (List ℕ)) → Every (Each Fine) ps → (k : ℕ) → find sep (getD ps k []) ≡ length (getD ps k [])
+    unfolding Each
+    parts-free ps e k = each-free sep (getD ps k []) (each-weaken Fine (Not sep) (λ b r. r .1) (getD ps k []) (every-at (Each Fine) ps tt e k))
+
+    first-parts : split sep first ≡ headerParts h time id
+    unfolding headerParts
+    first-parts = split-join sep (headerParts h time id) (omega arith) (λ k l. parts-free (headerParts h time id) header-fine k)
+
+    second-parts : split sep second ≡ answerParts h letters
+    unfolding answerParts
+    second-parts = split-join sep (answerParts h letters) (omega arith) (λ k l. parts-free (answerParts h letters) answer-fine k)
+
+    -- ---- it begins as the sender's does
+
+    same-delimiters : delimitersOf written ≡ ds
+    unfolding acknowledgement headerParts ended join
+    same-delimiters = refl
+
+    is-long : 9 ≤ length written
+    unfolding acknowledgement headerParts ended join
+    is-long = omega arith
+
+    -- ---- it reads back
+
+    printable-allowed : (b : ℕ) → Printable b → allowed b ≡ true
+    printable-allowed b p = at (eqb b carriageReturn)
+      where
+        at : (t : Bool) → (t || printable b) ≡ true
+        at true = refl
+        at false = p
+
+    all-allowed-written : Each (λ (b : ℕ). allowed b ≡ true) written
+    unfolding acknowledgement ended Each
+    all-allowed-written =
+        each-append (λ (b : ℕ). allowed b ≡ true) first (carriageReturn ∷ second ++ carriageReturn ∷ []) (each-weaken Printable (λ (b : ℕ). allowed b ≡ true) printable-allowed first first-printable)
+        (refl, each-append (λ (b : ℕ). allowed b ≡ true) second (carriageReturn ∷ []) (each-weaken Printable (λ (b : ℕ). allowed b ≡ true) printable-allowed second second-printable) (refl, tt))
+
+    byte-eight-written : (eqb (getD written 8 0) (fieldSeparator written) || eqb (getD written 8 0) carriageReturn) ≡ true
+    unfolding acknowledgement headerParts ended join
+    byte-eight-written = rw (eq-eqb sep sep refl)
+
+    header-written : isHeader written ≡ true
+    unfolding acknowledgement headerParts ended join
+    header-written = refl
+
+    first-named : named sep first ≡ true
+    unfolding headerParts join
+    first-named = rw (eq-eqb sep sep refl) (or-true (eqb (length first) 3))
+
+    second-named : (named sep second ≡ true) × (isHeader second ≡ false)
+    unfolding answerParts join
+    second-named = (rw (eq-eqb sep sep refl) (or-true (eqb (length second) 3)), refl)
+
+    all-named-written : (k : ℕ) → k < 2 → named sep (getD (first ∷ second ∷ []) k []) ≡ true
+    all-named-written zero l = first-named
+    all-named-written (suc zero) l = second-named .0
+    all-named-written (suc (suc k)) l = absurd (omega arith)
+
+    one-header-written : (k : ℕ) → 0 < k → k < 2 → isHeader (getD (first ∷ second ∷ []) k []) ≡ false
+    one-header-written zero z l = absurd (omega arith)
+    one-header-written (suc zero) z l = second-named .1
+    one-header-written (suc (suc k)) z l = absurd (omega arith)
+
+    module _ (fits : length written ≤ messageLimit) where
+      opened-written : Opened written
+      opened-written = record {
+        some-bytes = let n = is-long in omega arith;
+        most-bytes = fits;
+        nine-bytes = is-long;
+        header = header-written;
+        byte-eight = byte-eight-written;
+        delimiters-right = ap wrongDelimiter same-delimiters ∙ o .delimiters-right;
+        all-allowed = each-at (λ (b : ℕ). allowed b ≡ true) written all-allowed-written;
+      }
+
+      same-separator : fieldSeparator written ≡ sep
+      same-separator = ap (λ (l : List ℕ). getD l 0 0) same-delimiters
+
+      pub message-written : Message written
+      unfolding acknowledgement
+      message-written =
+          let two = ap length segments-written in
+          let least = segment-limit-two in
+          record {
+            opened = opened-written;
+            all-ended = ap ended segments-written;
+            some-segments = omega arith;
+            most-segments = omega arith;
+            all-named = λ k l. ap₂ (λ (x : ℕ) (ss : List (List ℕ)). named x (getD ss k [])) same-separator segments-written ∙ all-named-written k (omega arith);
+            one-header = λ k z l. ap (λ (ss : List (List ℕ)). isHeader (getD ss k [])) segments-written ∙ one-header-written k z (omega arith);
+          }
+
+      -- "reads back through our reader"
+      pub reads-back : reading written ≡ Passes
+      reads-back = accepting written message-written
+
+    -- ---- its fields
+
+    at-least-four : 4 ≤ length written
+    at-least-four = let n = is-long in omega arith
+
+    -- "fields 3, 4, 5, 6 are the sender's 5, 6, 3, 4": field f of its MSH is the part of that number
+    pub header-field : (f : ℕ) → (f ≡ 1 → ⊥) → rawBytes written (fieldAddress f) ≡ getD (headerParts h time id) (f - 1) []
+    header-field f n =
+        raw-header written at-least-four f n
+        ∙ ap₂ (λ (x : ℕ) (ss : List (List ℕ)). getD (split x (getD ss 0 [])) (f - 1) []) (ap (λ (l : List ℕ). getD l 0 0) same-delimiters) segments-written
+        ∙ ap (λ (ps : List (List ℕ)). getD ps (f - 1) []) first-parts
+
+    answer-field : (f : ℕ) → rawBytes written (record { segment = 1; field = f; repetition = 0; component = 0; subcomponent = 0 }) ≡ getD (answerParts h letters) f []
+    answer-field f =
+        raw-other written at-least-four 1 f (λ e. omega arith)
+        ∙ ap₂ (λ (x : ℕ) (ss : List (List ℕ)). getD (split x (getD ss 1 [])) f []) (ap (λ (l : List ℕ). getD l 0 0) same-delimiters) segments-written
+        ∙ ap (λ (ps : List (List ℕ)). getD ps f []) second-parts
+
+    -- "carries the sender's own control ID": MSA-2 is the sender's MSH-10, byte for byte
+    pub carries-id : rawBytes written (record { segment = 1; field = 2; repetition = 0; component = 0; subcomponent = 0 }) ≡ sent h 10
+    unfolding answerParts
+    carries-id = answer-field 2
+
+    -- MSA-1 is the code
+    pub carries-code : rawBytes written (record { segment = 1; field = 1; repetition = 0; component = 0; subcomponent = 0 }) ≡ lettersOf letters
+    unfolding answerParts
+    carries-code = answer-field 1
+
+    -- its MSH-3 to MSH-6 are the sender's 5, 6, 3, 4
+    pub crossed : (rawBytes written (fieldAddress 3) ≡ sent h 5) × (rawBytes written (fieldAddress 4) ≡ sent h 6)
+        × (rawBytes written (fieldAddress 5) ≡ sent h 3) × (rawBytes written (fieldAddress 6) ≡ sent h 4)
+    unfolding headerParts
+    crossed = (header-field 3 (λ e. omega arith), header-field 4 (λ e. omega arith), header-field 5 (λ e. omega arith), header-field 6 (λ e. omega arith))
+
+    -- its MSH-10 says the caller's ID
+    pub own-id : rawBytes written (fieldAddress 10) ≡ escape (delimitersOf written) id
+    unfolding headerParts
+    own-id = header-field 10 (λ e. omega arith) ∙ ap (λ (d : List ℕ). escape d id) (sym same-delimiters)
+
+    -- ---- it fits ACK
+
+    type-free : find (getD ds 2 0) (typeSent h) ≡ length (typeSent h)
+    type-free = each-free (getD ds 2 0) (typeSent h) (each-weaken (λ (b : ℕ). Fine b × Not (getD ds 2 0) b) (Not (getD ds 2 0)) (λ b p. p .1) (typeSent h) type-fine)
+
+    ack-free : find (getD ds 1 0) (ascii "ACK") ≡ 3
+    unfolding Each
+    ack-free =
+        each-free (getD ds 1 0) (ascii "ACK")
+        (no-delimiter h o one 65 1 (omega arith) refl, (no-delimiter h o one 67 1 (omega arith) refl, (no-delimiter h o one 75 1 (omega arith) refl, tt)))
+
+    first-component : getD (split (getD ds 1 0) (typeSent h)) 0 [] ≡ ascii "ACK"
+    unfolding typeSent
+    first-component = at (present h (typePart h 2))
+      where
+        at : (t : Bool) → getD (split (getD ds 1 0) (ascii "ACK" ++ cond t (getD h 4 0 ∷ typePart h 2) [])) 0 [] ≡ ascii "ACK"
+        at true = ap (λ (ps : List (List ℕ)). getD ps 0 []) (split-cons (getD ds 1 0) (ascii "ACK") (typePart h 2) ack-free)
+        at false = let n = ack-free in ap (λ (ps : List (List ℕ)). getD ps 0 []) (split-last (getD ds 1 0) (ascii "ACK") (omega arith))
+
+    type-written : rawBytes written (typeAddress 1) ≡ ascii "ACK"
+    unfolding headerParts
+    type-written =
+        let n = type-free in
+        raw-component written at-least-four 9 1 (omega arith) (omega arith)
+        ∙ ap₂ (λ (d x : List ℕ). getD (split (getD d 1 0) (getD (split (getD d 2 0) x) 0 [])) 0 []) same-delimiters (header-field 9 (λ e. omega arith))
+        ∙ ap (λ (ps : List (List ℕ)). getD (split (getD ds 1 0) (getD ps 0 [])) 0 []) (split-last (getD ds 2 0) (typeSent h) (omega arith)) ∙ first-component
+
+    structure-written : structureOf written ≡ Acknowledgement
+    unfolding structureOf same
+    structure-written = is-acknowledgement (rawBytes written (typeAddress 2)) (rawBytes written (typeAddress 1)) (ap (λ (x : List ℕ). same x (ascii "ACK")) type-written)
+
+    names-written : segmentNames written ≡ name "MSH" ∷ name "MSA" ∷ []
+    unfolding segmentNames nameOf headerParts answerParts join
+    names-written = ap (map nameOf) segments-written
+
+    -- "fits the ACK structure": it yields the names
+    pub fits-ack : Judged ack (segmentNames written) (plain None 0)
+    unfolding kept passedOver among
+    fits-ack = accepted (subst (λ (ns : List ℕ). Yields ack (kept (names ack) ns)) (sym names-written) (stand (stand (skip ended-shape))))
+
+    -- the structure judge accepts it
+    pub judged-written : length written ≤ messageLimit → Answers written (plain None 0)
+    judged-written fits = read (reads-back fits) (by ack (ap grammarOf structure-written) fits-ack)
