@@ -1,4 +1,4 @@
 pub mod SenderLaws
 pub mod WrittenLaws
 pub mod HeaderLaws
-pub mod Pasting
+pub mod PieceLaws

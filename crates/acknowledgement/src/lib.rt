@@ -1,8 +1,8 @@
 // The acknowledgement: what is taken from the sender's header, and whether a message can be acknowledged at all. The writer comes
 // next; what holds of every acknowledgement that it is to write is proved already, of its definition.
 mod letters;
+mod pieces;
 mod sender;
-mod writing;
 
 pub use letters::Code;
 pub use sender::field_of;
