@@ -2,3 +2,4 @@ pub mod SenderLaws
 pub mod WrittenLaws
 pub mod HeaderLaws
 pub mod PieceLaws
+pub mod AnswerLaws

@@ -28,8 +28,8 @@ returns c =
     let b = c .before .event-mark .ensures in
     let z = c .event-of .ensures in
     λ i.
-        now (a .msh) ∷ m i ∷ e i ∷ m i ∷ v i ∷ m i ∷ w i ∷ m i ∷ t i ∷ m i ∷ u i ∷ m i ∷ now (a .time) ∷ m i ∷ m i ∷ now (a .ack)
-        ∷ b i ∷ z i ∷ m i ∷ now (a .id) ∷ m i ∷ y i ∷ m i ∷ now (a .version) ∷ now (a .end) ∷ now (a .msa) ∷ m i ∷ now (a .letters) ∷ m i ∷ x i ∷ now (a .end) ∷ []
+    now (a .msh) ∷ m i ∷ e i ∷ m i ∷ v i ∷ m i ∷ w i ∷ m i ∷ t i ∷ m i ∷ u i ∷ m i ∷ now (a .time) ∷ m i ∷ m i ∷ now (a .ack)
+    ∷ b i ∷ z i ∷ m i ∷ now (a .id) ∷ m i ∷ y i ∷ m i ∷ now (a .version) ∷ now (a .end) ∷ now (a .msa) ∷ m i ∷ now (a .letters) ∷ m i ∷ x i ∷ now (a .end) ∷ []
 
 pub pieces-of-spec : {M : Type 1} → statement M
 pieces-of-spec =
