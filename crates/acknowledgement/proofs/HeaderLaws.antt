@@ -113,3 +113,10 @@ sound-header m e =
     passing : (c : Check) → passes c ≡ true → c ≡ Passes
     passing Passes q = refl
     passing (Fails kind place) q = absurd (false-true q)
+
+pub return-inside : (m : List ℕ) → acknowledgeable m ≡ true → find carriageReturn m < length m
+unfolding acknowledgeable
+return-inside m e = ltb-true (find carriageReturn m) (length m) (and-both (ltb (find carriageReturn m) (length m)) _ e .0)
+
+pub header-find : (m : List ℕ) → find carriageReturn m < length m → find carriageReturn (header m) ≡ find carriageReturn m
+header-find m h = first-taken (eqb carriageReturn) m h

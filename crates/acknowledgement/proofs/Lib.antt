@@ -3,3 +3,4 @@ pub mod WrittenLaws
 pub mod HeaderLaws
 pub mod PieceLaws
 pub mod AnswerLaws
+pub mod Acknowledged
