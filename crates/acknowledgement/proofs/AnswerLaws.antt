@@ -1,7 +1,7 @@
 -- What holds of every answer: that no second one meets the contract, and demand 2 of each acknowledgement that is written. Assumes nothing.
 use mathlib.Core.Path.{_≡_, refl, sym, ap, ap₂, _∙_, subst}
 use mathlib.Core.Logic.{_↔_}
-use mathlib.Core.Bool.{Bool, true, false, cond, _&&_}
+use mathlib.Core.Bool.{Bool, true, false, cond, not, _&&_}
 use mathlib.Core.List.{List, _++_}
 use Prim.Native.Nat.{ℕ, _+_, _≤_}
 use native.Mathlib.Omega.{arith}
@@ -9,14 +9,16 @@ use lib.Dec.{leb}
 use lib.ListN.{length, take, drop}
 use lib.Seq.{take-append-seam, drop-append-seam}
 use borrow.Author.Tests.{leb-true}
+use Rattle.alphabet.specs.Answers.{numberOf}
 use Rattle.alphabet.specs.Limits.{messageLimit}
 use Rattle.alphabet.specs.declared.answers.Answer.{Answer}
 use Rattle.alphabet.specs.declared.answers.Refusal.{Refusal}
 use Rattle.alphabet.specs.declared.answers.Refusal.the-variants.{None, NotAcknowledgeable, AcknowledgementTooLong, CallersTime, CallersId}
+use Rattle.value.specs.Times.{isTs}
 use Rattle.text.specs.Unescape.{Outcome, text, fault}
 use Rattle.text.specs.Answers.{answer, filled}
 use Rattle.verdict.specs.Verdicts.{Accepts}
-use Rattle.acknowledgement.specs.Acknowledgement.{header, refusing, acknowledgement, roomy, Coded, Acknowledges}
+use Rattle.acknowledgement.specs.Acknowledgement.{header, badId, acknowledgeable, refusing, acknowledgement, roomy, Coded, Acknowledges}
 use Rattle.acknowledgement.specs.Acknowledgement.Coded.{accepted, refused}
 use Rattle.acknowledgement.specs.Acknowledgement.Acknowledges.{not-written, written}
 use Rattle.acknowledgement.specs.declared.letters.Code.{Code}
@@ -66,6 +68,23 @@ refusal-leaves m time id lent (written e code c) some =
     at : (t : Bool) → (answer (outcome (acknowledgement (header m) time id code) t) .kind ≡ None → ⊥) → (filled (outcome (acknowledgement (header m) time id code) t) lent ≡ lent) × (answer (outcome (acknowledgement (header m) time id code) t) .place ≡ 0) × (answer (outcome (acknowledgement (header m) time id code) t) .length ≡ 0)
     at true n = absurd (n refl)
     at false n = (refl, refl, refl)
+
+-- 9 is for a message that cannot be acknowledged
+pub nine-unacknowledgeable : (m time id lent : List ℕ) {r : Answer} {x : List ℕ} → Acknowledges m time id lent r x → r .kind ≡ NotAcknowledgeable → acknowledgeable m ≡ false
+unfolding answer roomy refusing
+nine-unacknowledgeable m time id lent (not-written n) nine = at (isTs time) (badId id) (acknowledgeable m) nine
+  where
+    at : (t b a : Bool) → cond (not t) CallersTime (cond b CallersId (cond (not a) NotAcknowledgeable None)) ≡ NotAcknowledgeable → a ≡ false
+    at true false false q = refl
+    at true false true q = absurd (let z = ap numberOf q in omega arith)
+    at true true a q = absurd (let z = ap numberOf q in omega arith)
+    at false b a q = absurd (let z = ap numberOf q in omega arith)
+nine-unacknowledgeable m time id lent (written e code c) nine =
+    at (leb (length (acknowledgement (header m) time id code)) (length lent) && leb (length (acknowledgement (header m) time id code)) messageLimit) nine
+  where
+    at : (t : Bool) → answer (outcome (acknowledgement (header m) time id code) t) .kind ≡ NotAcknowledgeable → acknowledgeable m ≡ false
+    at true q = absurd (let z = ap numberOf q in omega arith)
+    at false q = absurd (let z = ap numberOf q in omega arith)
 
 -- ---- what is written
 

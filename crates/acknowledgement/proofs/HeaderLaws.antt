@@ -99,16 +99,22 @@ first-taken test (b ∷ r) h = at (test b) refl h (first-taken test r)
         let n = suc-add (first test r) 1 in
         rw (n, e) (ap suc (again (omega arith)))
 
--- it is sound, and ends in its own CR
-pub sound-header : (m : List ℕ) → acknowledgeable m ≡ true → Opened (header m) × (find carriageReturn (header m) + 1 ≡ length (header m))
+pub header-find : (m : List ℕ) → find carriageReturn m < length m → find carriageReturn (header m) ≡ find carriageReturn m
+header-find m h = first-taken (eqb carriageReturn) m h
+
+-- it ends in its own CR
+pub header-ends : (m : List ℕ) → find carriageReturn m < length m → find carriageReturn (header m) + 1 ≡ length (header m)
+header-ends m h =
+    let n = header-find m h in
+    let l = length-take-le (find carriageReturn m + 1) m (omega arith) in
+    omega arith
+
+-- it is sound
+pub sound-header : (m : List ℕ) → acknowledgeable m ≡ true → Opened (header m)
 unfolding acknowledgeable
 sound-header m e =
     let there = and-both (ltb (find carriageReturn m) (length m)) _ e in
-    let sound = and-both (passes (opening (header m))) _ (there .1) in
-    let inside = ltb-true (find carriageReturn m) (length m) (there .0) in
-    let n = first-taken (eqb carriageReturn) m inside in
-    let l = length-take-le (find carriageReturn m + 1) m (omega arith) in
-    (opened-if (header m) (passing (opening (header m)) (sound .0)), omega arith)
+    opened-if (header m) (passing (opening (header m)) (and-both (passes (opening (header m))) _ (there .1) .0))
   where
     passing : (c : Check) → passes c ≡ true → c ≡ Passes
     passing Passes q = refl
@@ -117,6 +123,3 @@ sound-header m e =
 pub return-inside : (m : List ℕ) → acknowledgeable m ≡ true → find carriageReturn m < length m
 unfolding acknowledgeable
 return-inside m e = ltb-true (find carriageReturn m) (length m) (and-both (ltb (find carriageReturn m) (length m)) _ e .0)
-
-pub header-find : (m : List ℕ) → find carriageReturn m < length m → find carriageReturn (header m) ≡ find carriageReturn m
-header-find m h = first-taken (eqb carriageReturn) m h

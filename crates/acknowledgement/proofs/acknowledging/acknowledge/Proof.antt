@@ -44,7 +44,7 @@ write-requires c κs =
     let a = e .before .before .before .before .before .before .before .args in
     let m = now (a .message) in
     let n = nothing-against m (now (a .time)) (now (a .id)) (nothing e) in
-    let o = sound-header m (n .2) .0 in (
+    let o = sound-header m (n .2) in (
       omega (arith, ap length (h .header-of .ensures), o .nine-bytes),
       (ap (λ (x : List ℕ). wrongDelimiter (delimitersOf x)) (h .header-of .ensures) ∙ o .delimiters-right, id-short m (now (a .time)) (now (a .id)) (n .1)),
     )
