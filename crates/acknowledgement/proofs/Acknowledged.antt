@@ -2,13 +2,13 @@
 -- caller's ID and the verdict's code. All of it is looked up in the bytes that were written and in the message that was sent. Assumes nothing.
 use mathlib.Core.Path.{_≡_, refl, sym, ap, ap₂, _∙_, subst}
 use mathlib.Core.Logic.{_↔_}
-use mathlib.Core.Bool.{Bool, true, false, cond, _&&_, _||_}
+use mathlib.Core.Bool.{Bool, true, false, _&&_, _||_}
 use mathlib.Core.List.{List, [], _∷_}
 use Prim.Native.Nat.{ℕ, zero, suc, _+_, _-_, _≤_, _<_}
 use native.Mathlib.Nat.{zero-add, sub-zero}
 use native.Mathlib.Omega.{arith}
 use lib.Dec.{eqb, leb}
-use lib.ListN.{length, getD, take, drop}
+use lib.ListN.{length, getD, take}
 use lib.Seq.{getD-take, take-take, length-take-le}
 use borrow.Author.Tests.{leb-true, leb-false, eqb-true, eq-eqb, lt-ltb, le-leb}
 use Rattle.alphabet.specs.Bytes.{carriageReturn, allowed}
@@ -16,13 +16,13 @@ use Rattle.alphabet.specs.Delimiters.{permitted, wrongDelimiter}
 use Rattle.alphabet.proofs.BoolLaws.{false-true, and-both}
 use Rattle.alphabet.proofs.DelimiterLaws.{delimiter-permitted}
 use Rattle.alphabet.proofs.ListLaws.{first-least, find-is, same-is}
-use Rattle.alphabet.specs.Limits.{messageLimit, idLimit}
+use Rattle.alphabet.specs.Limits.{idLimit}
 use Rattle.alphabet.specs.Lists.{find, same}
 use Rattle.alphabet.specs.Parts.{split}
 use Rattle.alphabet.specs.declared.answers.Answer.{Answer}
 use Rattle.alphabet.specs.declared.answers.Check.the-variants.{Passes}
 use Rattle.alphabet.specs.declared.answers.Refusal.the-variants.{None, NotAcknowledgeable}
-use Rattle.reading.specs.Segments.{segments, allButLast, delimitersOf, fieldSeparator}
+use Rattle.reading.specs.Segments.{segments, delimitersOf}
 use Rattle.reading.specs.Reading.{reading}
 use Rattle.reading.specs.Message.{Opened, Message}
 use Rattle.reading.proofs.Accepted.{opening-if, message-last}
@@ -45,7 +45,6 @@ use Rattle.verdict.specs.Verdicts.{Accepts}
 use Rattle.acknowledgement.specs.Acknowledgement.{ascii, header, fieldAddress, sent, typePart, lettersOf, acknowledgement, badId, acknowledgeable, Coded, Acknowledges}
 use Rattle.acknowledgement.specs.Acknowledgement.Coded.{accepted, refused}
 use Rattle.acknowledgement.specs.declared.letters.Code.{Code}
-use Rattle.acknowledgement.specs.declared.letters.Code.the-variants.{Accept, Error}
 use Rattle.acknowledgement.proofs.HeaderLaws.{nothing-against, return-inside, header-find, header-ends, sound-header}
 use Rattle.acknowledgement.proofs.SenderLaws.{segments-header}
 use Rattle.acknowledgement.proofs.WrittenLaws as W

@@ -1,9 +1,8 @@
 -- What holds of every answer: that no second one meets the contract, and demand 2 of each acknowledgement that is written. Assumes nothing.
-use mathlib.Core.Path.{_≡_, refl, sym, ap, ap₂, _∙_, subst}
-use mathlib.Core.Logic.{_↔_}
+use mathlib.Core.Path.{_≡_, refl, sym, ap, _∙_, subst}
 use mathlib.Core.Bool.{Bool, true, false, cond, not, _&&_}
-use mathlib.Core.List.{List, _++_}
-use Prim.Native.Nat.{ℕ, _+_, _≤_}
+use mathlib.Core.List.{List}
+use Prim.Native.Nat.{ℕ, _≤_}
 use native.Mathlib.Omega.{arith}
 use lib.Dec.{leb}
 use lib.ListN.{length, take, drop}
@@ -12,17 +11,14 @@ use borrow.Author.Tests.{leb-true}
 use Rattle.alphabet.specs.Answers.{numberOf}
 use Rattle.alphabet.specs.Limits.{messageLimit}
 use Rattle.alphabet.specs.declared.answers.Answer.{Answer}
-use Rattle.alphabet.specs.declared.answers.Refusal.{Refusal}
 use Rattle.alphabet.specs.declared.answers.Refusal.the-variants.{None, NotAcknowledgeable, AcknowledgementTooLong, CallersTime, CallersId}
 use Rattle.value.specs.Times.{isTs}
 use Rattle.text.specs.Unescape.{Outcome, text, fault}
 use Rattle.text.specs.Answers.{answer, filled}
-use Rattle.verdict.specs.Verdicts.{Accepts}
 use Rattle.acknowledgement.specs.Acknowledgement.{header, badId, acknowledgeable, refusing, acknowledgement, roomy, Coded, Acknowledges}
 use Rattle.acknowledgement.specs.Acknowledgement.Coded.{accepted, refused}
 use Rattle.acknowledgement.specs.Acknowledgement.Acknowledges.{not-written, written}
 use Rattle.acknowledgement.specs.declared.letters.Code.{Code}
-use Rattle.acknowledgement.specs.declared.letters.Code.the-variants.{Accept, Error}
 
 module _ (m time id lent : List ℕ) where
   -- the contract, from what the writer gives of the header that was taken

@@ -1,6 +1,6 @@
 -- A message in which the field judge finds nothing has a control ID: MSH-10, the whole field, is present and not too long. Assumes nothing.
 use mathlib.Core.Path.{_≡_, refl, sym, ap, _∙_, subst}
-use mathlib.Core.Bool.{Bool, true, false, cond, not, _&&_}
+use mathlib.Core.Bool.{Bool, true, false, cond, not}
 use mathlib.Core.List.{List, [], _∷_, map}
 use Prim.Native.Nat.{ℕ, _+_, _≤_}
 use native.Mathlib.Omega.{arith}
@@ -9,12 +9,12 @@ use lib.ListN.{length, getD, drop}
 use borrow.Author.Tests.{ltb-false}
 use Rattle.alphabet.specs.Answers.{failsIf, orElse, inOrder}
 use Rattle.alphabet.specs.Limits.{idLimit}
-use Rattle.alphabet.specs.Parts.{split, join, standing}
+use Rattle.alphabet.specs.Parts.{join, standing}
 use Rattle.alphabet.proofs.PartLaws.{join-split}
 use Rattle.alphabet.specs.declared.answers.Check.{Check}
 use Rattle.alphabet.specs.declared.answers.Check.the-variants.{Passes, Fails}
 use Rattle.alphabet.specs.declared.answers.Refusal.{Refusal}
-use Rattle.alphabet.specs.declared.answers.Refusal.the-variants.{RequiredMissing, RequiredNull, Repeated, ValueTooLong}
+use Rattle.alphabet.specs.declared.answers.Refusal.the-variants.{Repeated, ValueTooLong}
 use Rattle.alphabet.specs.declared.parts.Part.{Part}
 use Rattle.alphabet.specs.declared.parts.Part.the-variants.{At, Absent}
 use Rattle.reading.specs.Segments.{delimitersOf, segments, segmentAt}
@@ -26,7 +26,7 @@ use Rattle.element.specs.declared.states.State.the-variants.{Absent as no-part,
 use Rattle.element.proofs.RawLaws.{raw-whole}
 use Rattle.value.specs.Asked.{isPresent}
 use Rattle.fields.specs.Table.{row, rows, noRow, R, no}
-use Rattle.fields.specs.Rules.{formCheck, judgedPart, partState, placed, repetitionCheck, repetitionChecks, firstState, requiredCheck, repeatedCheck, saidCheck, rowCheck}
+use Rattle.fields.specs.Rules.{formCheck, judgedPart, placed, repetitionCheck, repetitionChecks, firstState, requiredCheck, repeatedCheck, saidCheck, rowCheck}
 use Rattle.fields.specs.Judging.{Fault, Sound, Faulty, repetitionsIn, repetitionsOf, located, orFault, firstFault, rowFault, segmentFault, segmentFaults, judging}
 use Rattle.fields.specs.declared.table.Portion.the-variants.{Whole}
 use Rattle.fields.specs.declared.table.Kind.the-variants.{Identifier}

@@ -1,12 +1,12 @@
 -- Every fault has a number from 31 to 37, so that what is answered without one is sound. Assumes nothing.
-use mathlib.Core.Path.{_≡_, refl, sym, ap, _∙_, subst}
+use mathlib.Core.Path.{_≡_, refl, ap}
 use mathlib.Core.Logic.{_⊎_, inl, inr}
 use mathlib.Core.Bool.{Bool, true, false, cond, not, _&&_}
 use mathlib.Core.List.{List, [], _∷_, map}
 use Prim.Native.Nat.{ℕ, _+_, _≤_}
 use native.Mathlib.Omega.{arith}
 use lib.Dec.{ltb, eqb}
-use lib.ListN.{length, getD}
+use lib.ListN.{length}
 use Rattle.alphabet.specs.Answers.{numberOf, failsIf, orElse, inOrder}
 use Rattle.alphabet.specs.Limits.{idLimit}
 use Rattle.alphabet.specs.declared.answers.Check.{Check}

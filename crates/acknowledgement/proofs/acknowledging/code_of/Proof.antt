@@ -1,8 +1,6 @@
 -- Rests on the verdict accepting exactly where reading, structure and fields all accept.
-use mathlib.Core.Path.{_≡_, sym, ap, _∙_}
-use native.Mathlib.Omega.{arith}
+use mathlib.Core.Path.{sym, ap, _∙_}
 use borrow.Author.Needs.{needs}
-use denote.Ref.{now}
 use Rattle.verdict.proofs.VerdictLaws.{number-none, accepts-exactly}
 use Rattle.alphabet.specs.Answers.{numberOf}
 use Rattle.acknowledgement.specs.Acknowledgement.Coded.{accepted, refused}

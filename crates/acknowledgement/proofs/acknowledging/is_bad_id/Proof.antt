@@ -1,5 +1,5 @@
 -- Rests on the limit of an ID as `id_limit` ensures it.
-use mathlib.Core.Path.{_≡_, sym, ap, _∙_}
+use mathlib.Core.Path.{ap}
 use mathlib.Core.Bool.{_||_}
 use Prim.Native.Nat.{ℕ}
 use lib.Dec.{eqb, ltb}

@@ -1,13 +1,11 @@
 -- Rests on the laws of a buffer that is filled from its front: the pieces that are left, at each turn.
-use Prim.Native.Nat.{ℕ, _≤_, _<_, _+_, _-_}
-use mathlib.Core.Path.{_≡_, sym, ap, _∙_}
-use mathlib.Core.List.{List, map}
+use Prim.Native.Nat.{_≤_, _-_}
+use mathlib.Core.Path.{_∙_}
 use lib.ListN.{length, getD, drop}
 use native.Mathlib.Omega.{arith}
 use borrow.Author.Needs.{needs}
 use denote.Ref.{now}
 use Rattle.alphabet.proofs.FillingLaws.{Filling, fill-start, fill-more, fill-room, fill-length, fill-end, put-fits}
-use Rattle.acknowledgement.specs.Pieces.{together}
 use Rattle.acknowledgement.proofs.PieceLaws.{none, bytes, pieces-next, pieces-end, count-next}
 use Rattle.acknowledgement.proofs.pieces.put_pieces.Statement.{statement}
 use Rattle.acknowledgement.proofs.pieces.put_pieces.Tie as tie

@@ -1,7 +1,6 @@
 -- Rests on the test as a bool.
-use mathlib.Core.Path.{_≡_, sym, ap, _∙_}
+use mathlib.Core.Path.{sym, ap}
 use mathlib.Core.Bool.{Bool, cond}
-use native.Mathlib.Omega.{arith}
 use borrow.Author.Tests.{lt-ltb, le-ltb}
 use Rattle.acknowledgement.proofs.pieces.smaller.Statement.{statement}
 use Rattle.acknowledgement.proofs.pieces.smaller.Tie as tie
