@@ -1,0 +1,4 @@
+/* What our C programs use of stdbool.h. */
+#define bool _Bool
+#define true 1
+#define false 0

@@ -1,0 +1,94 @@
+/* What the network side of a gateway does with one message, here from standard input: the verdict in words on standard error, and the
+ * acknowledgement on standard output. It ends with 0 where the message was accepted, 1 where it was refused and the sender was told so, and 2
+ * where nothing could be sent back.
+ *
+ *     c/link examples/gateway.c gateway && ./gateway 20261115103000+1000 0001 < examples/blood-count.hl7
+ */
+#include "turrethog.h"
+
+#include <stdio.h>
+#include <string.h>
+
+/* One byte more than a message may have, so that a longer one is seen. */
+static uint8_t message[32769];
+static uint8_t acknowledgement[32768];
+
+static const char *in_words(uint32_t number)
+{
+    switch (number) {
+    case TURRETHOG_LENGTH: return "it is empty or over 32,768 bytes";
+    case TURRETHOG_HEADER: return "it does not begin with MSH and its delimiters";
+    case TURRETHOG_DELIMITER: return "a delimiter is not permitted or stands twice";
+    case TURRETHOG_NOT_ALLOWED: return "a byte is not allowed (segments end with CR alone, not LF)";
+    case TURRETHOG_NOT_ENDED: return "the last segment does not end with CR";
+    case TURRETHOG_SEGMENT_NAME: return "a segment does not begin with its name";
+    case TURRETHOG_SECOND_HEADER: return "there is a second MSH";
+    case TURRETHOG_TOO_MANY_SEGMENTS: return "there are over 256 segments";
+    case TURRETHOG_NOT_ACKNOWLEDGEABLE: return "it cannot be acknowledged: no sound header, an acknowledgement, or no control ID";
+    case TURRETHOG_ACKNOWLEDGEMENT_TOO_LONG: return "its acknowledgement would be too long";
+    case TURRETHOG_CALLERS_TIME: return "our own time is no TS";
+    case TURRETHOG_CALLERS_ID: return "our own ID has not 1 to 20 bytes";
+    case TURRETHOG_NO_STRUCTURE: return "its type is not listed";
+    case TURRETHOG_SEGMENT_MISPLACED: return "a segment cannot stand where it stands";
+    case TURRETHOG_ENDED_EARLY: return "segments are missing at its end";
+    case TURRETHOG_REQUIRED_MISSING: return "a required field is missing";
+    case TURRETHOG_BREAKS_FORM: return "a field breaks its type's form";
+    case TURRETHOG_NOT_LISTED: return "a value is not in its list";
+    case TURRETHOG_REQUIRED_NULL: return "a required field is null";
+    case TURRETHOG_VALUE_WITHOUT_TYPE: return "OBX-5 has a value and OBX-2 no type";
+    case TURRETHOG_REPEATED: return "a field is repeated that may not be";
+    case TURRETHOG_VALUE_TOO_LONG: return "a value is too long";
+    default: return "";
+    }
+}
+
+static void print_names(size_t length, size_t count)
+{
+    fprintf(stderr, "  could have stood there:");
+    for (size_t i = 0; i < count; i++) {
+        uint32_t name = turrethog_could_stand(message, length, i);
+        fprintf(stderr, " %c%c%c", (int)(name >> 16), (int)(name >> 8 & 255), (int)(name & 255));
+    }
+    fprintf(stderr, "\n");
+}
+
+static void print_verdict(turrethog_verdict_answer verdict, size_t length)
+{
+    if (verdict.number == TURRETHOG_NONE) {
+        fprintf(stderr, "accepted\n");
+        return;
+    }
+    fprintf(stderr, "refused (%u): %s\n", (unsigned)verdict.number, in_words(verdict.number));
+    if (verdict.number < TURRETHOG_NO_STRUCTURE)
+        fprintf(stderr, "  at byte %zu\n", verdict.place);
+    else if (verdict.field != 0)
+        fprintf(stderr, "  in segment %zu, field %zu, repetition %zu\n", verdict.place, verdict.field, verdict.repetition);
+    else if (verdict.number != TURRETHOG_NO_STRUCTURE)
+        fprintf(stderr, "  at segment %zu\n", verdict.place);
+    if (verdict.names != 0)
+        print_names(length, verdict.names);
+    if (verdict.could_end)
+        fprintf(stderr, "  the message could have ended there\n");
+}
+
+int main(int count, char **words)
+{
+    if (count != 3) {
+        fprintf(stderr, "usage: gateway TIME ID < MESSAGE\n  TIME is a TS, as 20261115103000+1000; ID is 1 to 20 bytes\n");
+        return 2;
+    }
+    size_t length = fread(message, 1, sizeof message, stdin);
+    turrethog_verdict_answer verdict = turrethog_verdict(message, length);
+    print_verdict(verdict, length);
+    turrethog_answer written = turrethog_acknowledge(message, length, (const uint8_t *)words[1], strlen(words[1]), (const uint8_t *)words[2],
+                                                     strlen(words[2]), acknowledgement, sizeof acknowledgement);
+    if (written.number != TURRETHOG_NONE) {
+        fprintf(stderr, "not acknowledged (%u): %s\n", (unsigned)written.number, in_words(written.number));
+        return 2;
+    }
+    if (fwrite(acknowledgement, 1, written.length, stdout) != written.length || fflush(stdout) != 0) {
+        fprintf(stderr, "the acknowledgement could not be sent\n");
+        return 2;
+    }
+    return verdict.number == TURRETHOG_NONE ? 0 : 1;
+}

@@ -1,0 +1,204 @@
+/* Turrethog: reads, judges and acknowledges HL7 v2.4 messages, and escapes and unescapes their text.
+ *
+ * Any bytes may be handed in. Every function ends, answers or refuses by a number of the table below, keeps no state, and may be called from
+ * any thread. Nothing is written but the buffer that is lent to the three functions that write, and after a refusal that buffer holds the
+ * bytes that it held before.
+ *
+ * What the caller owes: each pointer is not NULL, also where its length is 0, and leads to as many bytes as the length says; a buffer that is
+ * lent for writing overlaps none of the other arguments. The library does not and cannot check this.
+ */
+#ifndef TURRETHOG_H
+#define TURRETHOG_H
+
+#include <stdbool.h>
+#include <stddef.h>
+#include <stdint.h>
+
+#ifdef __cplusplus
+extern "C" {
+#endif
+
+/* ---- The numbers. What `place` is stands beside each; it is 0 where nothing is said. */
+
+enum {
+    TURRETHOG_NONE = 0,                      /* nothing was refused */
+    /* reading: the place is a byte's offset */
+    TURRETHOG_LENGTH = 1,                    /* no bytes, or over 32,768; place 0 */
+    TURRETHOG_HEADER = 2,                    /* it does not begin as a message does; place 0 */
+    TURRETHOG_DELIMITER = 3,                 /* a delimiter is not permitted, or stands twice; in text: the place is its number, 0 to 4 */
+    TURRETHOG_NOT_ALLOWED = 4,               /* a byte that is not allowed, as LF; in text, CR too */
+    TURRETHOG_NOT_ENDED = 5,                 /* the last byte is not CR */
+    TURRETHOG_SEGMENT_NAME = 6,              /* a segment does not begin with a name */
+    TURRETHOG_SECOND_HEADER = 7,             /* MSH behind the first segment */
+    TURRETHOG_TOO_MANY_SEGMENTS = 8,         /* over 256 segments */
+    /* acknowledging: place 0 */
+    TURRETHOG_NOT_ACKNOWLEDGEABLE = 9,       /* no sound header, an acknowledgement itself, or no control ID of 1 to 20 bytes */
+    TURRETHOG_ACKNOWLEDGEMENT_TOO_LONG = 10, /* longer than the buffer, or than 32,768 bytes */
+    /* text: the place is a byte's offset in the text */
+    TURRETHOG_SEPARATOR = 11,                /* a delimiter that stands as itself */
+    TURRETHOG_UNKNOWN_ESCAPE = 12,           /* an escape that is not in the table */
+    TURRETHOG_UNCLOSED_ESCAPE = 13,          /* an escape that never ends */
+    TURRETHOG_TEXT_TOO_LONG = 14,            /* the result is longer than the buffer; place 0 */
+    TURRETHOG_NULL_TEXT = 15,                /* two quotes are null, and no text; place 0 */
+    /* acknowledging: place 0 */
+    TURRETHOG_CALLERS_TIME = 16,             /* the caller's time is no TS */
+    TURRETHOG_CALLERS_ID = 17,               /* the caller's ID has not 1 to 20 bytes */
+    /* finding: place 0 */
+    TURRETHOG_ADDRESS = 19,                  /* no such segment, or an address that no message could have */
+    /* structure: the place is a segment's number, from 0 */
+    TURRETHOG_NO_STRUCTURE = 20,             /* the message's type is not listed; place 0 */
+    TURRETHOG_SEGMENT_MISPLACED = 21,        /* this segment cannot stand here */
+    TURRETHOG_ENDED_EARLY = 22,              /* only more segments are missing; the place is the count of segments */
+    /* fields, and values of an element: in a verdict the place is a segment's number, with field and repetition */
+    TURRETHOG_REQUIRED_MISSING = 31,         /* a required field is absent or empty */
+    TURRETHOG_BREAKS_FORM = 32,              /* the bytes break their type's form */
+    TURRETHOG_NOT_LISTED = 33,               /* the value is not in its list */
+    TURRETHOG_REQUIRED_NULL = 34,            /* a required field is null */
+    TURRETHOG_VALUE_WITHOUT_TYPE = 35,       /* a value in OBX-5, and no type in OBX-2 */
+    TURRETHOG_REPEATED = 36,                 /* a field that may not repeat does */
+    TURRETHOG_VALUE_TOO_LONG = 37            /* over 20 bytes, or well formed and over 18 digits */
+};
+
+/* The four states of an element. An empty box is not a zero, and null is neither. */
+enum {
+    TURRETHOG_ABSENT = 0,
+    TURRETHOG_EMPTY = 1,
+    TURRETHOG_NULL = 2,
+    TURRETHOG_PRESENT = 3
+};
+
+/* A part of a time that was not sent: no figure is as large. */
+#define TURRETHOG_NOT_SENT UINT64_MAX
+
+/* The sign of an offset. -0000 and +0000 differ. */
+enum {
+    TURRETHOG_NO_OFFSET = 0,
+    TURRETHOG_PLUS = 1,
+    TURRETHOG_MINUS = 2
+};
+
+/* ---- What comes back */
+
+typedef struct {
+    uint32_t number;
+    size_t place;
+    size_t length; /* of what was written to the front of the buffer; 0 after a refusal */
+} turrethog_answer;
+
+typedef struct {
+    uint32_t number;
+    uint32_t state; /* absent after a refusal */
+    size_t place;
+    size_t start; /* the bytes of the message from start up to end; 0 and 0 where it is absent */
+    size_t end;
+} turrethog_element;
+
+typedef struct {
+    uint32_t number;
+    uint32_t state;
+    size_t place;
+    int64_t value; /* 12.50 is 1250 with 2 decimals; 0 and 0 where the element is not present: look at the state */
+    size_t decimals;
+} turrethog_number;
+
+typedef struct {
+    uint64_t year;
+    uint64_t month;
+    uint64_t day;
+} turrethog_date;
+
+typedef struct {
+    uint64_t hour;
+    uint64_t minute;
+    uint64_t second;
+    uint64_t fraction; /* .05 is 5 with 2 digits */
+    size_t digits;
+} turrethog_clock;
+
+typedef struct {
+    uint64_t sign;
+    uint64_t hours;
+    uint64_t minutes;
+} turrethog_offset;
+
+typedef struct {
+    uint32_t number;
+    uint32_t state;
+    size_t place;
+    turrethog_date date; /* TURRETHOG_NOT_SENT in each part that was not sent */
+    turrethog_clock clock;
+    turrethog_offset offset;
+} turrethog_time;
+
+typedef struct {
+    uint32_t number;
+    bool could_end; /* whether the message could have ended before this segment; false but for 21 */
+    size_t place;
+    size_t names; /* how many names could have stood there: turrethog_could_stand */
+} turrethog_structure_answer;
+
+typedef struct {
+    uint32_t number;
+    bool could_end;
+    size_t place;      /* a byte's offset for 1 to 8, else a segment's number */
+    size_t field;      /* 0 but for 31 to 37 */
+    size_t repetition; /* 0 but for 31 to 37 */
+    size_t names;
+} turrethog_verdict_answer;
+
+/* ---- Reading */
+
+/* 0, or 1 to 8. */
+turrethog_answer turrethog_read(const uint8_t *message, size_t length);
+
+/* An element, by segment (from 0), field, repetition, component and subcomponent (from 1; 0 is the whole): 0, a reading fault, or 19. */
+turrethog_element turrethog_find(const uint8_t *message, size_t length, size_t segment, size_t field, size_t repetition, size_t component,
+                                 size_t subcomponent);
+
+/* The same, and what the element says where it is present: a number (NM), a sequence number (SI), a date (DT), a time of day (TM) or a time
+ * stamp (TS). Also 32, and 37 for a number of over 18 digits. */
+turrethog_number turrethog_nm(const uint8_t *message, size_t length, size_t segment, size_t field, size_t repetition, size_t component,
+                              size_t subcomponent);
+turrethog_number turrethog_si(const uint8_t *message, size_t length, size_t segment, size_t field, size_t repetition, size_t component,
+                              size_t subcomponent);
+turrethog_time turrethog_dt(const uint8_t *message, size_t length, size_t segment, size_t field, size_t repetition, size_t component,
+                            size_t subcomponent);
+turrethog_time turrethog_tm(const uint8_t *message, size_t length, size_t segment, size_t field, size_t repetition, size_t component,
+                            size_t subcomponent);
+turrethog_time turrethog_ts(const uint8_t *message, size_t length, size_t segment, size_t field, size_t repetition, size_t component,
+                            size_t subcomponent);
+
+/* ---- Text. The five delimiters are bytes 3 to 7 of a message, in its order. */
+
+/* Writes text as it stands in a field: 0, 3, 14. The result has at most five bytes for each. */
+turrethog_answer turrethog_escape(uint8_t field, uint8_t component, uint8_t repetition, uint8_t escape, uint8_t subcomponent,
+                                  const uint8_t *text, size_t length, uint8_t *buffer, size_t room);
+
+/* What a written text says: 0, 3, 15, 4, 11, 12, 13, 14. The result is never longer than the text. */
+turrethog_answer turrethog_unescape(uint8_t field, uint8_t component, uint8_t repetition, uint8_t escape, uint8_t subcomponent,
+                                    const uint8_t *text, size_t length, uint8_t *buffer, size_t room);
+
+/* ---- Judging */
+
+/* 0, a reading fault, 20, 21 or 22. */
+turrethog_structure_answer turrethog_structure(const uint8_t *message, size_t length);
+
+/* The verdict: 0, a reading fault, 20, 21, 22, or the first of 31 to 37. */
+turrethog_verdict_answer turrethog_verdict(const uint8_t *message, size_t length);
+
+/* The names that could have stood at the place of a 21 or 22, by their number from 0, in the grammar's order: the three letters of a name as
+ * one number, the first highest (OBX is 0x4f4258). 0 past the last. */
+uint32_t turrethog_could_stand(const uint8_t *message, size_t length, size_t index);
+
+/* ---- Acknowledging */
+
+/* Writes the acknowledgement of a message: AA where the verdict is 0, else AE. time is the caller's time as a TS, id his own control ID of 1 to
+ * 20 bytes of any kind. 0, or 16, 17, 9, 10. */
+turrethog_answer turrethog_acknowledge(const uint8_t *message, size_t length, const uint8_t *time, size_t time_length, const uint8_t *id,
+                                       size_t id_length, uint8_t *buffer, size_t room);
+
+#ifdef __cplusplus
+}
+#endif
+
+#endif
