@@ -1,15 +1,16 @@
 -- Laws of words that say a number: the digit at a place, and those behind it. Assumes nothing.
 use Prim.Native.Nat.{ℕ, _+_, _-_, _*_, _^_, _≤_, _<_}
-use mathlib.Core.Path.{_≡_, refl}
+use mathlib.Core.Path.{_≡_, refl, subst}
 use mathlib.Core.Bool.{Bool, true, false, cond, _&&_}
 use mathlib.Core.List.{List, [], _∷_}
 use native.Mathlib.Omega.{arith}
 use lib.ListN.{length, getD, drop, drop-of-length-le}
 use borrow.Author.Tests.{le-leb, lt-leb, lt-ltb, le-ltb}
+use Rattle.ask.specs.declared.numbers.Number.{Number}
 use Rattle.ask.specs.declared.numbers.Number.the-variants.{Value, Refused}
 use Rattle.alphabet.specs.Digits.{allDigits, counted}
 use Rattle.alphabet.proofs.DigitLaws.{counted-least}
-use Rattle.ask.specs.Numbers.{held, number}
+use Rattle.ask.specs.Numbers.{held, number, AtMost}
 use Rattle.alphabet.proofs.ListLaws.{drop-next}
 
 pub number-none : (l : List ℕ) → length l ≡ 0 → number l ≡ Refused
@@ -55,3 +56,6 @@ module _ (n : ℕ) (l : List ℕ) (i : ℕ) where
     pub held-next : 48 ≤ getD l i 0 → getD l i 0 ≤ 57 → held n (drop i l) ≡ held (n * 10 + (getD l i 0 - 48)) (drop (i + 1) l)
     unfolding held allDigits counted
     held-next a b = rw (drop-next l i) (rw (le-leb 48 (getD l i 0) a, le-leb (getD l i 0) 57 b))
+
+pub at-most : {most n : ℕ} {r : Number} → AtMost most r → r ≡ Value n → n ≤ most
+at-most {most = most} h e = subst (AtMost most) e h

@@ -1,6 +1,6 @@
 -- Laws of words that say bytes: what the whole word says, and what is told of it; and the digits that say a byte and those behind it. Assumes nothing.
 use Prim.Native.Nat.{ℕ, _+_, _/_, _%_, _≤_, _<_}
-use mathlib.Core.Path.{_≡_, refl, ap}
+use mathlib.Core.Path.{_≡_, refl, ap, subst}
 use mathlib.Core.Bool.{true, false}
 use mathlib.Core.List.{List, [], _∷_}
 use native.Mathlib.Omega.{arith}
@@ -10,7 +10,7 @@ use Rattle.ask.specs.declared.hex.Decoded.{Decoded}
 use Rattle.ask.specs.declared.hex.Decoded.the-variants.{Length, Refused}
 use Rattle.alphabet.specs.Hex.{allHex, pairsOf}
 use Rattle.alphabet.proofs.ListLaws.{drop-next}
-use Rattle.ask.specs.Hex.{Said, bytes, nothing, said, fitting, Told, front, refused, hexDigit, hexed}
+use Rattle.ask.specs.Hex.{Said, bytes, nothing, said, fitting, Told, front, refused, Reaching, hexDigit, hexed}
 
 pub said-empty : (l : List ℕ) → length l ≡ 0 → said l ≡ nothing
 unfolding said
@@ -63,6 +63,9 @@ told-within {n = n} {d = d} (front {xs} t) e =
     let m : n ≡ length xs = cc in
     omega (arith, ap length t, length-take (length xs) d)
 told-within refused e = absurd (let z : _≡_ {A = ℕ} 0 1 = cc in omega arith)
+
+pub reached : {at room n : ℕ} {r : Decoded} → Reaching at room r → r ≡ Length n → (at ≤ n) × (n ≤ room)
+reached {at = at} {room = room} h e = subst (Reaching at room) e h
 
 -- ---- from bytes to digits
 

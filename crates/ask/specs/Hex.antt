@@ -1,5 +1,5 @@
 -- The bytes that a word of a question says, and the word that an answer says bytes by. Assumes nothing.
-use Prim.Native.Nat.{ℕ, _+_, _/_, _%_}
+use Prim.Native.Nat.{ℕ, _+_, _/_, _%_, _≤_}
 use mathlib.Core.Path.{_≡_}
 use mathlib.Core.Bool.{cond}
 use mathlib.Core.List.{List, [], _∷_}
@@ -29,6 +29,11 @@ fitting room nothing = nothing
 pub data Told : Said → Decoded → List ℕ → Type 0 where
   front : {xs buffer : List ℕ} → take (length xs) buffer ≡ xs → Told (bytes xs) (Length (length xs)) buffer
   refused : {buffer : List ℕ} → Told nothing Refused buffer
+
+-- bytes that are told by the place behind them stand behind another place, and within the buffer
+abbrev pub Reaching : ℕ → ℕ → Decoded → Type 0
+Reaching at room (Length n) = (at ≤ n) × (n ≤ room)
+Reaching at room Refused = Unit {0}
 
 -- the lower-case hex digit of a number below 16
 abbrev pub hexDigit : ℕ → ℕ

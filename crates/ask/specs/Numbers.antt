@@ -1,5 +1,5 @@
 -- The number that a word of a question says. Assumes nothing.
-use Prim.Native.Nat.{ℕ, _^_}
+use Prim.Native.Nat.{ℕ, _^_, _≤_}
 use mathlib.Core.Bool.{cond, _&&_}
 use mathlib.Core.List.{List, [], _∷_}
 use lib.Dec.{ltb}
@@ -15,3 +15,8 @@ held n l = cond (allDigits l && ltb (counted n l) (2 ^ 64)) (Value (counted n l)
 unfoldable pub number : List ℕ → Number
 number [] = Refused
 number (d ∷ r) = held 0 (d ∷ r)
+
+-- a number that is told is no greater than the greatest that may be
+abbrev pub AtMost : ℕ → Number → Type 0
+AtMost most (Value n) = n ≤ most
+AtMost most Refused = Unit {0}

@@ -9,7 +9,7 @@ use Rattle.ask.specs.Hex.{Said, bytes, nothing, said}
 abbrev pub readVerb : List ℕ
 readVerb = 114 ∷ 101 ∷ 97 ∷ 100 ∷ []
 
--- the verbs of the questions that there are: `read`, `find`, `nm`, `si`, `dt`, `tm`, `ts`, `escape`, `unescape`, `structure` and `verdict`
+-- the verbs of the questions that there are: `read`, `find`, `nm`, `si`, `dt`, `tm`, `ts`, `escape`, `unescape`, `structure`, `verdict` and `ack`
 pub data Verb : List ℕ → Type 0 where
   read : Verb readVerb
   find : Verb (102 ∷ 105 ∷ 110 ∷ 100 ∷ [])
@@ -22,6 +22,7 @@ pub data Verb : List ℕ → Type 0 where
   unescape : Verb (117 ∷ 110 ∷ 101 ∷ 115 ∷ 99 ∷ 97 ∷ 112 ∷ 101 ∷ [])
   structure : Verb (115 ∷ 116 ∷ 114 ∷ 117 ∷ 99 ∷ 116 ∷ 117 ∷ 114 ∷ 101 ∷ [])
   verdict : Verb (118 ∷ 101 ∷ 114 ∷ 100 ∷ 105 ∷ 99 ∷ 116 ∷ [])
+  ack : Verb (97 ∷ 99 ∷ 107 ∷ [])
 
 -- `?`, the answer to a line that is no question
 abbrev pub noQuestion : List ℕ

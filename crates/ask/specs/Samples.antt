@@ -11,7 +11,7 @@ use Rattle.alphabet.specs.Hex.{allHex, pairsOf}
 use Rattle.ask.specs.Hex.{bytes, nothing, said, hexed}
 use Rattle.alphabet.specs.Digits.{allDigits, counted}
 use Rattle.ask.specs.Numbers.{held, number}
-use Rattle.ask.specs.Questions.{readVerb, Verb, read, find, nm, si, dt, tm, ts, escape, unescape, structure, verdict, noQuestion, readAsked}
+use Rattle.ask.specs.Questions.{readVerb, Verb, read, find, nm, si, dt, tm, ts, escape, unescape, structure, verdict, ack, noQuestion, readAsked}
 use Rattle.ask.specs.declared.numbers.Number.the-variants.{Value, Refused}
 
 -- the bytes of an ASCII text
@@ -22,8 +22,8 @@ ascii (S._∷_ c s) = code c ∷ ascii s
 own-words : (readVerb ≡ ascii "read") × (noQuestion ≡ ascii "?\n")
 own-words = (refl, refl)
 
-verbs : Verb (ascii "read") × Verb (ascii "find") × Verb (ascii "nm") × Verb (ascii "si") × Verb (ascii "dt") × Verb (ascii "tm") × Verb (ascii "ts") × Verb (ascii "escape") × Verb (ascii "unescape") × Verb (ascii "structure") × Verb (ascii "verdict")
-verbs = (read, find, nm, si, dt, tm, ts, escape, unescape, structure, verdict)
+verbs : Verb (ascii "read") × Verb (ascii "find") × Verb (ascii "nm") × Verb (ascii "si") × Verb (ascii "dt") × Verb (ascii "tm") × Verb (ascii "ts") × Verb (ascii "escape") × Verb (ascii "unescape") × Verb (ascii "structure") × Verb (ascii "verdict") × Verb (ascii "ack")
+verbs = (read, find, nm, si, dt, tm, ts, escape, unescape, structure, verdict, ack)
 
 cut : (words (ascii "") ≡ [] ∷ []) × (words (ascii "read 4d") ≡ ascii "read" ∷ ascii "4d" ∷ []) × (words (ascii "a  b ") ≡ ascii "a" ∷ [] ∷ ascii "b" ∷ [] ∷ [])
 unfolding split

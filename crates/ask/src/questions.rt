@@ -53,6 +53,9 @@ pub fn answer(line: &[u8], message: &mut [u8], answer: &mut [u8]) -> usize
     if words::count(line) == 4 {
         return writers::answer(line, message, answer);
     }
+    if words::count(line) == 5 {
+        return writers::answer_ack(line, message, answer);
+    }
     if alphabet::same(words::word(line, 0), b"read") {
         return read(line, message, answer);
     }

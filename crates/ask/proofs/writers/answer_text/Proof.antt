@@ -2,18 +2,23 @@
 use mathlib.Core.Path.{sym}
 use native.Mathlib.Omega.{arith}
 use lib.Seq.{length-take-le}
+use Rattle.ask.proofs.Digits.{at-most}
 use borrow.Author.Needs.{needs}
 use Rattle.ask.proofs.writers.answer_text.Statement.{statement}
 use Rattle.ask.proofs.writers.answer_text.Tie as tie
 
 array-borrow-prefix-buffer : tie.Need-array-borrow-prefix-buffer
-array-borrow-prefix-buffer c = search needs
+array-borrow-prefix-buffer c =
+    let h = at-most (c .before .before .before .before .room-of .ensures) (c .before .before .number .given .1) in
+    search needs
 
 slice-aggregate-put-writing : tie.Need-slice-aggregate-put-writing
 slice-aggregate-put-writing c = sym (length-take-le _ _ (array-borrow-prefix-buffer (c .before)))
 
 put-writing-requires : tie.Need-put-writing-requires
-put-writing-requires c κs = (omega (arith, slice-aggregate-put-writing (c .before)), search needs)
+put-writing-requires c κs =
+    let h = array-borrow-prefix-buffer (c .before .before) in
+    (omega (arith, slice-aggregate-put-writing (c .before)), search needs)
 
 pub answer-text-spec : {M : Type 1} → statement M
 answer-text-spec =
@@ -31,9 +36,6 @@ answer-text-spec =
     (λ c. search needs)
     (λ c. search needs)
     (λ c κs. search needs)
-    (λ c κs. search needs)
-    (λ c. search needs)
-    (λ c. search needs)
     (λ c κs. search needs)
     (λ c. search needs)
     (λ c. search needs)
