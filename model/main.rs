@@ -4,7 +4,6 @@
 //!     model stored              prints the questions of the stored vectors, always the same
 //!     model wide                prints all questions of some small worlds, too many to be stored
 //!     model fresh SEED COUNT    prints COUNT random questions, the same for the same seed
-//!     model ahead               prints questions of verbs that the program does not know yet
 //!     model answer              answers questions from standard input, one line for each
 
 mod acknowledgement;
@@ -31,7 +30,6 @@ fn main() -> ExitCode {
     let done = match words[..] {
         ["stored"] => print_stored(),
         ["wide"] => print_lines(questions::wide()),
-        ["ahead"] => print_lines(questions::ahead(&mut Chance::of_seed(1))),
         ["fresh", seed, count] => match (seed.parse(), count.parse()) {
             (Ok(seed), Ok(count)) => print_fresh(seed, count),
             _ => return usage(),
@@ -48,9 +46,7 @@ fn main() -> ExitCode {
 }
 
 fn usage() -> ExitCode {
-    eprintln!(
-        "usage: model stored | model wide | model fresh SEED COUNT | model ahead | model answer"
-    );
+    eprintln!("usage: model stored | model wide | model fresh SEED COUNT | model answer");
     ExitCode::from(2)
 }
 

@@ -58,6 +58,7 @@ pub fn stored() -> Vec<Bytes> {
         text_stored::stored(),
         structure_stored::stored(),
         verdict_stored::stored(),
+        ack_stored::stored(),
     ];
     // Two sets may hold the same question: once is enough.
     lines.extend(once_each(others.concat()));
@@ -66,14 +67,8 @@ pub fn stored() -> Vec<Bytes> {
 
 /// The questions of the wide sets, each a line without its LF.
 pub fn wide() -> Vec<Bytes> {
-    once_each([text_wide::wide(), structure_wide::wide(), verdict_wide::wide()].concat())
-}
-
-/// The questions of verbs that the program does not know yet, each a line without its LF: they join
-/// the others when it does.
-pub fn ahead(chance: &mut Chance) -> Vec<Bytes> {
-    let fresh = (0..1000).map(|_| ack_fresh::fresh(chance)).collect();
-    once_each([ack_stored::stored(), ack_wide::wide(), fresh].concat())
+    let sets = [text_wide::wide(), structure_wide::wide(), verdict_wide::wide(), ack_wide::wide()];
+    once_each(sets.concat())
 }
 
 /// One random question, a line without its LF: as many of each verb, and some damaged lines.
@@ -85,11 +80,12 @@ pub fn fresh(chance: &mut Chance) -> Bytes {
 }
 
 fn fresh_question(chance: &mut Chance) -> Bytes {
-    let verbs = [&["read", "structure", "verdict"], &LOOKUPS[..], &TEXTS[..]].concat();
+    let verbs = [&["read", "structure", "verdict", "ack"], &LOOKUPS[..], &TEXTS[..]].concat();
     match chance.pick(&verbs) {
         "read" => read_fresh::fresh(chance),
         "structure" => structure_fresh::fresh(chance),
         "verdict" => verdict_fresh::fresh(chance),
+        "ack" => ack_fresh::fresh(chance),
         verb @ ("escape" | "unescape") => text_fresh::fresh(chance, verb),
         verb => lookup_fresh::fresh(chance, verb),
     }

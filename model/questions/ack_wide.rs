@@ -1,11 +1,11 @@
 //! The wide set of the verb `ack`: every telling content in every field of the header, every byte
-//! in an ID and at every place of a header, every room for messages as they are sent, and messages
-//! and acknowledgements about as long as may be.
+//! in an ID and at every place of a header, every room for messages as they are sent, and messages,
+//! acknowledgements and lines about as long as may be.
 
 use super::verdict_wide::TELLING;
 use super::{ack_question, changed, filled, lifelike, message, Bytes};
 use crate::acknowledgement::acknowledge;
-use crate::ask::MOST_ROOM;
+use crate::ask::{LONGEST_LINE, MOST_ROOM};
 use crate::reading::{CR, LONGEST_MESSAGE, MOST_SEGMENTS};
 
 const TIME: &[u8] = b"20240229";
@@ -23,6 +23,7 @@ pub fn wide() -> Vec<Bytes> {
         every_room(),
         long_headers(),
         long_messages(),
+        long_lines(),
     ];
     questions.concat()
 }
@@ -171,4 +172,23 @@ fn long_messages() -> Vec<Bytes> {
         messages.push(message(&segments));
     }
     messages.iter().map(|message| acknowledged(message, TIME, ID)).collect()
+}
+
+/// Lines about as long as may be, byte for byte: by the time, by the ID, by both of them
+/// behind a message, or by a message whose acknowledgement is written all the same.
+fn long_lines() -> Vec<Bytes> {
+    let header = message(&[r"MSH|^~\&||||||||1"]);
+    let mut lines = Vec::new();
+    for bytes in LONGEST_LINE / 2 - 8..=LONGEST_LINE / 2 {
+        let time = bytes / 2;
+        let id = bytes - header.len() - time;
+        lines.push(ack_question(b"", &vec![b'2'; bytes], b"", 1));
+        lines.push(ack_question(b"", b"", &vec![b'K'; bytes], 1));
+        lines.push(ack_question(b"", TIME, &vec![b'K'; bytes - TIME.len()], 1));
+        lines.push(ack_question(&header, &vec![b'2'; time], &vec![b'K'; id], 1));
+        let mut longer = header.clone();
+        longer.resize(bytes - TIME.len() - ID.len(), b'x');
+        lines.push(acknowledged(&longer, TIME, ID));
+    }
+    lines
 }
