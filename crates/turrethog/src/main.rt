@@ -1,0 +1,166 @@
+// `turrethog` is the command of the person on the bench: it tells whether a file holds a message, shows what it says, and
+// gets an element out of it. This file is the frame: it reads the arguments and the files, and hands the messages on.
+mod addresses;
+mod arguments;
+mod checking;
+mod drawing;
+mod faults;
+mod files;
+mod getting;
+mod parts;
+mod refusals;
+mod showing;
+mod status;
+mod terminal;
+mod usage;
+
+use libc::STDOUT_FILENO;
+ghost use Prim.Native.Nat.{_≤_};
+ghost use mathlib.Core.Path.{_≡_};
+ghost use lib.ListN.{length};
+ghost use Rattle.io.specs.Counts.{Counts};
+use files::Content;
+
+// What the command is asked to do.
+enum Command {
+    Check,
+    Show,
+    Get,
+    Unknown,
+}
+
+// One byte more than a message may have: a file that fills it is over the limit.
+const ROOM: usize = 32_769;
+
+// The command that a word says.
+fn command_of(word: &[u8]) -> Command {
+    if alphabet::same(word, b"check") {
+        return Command::Check;
+    }
+    if alphabet::same(word, b"show") {
+        return Command::Show;
+    }
+    if alphabet::same(word, b"get") {
+        return Command::Get;
+    }
+    Command::Unknown
+}
+
+// A name is copied from an argument, and its file is read.
+struct File {
+    is_read: bool,
+    name: usize,
+    length: usize,
+}
+
+// Reads the file that an argument names: the name to the front of one buffer, the file to the front of the other.
+fn read_argument(index: usize, name: &mut [u8], message: &mut [u8]) -> File
+    ensures { λ r. ⌜ Counts (r .name) (now (name .exit)) ⌝ }
+    ensures { λ r. ⌜ Counts (r .length) (now (message .exit)) ⌝ }
+{
+    let count = os::arg(index, name);
+    let content = files::read(&name[..count], message);
+    File {
+        is_read: content.is_read,
+        name: count,
+        length: content.length,
+    }
+}
+
+// Checks the file that an argument names.
+fn check_argument(index: usize, name: &mut [u8], message: &mut [u8]) -> u8 {
+    let file = read_argument(index, name, message);
+    let called = file.name;
+    let length = file.length;
+    if !file.is_read {
+        return status::TROUBLE;
+    }
+    checking::check(STDOUT_FILENO, &name[..called], &message[..length])
+}
+
+// Checks the files that the arguments from `first` on name, and returns the worst status.
+fn check_arguments(first: usize, name: &mut [u8], message: &mut [u8]) -> u8 {
+    let count = os::arg_count();
+    if count <= first {
+        return usage::print();
+    }
+    let mut worst = status::DONE;
+    let mut index = first;
+    while index < count {
+        let found = check_argument(index, name, message);
+        worst = status::worse(worst, found);
+        index += 1;
+    }
+    worst
+}
+
+// Shows the file that the argument at an index names.
+fn show_argument(index: usize, name: &mut [u8], message: &mut [u8], room: &mut [u8]) -> u8
+    requires { ⌜ index ≤ 3 ⌝ }
+{
+    if os::arg_count() != index + 1 {
+        return usage::print();
+    }
+    let file = read_argument(index, name, message);
+    let called = file.name;
+    let length = file.length;
+    if !file.is_read {
+        return status::TROUBLE;
+    }
+    showing::show(&name[..called], &message[..length], room)
+}
+
+// Gets an element out of the file that the argument at an index names; from two to five numbers stand behind it.
+fn get_argument(index: usize, name: &mut [u8], message: &mut [u8], word: &mut [u8]) -> u8
+    requires { ⌜ index ≤ 3 ⌝ }
+{
+    let count = os::arg_count();
+    if (count < index + 3) | (index + 6 < count) {
+        return usage::print();
+    }
+    let file = read_argument(index, name, message);
+    let called = file.name;
+    let length = file.length;
+    if !file.is_read {
+        return status::TROUBLE;
+    }
+    getting::get(&name[..called], &message[..length], index + 1, word)
+}
+
+// Does what the argument at an index asks. Behind it stands the name of a file.
+fn run(index: usize, name: &mut [u8], message: &mut [u8], room: &mut [u8]) -> u8
+    requires { ⌜ index ≤ 2 ⌝ }
+{
+    let length = os::arg(index, name);
+    let command = command_of(&name[..length]);
+    match command {
+        Command::Check => check_arguments(index + 1, name, message),
+        Command::Show => show_argument(index + 1, name, message, room),
+        Command::Get => get_argument(index + 1, name, message, room),
+        Command::Unknown => usage::print(),
+    }
+}
+
+// Whether the script asks to be told the status: that is the first argument, and all others stand behind it.
+fn is_script(word: &mut [u8]) -> bool {
+    let length = os::arg(1, word);
+    alphabet::same(&word[..length], b"--status-on-3")
+}
+
+// Bytes for a message, or for the text of an element. By a call of its own it is no list of so many bytes in the caller's proof.
+fn room_for_message() -> [u8; ROOM]
+    ensures { λ r. ⌜ 32769 ≡ length r ⌝ }
+{
+    [0; ROOM]
+}
+
+fn main() {
+    let mut name = io::buffer();
+    let mut message = room_for_message();
+    let mut room = room_for_message();
+    if is_script(&mut name) {
+        status::tell(run(2, &mut name, &mut message, &mut room));
+    } else {
+        run(1, &mut name, &mut message, &mut room);
+    }
+}
