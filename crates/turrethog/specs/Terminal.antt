@@ -1,5 +1,5 @@
 -- What is printed for a byte.
-use Prim.Native.Nat.{ℕ, _/_, _%_}
+use Prim.Native.Nat.{ℕ, _/_, _%_, _≤_}
 use mathlib.Core.List.{List, [], _∷_}
 use mathlib.Core.Bool.{Bool, not, _&&_}
 use lib.Dec.{eqb}
@@ -15,3 +15,7 @@ notPlain b = not (plain b)
 -- a brace, two capital hex digits, a brace
 abbrev pub inBraces : ℕ → List ℕ
 inBraces b = 123 ∷ hexDigit (b / 16 % 16) ∷ hexDigit (b % 16) ∷ 125 ∷ []
+
+-- printable ASCII
+abbrev pub Visible : ℕ → Type 0
+Visible b = (32 ≤ b) × (b ≤ 126)

@@ -20,16 +20,21 @@ fn type_part(message: &[u8], component: usize) -> &[u8] {
     )
 }
 
-// Says of a file that it is accepted: its type, and how many segments and bytes it has.
-fn print_accepted(to: i32, name: &[u8], message: &[u8]) {
+// Prints the type of a message: its two components, as people write them.
+fn print_type(to: i32, message: &[u8]) {
     let event = type_part(message, 2);
-    terminal::print(to, name);
-    terminal::print(to, b": accepted: ");
     terminal::print(to, type_part(message, 1));
     if 0 < event.len() {
         terminal::print(to, b"^");
         terminal::print(to, event);
     }
+}
+
+// Says of a file that it is accepted: its type, and how many segments and bytes it has.
+fn print_accepted(to: i32, name: &[u8], message: &[u8]) {
+    terminal::print(to, name);
+    terminal::print(to, b": accepted: ");
+    print_type(to, message);
     terminal::print(to, b", ");
     terminal::print_number(to, parts::count_segments(message));
     terminal::print(to, b" segments, ");

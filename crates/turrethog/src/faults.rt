@@ -26,10 +26,13 @@ fn behind(start: usize, place: usize) -> usize {
 // Says of a byte that is LF what that means.
 fn explain_line_feed(to: i32, message: &[u8], place: usize) {
     if alphabet::byte_at(message, place) == LINE_FEED {
-        terminal::print_line(
+        terminal::print(to, b"  ");
+        terminal::print(to, &[LINE_FEED]);
+        terminal::print(
             to,
-            b"  That byte is LF: the lines of this file end with LF or CRLF. HL7 ends a segment with CR alone.",
+            b" is LF: this file has the line ends of a text file, LF or CRLF. ",
         );
+        terminal::print_line(to, b"In HL7 each segment ends with CR alone.");
     }
 }
 
@@ -44,6 +47,16 @@ fn draw_byte(to: i32, message: &[u8], place: usize) {
     let bytes = parts::piece(message, segment.start, segment.end);
     drawing::draw_byte(to, bytes, behind(segment.start, place));
     explain_line_feed(to, message, place);
+}
+
+// Says of a file that has no bytes or too many which of the two it is. There is no place to draw.
+fn print_length(to: i32, message: &[u8]) {
+    if message.len() == 0 {
+        return terminal::print_line(to, b"  this file has none");
+    }
+    terminal::print(to, b"  this file has more than ");
+    terminal::print_number(to, alphabet::message_limit());
+    terminal::end_line(to);
 }
 
 // Prints the number of a segment and its name.
@@ -126,7 +139,7 @@ fn draw_field(to: i32, message: &[u8], number: usize, field: usize, repetition: 
         subcomponent: 0,
     };
     terminal::print(to, b"  ");
-    addresses::print(to, segment_bytes(message, number), told(address));
+    addresses::print(to, segment_bytes(message, number), told(address), 0);
     terminal::print(to, b", in segment ");
     terminal::print_number(to, number);
     terminal::print_line(to, b":");
@@ -140,13 +153,15 @@ fn last_letter(number: u32) -> u8
     (number % 256) as u8
 }
 
-// Prints a name of three letters.
-fn print_name(to: i32, name: u32) {
+// Prints the name at a place of a list: three letters, behind a comma where it is not the first.
+fn print_name(to: i32, place: usize, name: u32) {
     let first = last_letter(name / 65536);
     let second = last_letter(name / 256);
     let third = last_letter(name);
-    terminal::print(to, b" ");
-    terminal::print(to, &[first, second, third]);
+    if 0 < place {
+        terminal::print(to, b",");
+    }
+    terminal::print(to, &[32, first, second, third]);
 }
 
 // How many names are printed: as many as are counted, and no more than a list holds.
@@ -165,18 +180,27 @@ fn print_names(to: i32, names: Names) {
     let count = listed(names.count);
     let mut i = 0;
     while i < count {
-        print_name(to, list[i]);
+        print_name(to, i, list[i]);
         i += 1;
     }
+}
+
+// Says whether the message could have ended at a place, besides the names that could have stood there.
+fn print_could_end(to: i32, count: usize, could_end: bool) {
+    if !could_end {
+        return;
+    }
+    if 0 < count {
+        terminal::print(to, b", or");
+    }
+    terminal::print(to, b" the end of the message");
 }
 
 // Says what could have stood at a place: which segments, and whether the message could have ended there.
 fn print_could_stand(to: i32, names: Names, could_end: bool) {
     terminal::print(to, b"  could have stood there:");
     print_names(to, names);
-    if could_end {
-        terminal::print(to, b" or the end of the message");
-    }
+    print_could_end(to, names.count, could_end);
     terminal::end_line(to);
 }
 
@@ -192,13 +216,13 @@ fn draw_structure(to: i32, message: &[u8], fault: FaultRecord) {
     print_could_stand(to, names, fault.could_end)
 }
 
-// Draws the place of a fault by what it is for that number: a byte, a segment, or a field and its repetition. Where the fault
-// is the length of the file there is none, and where a field has too many repetitions the whole of it is meant.
+// Draws the place of a fault by what it is for that number: a byte, a segment, or a field and its repetition. Where a
+// field has too many repetitions the whole of it is meant.
 pub fn draw(to: i32, message: &[u8], fault: FaultRecord) {
     let kind = fault.kind;
     let number = alphabet::number(kind);
     if number == 1 {
-        return;
+        return print_length(to, message);
     }
     if number < 20 {
         return draw_byte(to, message, fault.place);

@@ -62,9 +62,6 @@ fn print_reason(error: i32) {
     if error == libc::EACCES {
         return terminal::print_line(STDERR_FILENO, b"you may not read this file");
     }
-    if error == libc::ENAMETOOLONG {
-        return terminal::print_line(STDERR_FILENO, b"the name is longer than a name may be");
-    }
     terminal::print_line(STDERR_FILENO, b"it cannot be read")
 }
 

@@ -72,13 +72,21 @@ fn address_at(first: usize, word: &mut [u8], message: &[u8]) -> Asked
     })
 }
 
-// Prints the word for a state.
+// Prints the word for a state. Bytes mostly follow on null and on present, and these two take as many columns.
 pub fn print_state(to: i32, state: State) {
     match state {
-        State::Absent => terminal::print(to, b" absent "),
-        State::Empty => terminal::print(to, b" empty  "),
+        State::Absent => terminal::print(to, b" absent"),
+        State::Empty => terminal::print(to, b" empty"),
         State::Null => terminal::print(to, b" null   "),
         State::Present => terminal::print(to, b" present"),
+    }
+}
+
+// Prints bytes behind a state, where there are any.
+pub fn print_behind(to: i32, bytes: &[u8]) {
+    if 0 < bytes.len() {
+        terminal::print(to, b" ");
+        terminal::print(to, bytes);
     }
 }
 
@@ -96,10 +104,11 @@ fn print_element(name: &[u8], message: &[u8], address: Address) -> u8 {
             STDOUT_FILENO,
             faults::segment_bytes(message, address.segment),
             address,
+            0,
         );
         print_state(STDOUT_FILENO, state);
-        terminal::print(STDOUT_FILENO, b" ");
-        terminal::print_line(STDOUT_FILENO, element::bytes_at(message, place));
+        print_behind(STDOUT_FILENO, element::bytes_at(message, place));
+        terminal::end_line(STDOUT_FILENO);
         return status::DONE;
     }
     if number < 9 {

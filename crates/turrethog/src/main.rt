@@ -15,10 +15,11 @@ mod terminal;
 mod usage;
 
 use libc::STDOUT_FILENO;
-ghost use Prim.Native.Nat.{_≤_};
+ghost use Prim.Native.Nat.{_+_, _≤_};
 ghost use mathlib.Core.Path.{_≡_};
 ghost use lib.ListN.{length};
 ghost use Rattle.io.specs.Counts.{Counts};
+ghost use Rattle.alphabet.specs.Limits.{messageLimit};
 use files::Content;
 
 // What the command is asked to do.
@@ -149,7 +150,7 @@ fn is_script(word: &mut [u8]) -> bool {
 
 // Bytes for a message, or for the text of an element. By a call of its own it is no list of so many bytes in the caller's proof.
 fn room_for_message() -> [u8; ROOM]
-    ensures { λ r. ⌜ 32769 ≡ length r ⌝ }
+    ensures { λ r. ⌜ messageLimit + 1 ≡ length r ⌝ }
 {
     [0; ROOM]
 }

@@ -2,58 +2,78 @@
 use crate::terminal;
 use alphabet::Refusal;
 
-// The words for a fault of reading.
-fn print_reading(to: i32, kind: Refusal) {
+// The words for 1 to 4: a fault in the message's bytes.
+fn print_opening(to: i32, kind: Refusal) {
     match kind {
-        Refusal::Length => terminal::print(to, b"a message has 1 to 32768 bytes"),
+        Refusal::Length => terminal::print(
+            to,
+            b"this has no bytes, or more than a message may have",
+        ),
         Refusal::Header => terminal::print(
             to,
-            b"this does not begin as a message does, MSH and its delimiters",
+            b"this does not begin as a message does, with MSH and its delimiters",
         ),
         Refusal::Delimiter => terminal::print(
             to,
             b"this may not be a delimiter, or is one already",
         ),
-        Refusal::NotAllowed => terminal::print(to, b"this byte may not stand in a message"),
-        Refusal::NotEnded => terminal::print(to, b"the last segment does not end with CR"),
-        Refusal::SegmentName => terminal::print(to, b"this segment does not begin with a name"),
-        Refusal::SecondHeader => terminal::print(to, b"this is a second MSH"),
-        _ => terminal::print(to, b"a message has at most 256 segments"),
+        _ => terminal::print(to, b"this byte may not stand in a message"),
     }
 }
 
-// The words for what is refused to the one who asks for text, for an element or for an acknowledgement.
-fn print_asking(to: i32, kind: Refusal) {
+// The words for 5 to 8: a fault in its segments.
+fn print_segments(to: i32, kind: Refusal) {
     match kind {
-        Refusal::NotAcknowledgeable => terminal::print(to, b"this cannot be acknowledged"),
-        Refusal::AcknowledgementTooLong => terminal::print(to, b"the acknowledgement is too long"),
+        Refusal::NotEnded => terminal::print(to, b"the last segment does not end with CR"),
+        Refusal::SegmentName => terminal::print(to, b"this segment does not begin with a name"),
+        Refusal::SecondHeader => terminal::print(to, b"this is a second MSH"),
+        _ => terminal::print(
+            to,
+            b"with this one there are more segments than a message may have",
+        ),
+    }
+}
+
+// The words for 11 to 15 and 19: what is refused to the one who asks for a text or for an element.
+fn print_text(to: i32, kind: Refusal) {
+    match kind {
         Refusal::Separator => terminal::print(to, b"a separator stands in the text"),
         Refusal::UnknownEscape => terminal::print(to, b"an escape that is not known"),
         Refusal::UnclosedEscape => terminal::print(to, b"an escape that is never closed"),
         Refusal::TextTooLong => terminal::print(to, b"the text is too long"),
         Refusal::NullText => terminal::print(to, b"null has no text"),
-        Refusal::CallersTime => terminal::print(to, b"the time is no TS"),
-        Refusal::CallersId => terminal::print(to, b"an ID has 1 to 20 bytes"),
         _ => terminal::print(to, b"there is no such segment, or no such address"),
     }
 }
 
-// The words for a fault of structure or of a field.
-fn print_judging(to: i32, kind: Refusal) {
+// The words for 20 to 22: a fault of structure.
+fn print_structure(to: i32, kind: Refusal) {
     match kind {
         Refusal::NoStructure => terminal::print(
             to,
             b"no structure is known for this type of message",
         ),
         Refusal::SegmentMisplaced => terminal::print(to, b"this segment cannot stand here"),
-        Refusal::EndedEarly => terminal::print(to, b"the message ends too early"),
+        _ => terminal::print(to, b"the message ends too early"),
+    }
+}
+
+// The words for 31 to 34: what a field holds is refused.
+fn print_form(to: i32, kind: Refusal) {
+    match kind {
         Refusal::RequiredMissing => terminal::print(
             to,
             b"this is required, and is absent or empty",
         ),
         Refusal::BreaksForm => terminal::print(to, b"this breaks the form of its type"),
         Refusal::NotListed => terminal::print(to, b"this value is not in its list"),
-        Refusal::RequiredNull => terminal::print(to, b"this is required, and is null"),
+        _ => terminal::print(to, b"this is required, and is null"),
+    }
+}
+
+// The words for 35 to 37: how much it holds is refused.
+fn print_field(to: i32, kind: Refusal) {
+    match kind {
         Refusal::ValueWithoutType => terminal::print(
             to,
             b"there is a value, and OBX-2 does not say of which type",
@@ -63,14 +83,29 @@ fn print_judging(to: i32, kind: Refusal) {
     }
 }
 
+// The words for a fault of structure or of a field.
+fn print_judging(to: i32, kind: Refusal) {
+    let number = alphabet::number(kind);
+    if number < 30 {
+        return print_structure(to, kind);
+    }
+    if number < 35 {
+        return print_form(to, kind);
+    }
+    print_field(to, kind)
+}
+
 // The words for a refusal.
 pub fn print_words(to: i32, kind: Refusal) {
     let number = alphabet::number(kind);
+    if number < 5 {
+        return print_opening(to, kind);
+    }
     if number < 9 {
-        return print_reading(to, kind);
+        return print_segments(to, kind);
     }
     if number < 20 {
-        return print_asking(to, kind);
+        return print_text(to, kind);
     }
     print_judging(to, kind)
 }

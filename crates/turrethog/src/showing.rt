@@ -15,6 +15,9 @@ use libc::STDOUT_FILENO;
 ghost use Prim.Native.Nat.{_≤_, _+_};
 ghost use lib.ListN.{length};
 
+// The column in which the state of each part stands.
+const COLUMN: usize = 16;
+
 // The number of a part as it is told: one that stands alone has 0, which is left out.
 fn told(is_split: bool, number: usize) -> usize {
     if is_split { number } else { 0 }
@@ -30,9 +33,9 @@ fn print_text(delimiters: Delimiters, bytes: &[u8], room: &mut [u8]) {
     let answer = text::unescape(delimiters, bytes, room);
     let kind = answer.kind;
     if alphabet::number(kind) == 0 {
-        return terminal::print(STDOUT_FILENO, parts::piece(room, 0, answer.length));
+        return getting::print_behind(STDOUT_FILENO, parts::piece(room, 0, answer.length));
     }
-    terminal::print(STDOUT_FILENO, bytes);
+    getting::print_behind(STDOUT_FILENO, bytes);
     terminal::print(STDOUT_FILENO, b"  (as sent: ");
     refusals::print_words(STDOUT_FILENO, kind);
     terminal::print(STDOUT_FILENO, b")");
@@ -41,15 +44,14 @@ fn print_text(delimiters: Delimiters, bytes: &[u8], room: &mut [u8]) {
 // Prints the front of a part's line: its address and its state.
 fn print_front(segment: &[u8], address: Address, state: State) {
     terminal::print(STDOUT_FILENO, b"  ");
-    addresses::print_column(STDOUT_FILENO, segment, address);
+    addresses::print(STDOUT_FILENO, segment, address, COLUMN);
     getting::print_state(STDOUT_FILENO, state);
-    terminal::print(STDOUT_FILENO, b" ");
 }
 
 // Prints what a part in some state says: its text where it is present, and else its bytes.
 fn print_part(delimiters: Delimiters, state: State, bytes: &[u8], room: &mut [u8]) {
     let State::Present = state else {
-        return terminal::print(STDOUT_FILENO, bytes);
+        return getting::print_behind(STDOUT_FILENO, bytes);
     };
     print_text(delimiters, bytes, room);
 }
@@ -188,7 +190,8 @@ fn show_fields(delimiters: Delimiters, segment: &[u8], place: usize, first: usiz
 // Shows a field of the header that is never split: the field separator, or the four delimiters behind it.
 fn show_delimiters(segment: &[u8], number: usize, start: usize, end: usize) {
     print_front(segment, field_address(number), State::Present);
-    terminal::print_line(STDOUT_FILENO, parts::piece(segment, start, end));
+    getting::print_behind(STDOUT_FILENO, parts::piece(segment, start, end));
+    terminal::end_line(STDOUT_FILENO);
 }
 
 // Shows a segment. The fields of MSH, the first, are counted from the separator itself, so that its third begins at byte 9.

@@ -38,7 +38,11 @@ pub fn print() -> u8 {
     say(b"");
     print_asking();
     say(b"");
-    say(b"A byte that is no printable ASCII is shown by its hex digits: (0A) in braces is LF.");
+    terminal::print(
+        STDERR_FILENO,
+        b"A byte that is not printable ASCII is shown by its hex digits in braces: LF is ",
+    );
+    say(b"\n");
     say(
         b"Status: 0 where all is well, 1 where a message is refused, 2 where a file or these words are.",
     );
