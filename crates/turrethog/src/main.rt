@@ -20,34 +20,32 @@ ghost use mathlib.Core.Path.{_≡_};
 ghost use lib.ListN.{length};
 ghost use Rattle.io.specs.Counts.{Counts};
 ghost use Rattle.alphabet.specs.Limits.{messageLimit};
-use files::Content;
-
-// What the command is asked to do.
-enum Command {
-    Check,
-    Show,
-    Get,
-    Unknown,
-}
 
 // One byte more than a message may have: a file that fills it is over the limit.
 const ROOM: usize = 32_769;
 
-// The command that a word says.
-fn command_of(word: &[u8]) -> Command {
+// The commands, as numbers that can be compared.
+const CHECK: u8 = 1;
+
+const SHOW: u8 = 2;
+
+const GET: u8 = 3;
+
+// The command that a word says, or 0.
+fn command_of(word: &[u8]) -> u8 {
     if alphabet::same(word, b"check") {
-        return Command::Check;
+        return CHECK;
     }
     if alphabet::same(word, b"show") {
-        return Command::Show;
+        return SHOW;
     }
     if alphabet::same(word, b"get") {
-        return Command::Get;
+        return GET;
     }
-    Command::Unknown
+    0
 }
 
-// A name is copied from an argument, and its file is read.
+// A file that an argument names: whether it could be read, and how many bytes its name and it have.
 struct File {
     is_read: bool,
     name: usize,
@@ -82,9 +80,6 @@ fn check_argument(index: usize, name: &mut [u8], message: &mut [u8]) -> u8 {
 // Checks the files that the arguments from `first` on name, and returns the worst status.
 fn check_arguments(first: usize, name: &mut [u8], message: &mut [u8]) -> u8 {
     let count = os::arg_count();
-    if count <= first {
-        return usage::print();
-    }
     let mut worst = status::DONE;
     let mut index = first;
     while index < count {
@@ -95,51 +90,46 @@ fn check_arguments(first: usize, name: &mut [u8], message: &mut [u8]) -> u8 {
     worst
 }
 
-// Shows the file that the argument at an index names.
-fn show_argument(index: usize, name: &mut [u8], message: &mut [u8], room: &mut [u8]) -> u8
+// Shows the file that the argument at an index names, or gets an element out of it by the arguments behind that one.
+fn ask_argument(
+    is_shown: bool,
+    index: usize,
+    name: &mut [u8],
+    message: &mut [u8],
+    room: &mut [u8],
+) -> u8
     requires { ⌜ index ≤ 3 ⌝ }
 {
-    if os::arg_count() != index + 1 {
-        return usage::print();
-    }
     let file = read_argument(index, name, message);
     let called = file.name;
     let length = file.length;
     if !file.is_read {
         return status::TROUBLE;
     }
-    showing::show(&name[..called], &message[..length], room)
+    if is_shown {
+        return showing::show(&name[..called], &message[..length], room);
+    }
+    getting::get(&name[..called], &message[..length], index + 1, room)
 }
 
-// Gets an element out of the file that the argument at an index names; from two to five numbers stand behind it.
-fn get_argument(index: usize, name: &mut [u8], message: &mut [u8], word: &mut [u8]) -> u8
-    requires { ⌜ index ≤ 3 ⌝ }
-{
-    let count = os::arg_count();
-    if (count < index + 3) | (index + 6 < count) {
-        return usage::print();
-    }
-    let file = read_argument(index, name, message);
-    let called = file.name;
-    let length = file.length;
-    if !file.is_read {
-        return status::TROUBLE;
-    }
-    getting::get(&name[..called], &message[..length], index + 1, word)
-}
-
-// Does what the argument at an index asks. Behind it stands the name of a file.
+// Does what the argument at an index asks, of which as many words stand behind it as the command takes: a file or more to
+// check, one to show, and one to get from, with two to five words behind its name.
 fn run(index: usize, name: &mut [u8], message: &mut [u8], room: &mut [u8]) -> u8
     requires { ⌜ index ≤ 2 ⌝ }
 {
     let length = os::arg(index, name);
     let command = command_of(&name[..length]);
-    match command {
-        Command::Check => check_arguments(index + 1, name, message),
-        Command::Show => show_argument(index + 1, name, message, room),
-        Command::Get => get_argument(index + 1, name, message, room),
-        Command::Unknown => usage::print(),
+    let count = os::arg_count();
+    if (command == CHECK) & (index + 1 < count) {
+        return check_arguments(index + 1, name, message);
     }
+    if (command == SHOW) & (count == index + 2) {
+        return ask_argument(true, index + 1, name, message, room);
+    }
+    if (command == GET) & ((index + 4 <= count) & (count <= index + 7)) {
+        return ask_argument(false, index + 1, name, message, room);
+    }
+    usage::print()
 }
 
 // Whether the script asks to be told the status: that is the first argument, and all others stand behind it.

@@ -34,14 +34,11 @@ fn print_segments(to: i32, kind: Refusal) {
     }
 }
 
-// The words for 11 to 15 and 19: what is refused to the one who asks for a text or for an element.
-fn print_text(to: i32, kind: Refusal) {
+// The words for 12, 13 and 19: what is refused to the one who asks for a text or for an element.
+fn print_asking(to: i32, kind: Refusal) {
     match kind {
-        Refusal::Separator => terminal::print(to, b"a separator stands in the text"),
         Refusal::UnknownEscape => terminal::print(to, b"an escape that is not known"),
         Refusal::UnclosedEscape => terminal::print(to, b"an escape that is never closed"),
-        Refusal::TextTooLong => terminal::print(to, b"the text is too long"),
-        Refusal::NullText => terminal::print(to, b"null has no text"),
         _ => terminal::print(to, b"there is no such segment, or no such address"),
     }
 }
@@ -105,7 +102,7 @@ pub fn print_words(to: i32, kind: Refusal) {
         return print_segments(to, kind);
     }
     if number < 20 {
-        return print_text(to, kind);
+        return print_asking(to, kind);
     }
     print_judging(to, kind)
 }

@@ -23,6 +23,11 @@ fn told(is_split: bool, number: usize) -> usize {
     if is_split { number } else { 0 }
 }
 
+// The number of a component whose subcomponents are told: PID-5.1.2, also where the component stands alone.
+fn told_above(is_split: bool, number: usize) -> usize {
+    if is_split & (number == 0) { 1 } else { number }
+}
+
 // Whether a separator stands in bytes.
 fn holds(bytes: &[u8], separator: u8) -> bool {
     alphabet::find(bytes, separator) < bytes.len()
@@ -89,7 +94,7 @@ fn show_component(
             segment: address.segment,
             field: address.field,
             repetition: address.repetition,
-            component: address.component,
+            component: told_above(is_split, address.component),
             subcomponent: told(is_split, number),
         };
         show_leaf(delimiters, segment, part, &bytes[start..end], room);

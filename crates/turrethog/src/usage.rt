@@ -7,7 +7,7 @@ fn say(line: &[u8]) {
     terminal::print_line(STDERR_FILENO, line);
 }
 
-// What the two commands about one file's contents take.
+// What the two commands take that show what a message says.
 fn print_asking() {
     say(b"  ./turrethog show FILE");
     say(b"      Every segment and its parts: each with its address, its state and its text.");
@@ -18,17 +18,29 @@ fn print_asking() {
         b"      One element: its state (absent, empty, null or present) and its bytes as they were sent.",
     );
     say(
-        b"      SEGMENT is a name, which means the first of that name, or a number: the first segment is 0.",
+        b"      SEGMENT is a number, 0 for the first, or a name, which means the first of that name.",
     );
     say(
-        b"      The others count from 1, as in PID-5.1; 0 for a repetition or a component is the whole.",
+        b"      The others count from 1, as in PID-5.1. A repetition or a component of 0 is the whole.",
     );
     say(b"      ./turrethog get examples/blood-count.hl7 PID 5 1 1");
 }
 
+// How to read what is printed.
+fn print_reading() {
+    terminal::print(
+        STDERR_FILENO,
+        b"Bytes and segments count from 0. A byte that is not printable ASCII stands as hex in braces: LF is ",
+    );
+    say(b"\n");
+    say(
+        b"Exit status: 0 all is well, 1 a message is refused, 2 a file cannot be read or the words are wrong.",
+    );
+}
+
 // The usage text, on standard error.
 pub fn print() -> u8 {
-    say(b"turrethog: what does this HL7 v2.4 message say, and is it one?");
+    say(b"turrethog: what an HL7 v2.4 message says, and whether it is one");
     say(b"");
     say(b"  ./turrethog check FILE..");
     say(
@@ -38,13 +50,6 @@ pub fn print() -> u8 {
     say(b"");
     print_asking();
     say(b"");
-    terminal::print(
-        STDERR_FILENO,
-        b"A byte that is not printable ASCII is shown by its hex digits in braces: LF is ",
-    );
-    say(b"\n");
-    say(
-        b"Status: 0 where all is well, 1 where a message is refused, 2 where a file or these words are.",
-    );
+    print_reading();
     status::TROUBLE
 }

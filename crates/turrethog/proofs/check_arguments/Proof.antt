@@ -20,8 +20,6 @@ check-arguments-spec =
     Inv-loop
     μ-loop
     (λ c κs. search needs)
-    (λ c κs. search needs)
-    (λ c. omega arith)
     (λ c. omega arith)
     (λ c κs. search needs)
     (λ c κs. search needs)
