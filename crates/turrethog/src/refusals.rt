@@ -43,6 +43,22 @@ fn print_asking(to: i32, kind: Refusal) {
     }
 }
 
+// The words for 9, 10, 16 and 17: why there is no acknowledgement.
+fn print_acknowledging(to: i32, kind: Refusal) {
+    match kind {
+        Refusal::NotAcknowledgeable => terminal::print(
+            to,
+            b"this has no header that could be acknowledged",
+        ),
+        Refusal::AcknowledgementTooLong => terminal::print(
+            to,
+            b"the acknowledgement would be too long",
+        ),
+        Refusal::CallersTime => terminal::print(to, b"the time is no TS"),
+        _ => terminal::print(to, b"the ID has no bytes, or more than an ID may have"),
+    }
+}
+
 // The words for 20 to 22: a fault of structure.
 fn print_structure(to: i32, kind: Refusal) {
     match kind {
@@ -100,6 +116,9 @@ pub fn print_words(to: i32, kind: Refusal) {
     }
     if number < 9 {
         return print_segments(to, kind);
+    }
+    if (number < 11) | ((number == 16) | (number == 17)) {
+        return print_acknowledging(to, kind);
     }
     if number < 20 {
         return print_asking(to, kind);
