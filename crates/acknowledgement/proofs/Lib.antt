@@ -1,4 +1,6 @@
 pub mod SenderLaws
 pub mod WrittenLaws
 pub mod HeaderLaws
-pub mod Pasting
+pub mod PieceLaws
+pub mod AnswerLaws
+pub mod Acknowledged

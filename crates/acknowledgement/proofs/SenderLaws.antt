@@ -1,15 +1,14 @@
 -- The sender's header as it was taken from the message: one segment, whose bytes are printable; its fields hold no field separator. Assumes nothing.
 use mathlib.Core.Path.{_≡_, refl, sym, ap, _∙_, subst}
 use mathlib.Core.Bool.{Bool, true, false, _||_}
-use mathlib.Core.List.{List, [], _∷_, _++_}
-use Prim.Native.Nat.{ℕ, zero, suc, _+_, _-_, _≤_, _<_}
+use mathlib.Core.List.{List, [], _∷_}
+use Prim.Native.Nat.{ℕ, _+_, _-_, _≤_, _<_}
 use native.Mathlib.Omega.{arith}
-use lib.Dec.{eqb}
-use lib.ListN.{length, getD, take, drop, drop-of-length-le}
+use lib.ListN.{length, getD, take, drop-of-length-le}
 use borrow.Author.Tests.{ne-eqb}
 use Rattle.alphabet.specs.Bytes.{carriageReturn, printable, allowed}
-use Rattle.alphabet.specs.Delimiters.{permitted, wrongDelimiter}
-use Rattle.alphabet.specs.Lists.{first, find}
+use Rattle.alphabet.specs.Delimiters.{permitted}
+use Rattle.alphabet.specs.Lists.{find}
 use Rattle.alphabet.specs.Parts.{split}
 use Rattle.alphabet.proofs.BoolLaws.{false-true}
 use Rattle.alphabet.proofs.DelimiterLaws.{delimiter-permitted, delimiters-differ}

@@ -1,15 +1,15 @@
 -- What holds of every acknowledgement that is written: it is a message, it fits ACK, and its fields are the sender's and the caller's. Assumes nothing.
 use mathlib.Core.Path.{_≡_, refl, sym, ap, ap₂, _∙_, subst}
-use mathlib.Core.Bool.{Bool, true, false, cond, _&&_, _||_}
+use mathlib.Core.Bool.{Bool, true, false, cond, _||_}
 use mathlib.Core.List.{List, [], _∷_, _++_, map}
 use Prim.Native.Nat.{ℕ, zero, suc, _+_, _-_, _≤_, _<_}
 use native.Mathlib.Omega.{arith}
 use lib.Dec.{eqb}
-use lib.ListN.{length, getD, length-append}
+use lib.ListN.{length, getD}
 use borrow.Author.Tests.{eq-eqb, le-leb, lt-leb}
 use Rattle.alphabet.specs.Bytes.{carriageReturn, printable, allowed, digit}
 use Rattle.alphabet.specs.Delimiters.{permitted, wrongDelimiter}
-use Rattle.alphabet.specs.Limits.{messageLimit, segmentLimit}
+use Rattle.alphabet.specs.Limits.{messageLimit}
 use Rattle.alphabet.specs.Lists.{find, same}
 use Rattle.alphabet.specs.Parts.{split, join}
 use Rattle.alphabet.specs.declared.answers.Check.the-variants.{Passes}
@@ -27,7 +27,7 @@ use Rattle.element.specs.Finding.{rawBytes}
 use Rattle.element.proofs.RawLaws.{raw-header, raw-other, raw-component}
 use Rattle.value.specs.Times.{isTs}
 use Rattle.value.proofs.TimeBytes.{time-each}
-use Rattle.text.specs.Escape.{escapeOf, escape}
+use Rattle.text.specs.Escape.{escape}
 use Rattle.text.proofs.RoundTrip.{AreBytes}
 use Rattle.text.proofs.Clean.{MayStand, never-separator}
 use Rattle.alphabet.specs.declared.answers.Refusal.the-variants.{None}
@@ -38,7 +38,7 @@ use Rattle.structure.specs.Structures.{ack, typeAddress, structureOf, grammarOf
 use Rattle.structure.specs.Judged.{plain, Judged, accepted, by, Answers, read}
 use Rattle.structure.specs.declared.structures.Structure.the-variants.{Acknowledgement}
 use Rattle.structure.proofs.NameLaws.{is-acknowledgement}
-use Rattle.acknowledgement.specs.Acknowledgement.{ascii, fieldAddress, sent, typePart, present, encoding, typeSent, version, headerParts, lettersOf, answerParts, acknowledgement}
+use Rattle.acknowledgement.specs.Acknowledgement.{ascii, fieldAddress, sent, typePart, present, encoding, typeSent, headerParts, lettersOf, answerParts, acknowledgement}
 use Rattle.acknowledgement.specs.declared.letters.Code.{Code}
 use Rattle.acknowledgement.specs.declared.letters.Code.the-variants.{Accept, Error}
 use Rattle.acknowledgement.proofs.SenderLaws.{Printable, Not, Clean, field-clean, event-clean, delimiter-printable, delimiters-apart, no-delimiter, sign-clean}

@@ -3,6 +3,7 @@ use Prim.Native.Nat.{ℕ, _+_}
 use Prim.Native.Char.{code}
 use Prim.Native.String.{String}
 use Prim.Native.String as S
+use mathlib.Core.Path.{_≡_}
 use mathlib.Core.List.{List, [], _∷_, _++_}
 use mathlib.Core.Bool.{Bool, true, false, cond, not, _&&_, _||_}
 use lib.ListN.{length, getD, take}
@@ -13,7 +14,9 @@ use Rattle.alphabet.specs.Lists.{find, same}
 use Rattle.alphabet.specs.Parts.{join}
 use Rattle.alphabet.specs.declared.answers.Check.{Check}
 use Rattle.alphabet.specs.declared.answers.Check.the-variants.{Passes, Fails}
-use Rattle.alphabet.specs.declared.answers.Refusal.the-variants.{NotAcknowledgeable, AcknowledgementTooLong, CallersTime, CallersId}
+use Rattle.alphabet.specs.declared.answers.Answer.{Answer}
+use Rattle.alphabet.specs.declared.answers.Refusal.{Refusal}
+use Rattle.alphabet.specs.declared.answers.Refusal.the-variants.{None, NotAcknowledgeable, AcknowledgementTooLong, CallersTime, CallersId}
 use Rattle.reading.specs.Segments.{delimitersOf, fieldSeparator}
 use Rattle.reading.specs.Reading.{opening}
 use Rattle.reading.specs.Message.{ended}
@@ -24,6 +27,8 @@ use Rattle.value.specs.Asked.{isPresent}
 use Rattle.value.specs.Times.{isTs}
 use Rattle.text.specs.Escape.{escape}
 use Rattle.text.specs.Unescape.{Outcome, text, fault}
+use Rattle.text.specs.Answers.{answer, filled}
+use Rattle.verdict.specs.Verdicts.{Accepts}
 use Rattle.acknowledgement.specs.declared.letters.Code.{Code}
 use Rattle.acknowledgement.specs.declared.letters.Code.the-variants.{Accept, Error}
 
@@ -105,14 +110,29 @@ acknowledgeable m =
     && (not (same (typePart (header m) 1) (ascii "ACK"))
     && (present (header m) (sent (header m) 10) && leb (length (sent (header m) 10)) idLimit)))
 
--- 10: "acknowledgement longer than the buffer or 32,768"
+-- 10: "acknowledgement longer than the buffer or 32,768"; its place is 0
 unfoldable pub roomy : ℕ → List ℕ → Outcome
 roomy room w = cond (leb (length w) room && leb (length w) messageLimit) (text w) (fault AcknowledgementTooLong 0)
 
--- "Acknowledging: 16, 17, 9, 10."; 16: "caller's time isn't TS". The place is 0 for all four
-unfoldable pub acknowledging : List ℕ → List ℕ → List ℕ → Code → ℕ → Outcome
-acknowledging m time id letters room =
-    cond (not (isTs time)) (fault CallersTime 0)
-    (cond (badId id) (fault CallersId 0)
-    (cond (not (acknowledgeable m)) (fault NotAcknowledgeable 0)
-    (roomy room (acknowledgement (header m) time id letters))))
+-- "Acknowledging: 16, 17, 9, 10.": what stands against any acknowledgement, whatever the buffer; 16: "caller's time isn't TS"
+unfoldable pub refusing : List ℕ → List ℕ → List ℕ → Refusal
+refusing m time id =
+    cond (not (isTs time)) CallersTime
+    (cond (badId id) CallersId
+    (cond (not (acknowledgeable m)) NotAcknowledgeable None))
+
+-- ---- what is answered
+
+-- "Code AA exactly when reading, structure and fields all accept; else AE."
+pub data Coded (m : List ℕ) : Code → Type 0 where
+  accepted : Accepts m → Coded m Accept
+  refused : (Accepts m → ⊥) → Coded m Error
+
+-- the answer, and what is left in the buffer that was lent: a refusal gives number and place 0, length 0, and writes nothing; what is
+-- written "fills the front of the buffer, its length is given, the bytes behind it stay"
+pub data Acknowledges (m time id lent : List ℕ) : Answer → List ℕ → Type 0 where
+  not-written : (refusing m time id ≡ None → ⊥) → Acknowledges m time id lent (answer (fault (refusing m time id) 0)) lent
+  written : refusing m time id ≡ None → (code : Code) → Coded m code
+      → Acknowledges m time id lent
+      (answer (roomy (length lent) (acknowledgement (header m) time id code)))
+      (filled (roomy (length lent) (acknowledgement (header m) time id code)) lent)

@@ -1,1 +1,2 @@
 pub mod Acknowledgement
+pub mod Pieces

@@ -1,9 +1,11 @@
-// The acknowledgement: what is taken from the sender's header, and whether a message can be acknowledged at all. The writer comes
-// next; what holds of every acknowledgement that it is to write is proved already, of its definition.
+// The acknowledgement of a message, which tells its sender whether it was accepted: written from his own header, the caller's time and
+// ID, and the verdict. Any bytes may be handed in, and a refusal writes nothing.
+mod acknowledging;
 mod letters;
+mod pieces;
 mod sender;
-mod writing;
 
+pub use acknowledging::acknowledge;
 pub use letters::Code;
 pub use sender::field_of;
 pub use sender::header_of;

@@ -4,3 +4,5 @@ pub mod CursorLaws
 pub mod FieldLaws
 pub mod JudgeLaws
 pub mod Agreement
+pub mod Honest
+pub mod ControlId

@@ -1,17 +1,19 @@
 -- The outcome of escaping and of unescaping, case by case, and what the measure and the judge say of it. Assumes nothing.
 use mathlib.Core.Path.{_≡_, refl, sym, ap, _∙_}
-use mathlib.Core.List.{List}
+use mathlib.Core.List.{List, [], _∷_}
 use mathlib.Core.Bool.{Bool, true, false, cond}
-use Prim.Native.Nat.{ℕ, _≤_, _<_}
+use Prim.Native.Nat.{ℕ, _*_, _/_, _%_, _≤_, _<_}
 use native.Mathlib.Omega.{arith}
-use lib.Dec.{leb}
-use lib.ListN.{length}
+use lib.Dec.{leb, ltb}
+use lib.ListN.{length, getD, length-append}
 use borrow.Author.Tests.{leb-true, leb-false, lt-ltb, le-ltb, le-leb, lt-leb}
-use Rattle.alphabet.specs.Bytes.{isNull}
+use Rattle.alphabet.specs.Lists.{find}
+use Rattle.alphabet.specs.Bytes.{printable, hexDigit, isNull}
 use Rattle.alphabet.specs.Delimiters.{wrongDelimiter}
 use Rattle.alphabet.specs.declared.answers.Refusal.{Refusal}
 use Rattle.alphabet.specs.declared.answers.Refusal.the-variants.{Delimiter, TextTooLong, NullText}
-use Rattle.text.specs.Escape.{escapeBytes, twoQuotes, escape}
+use Rattle.alphabet.proofs.NullLaws.{two-quotes}
+use Rattle.text.specs.Escape.{letters, escapeOf, escapeByte, escapeBytes, twoQuotes, escape}
 use Rattle.text.specs.Unescape.{Outcome, text, fault, scan}
 use Rattle.text.specs.Answers.{fitting, escaping, unescaping, answer, filled, isText, textOf, roomFor, judged}
 use Rattle.text.specs.declared.escaping.Room.the-variants.{Takes, Short}
@@ -57,6 +59,29 @@ escape-null ds t e = rw e
 pub escape-other : (ds t : List ℕ) → isNull t ≡ false → escape ds t ≡ escapeBytes ds t
 unfolding escape
 escape-other ds t e = rw e
+
+-- a byte is written as five at most
+byte-most : (ds : List ℕ) (b : ℕ) → length (escapeByte ds b) ≤ 5
+unfolding escapeByte
+byte-most ds b = at (ltb (find b ds) 5) (printable b)
+  where
+    at : (s t : Bool) → length (cond s (escapeOf ds ∷ getD letters (find b ds) 0 ∷ escapeOf ds ∷ []) (cond t (b ∷ []) (escapeOf ds ∷ 88 ∷ hexDigit (b / 16) ∷ hexDigit (b % 16) ∷ escapeOf ds ∷ []))) ≤ 5
+    at true t = omega arith
+    at false true = omega arith
+    at false false = omega arith
+
+bytes-most : (ds t : List ℕ) → length (escapeBytes ds t) ≤ 5 * length t
+unfolding escapeBytes
+bytes-most ds [] = omega arith
+bytes-most ds (b ∷ r) = omega (arith, byte-most ds b, bytes-most ds r, length-append (escapeByte ds b) (escapeBytes ds r))
+
+pub escape-most : (ds t : List ℕ) → length (escape ds t) ≤ 5 * length t
+unfolding escape
+escape-most ds t = at (isNull t) refl
+  where
+    at : (n : Bool) → isNull t ≡ n → length (cond n (twoQuotes ds) (escapeBytes ds t)) ≤ 5 * length t
+    at true e = omega (arith, ap length (two-quotes t e))
+    at false e = bytes-most ds t
 
 pub escaping-bad : (ds t : List ℕ) (room : ℕ) → wrongDelimiter ds < 5 → escaping ds t room ≡ fault Delimiter (wrongDelimiter ds)
 unfolding escaping

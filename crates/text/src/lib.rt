@@ -5,5 +5,6 @@ mod pieces;
 mod sequences;
 mod unescaping;
 
+pub use escaping::Room;
 pub use escaping::escape;
 pub use unescaping::unescape;

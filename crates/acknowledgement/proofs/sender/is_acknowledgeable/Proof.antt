@@ -1,6 +1,6 @@
 -- Rests on the laws of what can be acknowledged: each return is a case of `acknowledgeable`.
-use Prim.Native.Nat.{ℕ, _≤_, _<_}
-use mathlib.Core.Path.{_≡_, sym, ap, ap₂, _∙_}
+use Prim.Native.Nat.{ℕ, _<_}
+use mathlib.Core.Path.{sym, ap, ap₂, _∙_}
 use mathlib.Core.Bool.{Bool, not, _&&_}
 use mathlib.Core.List.{List}
 use lib.Dec.{eqb, leb}
@@ -9,11 +9,10 @@ use native.Mathlib.Omega.{arith}
 use borrow.Author.Needs.{needs}
 use denote.Ref.{now}
 use Rattle.alphabet.specs.Bytes.{carriageReturn}
-use Rattle.alphabet.specs.Limits.{idLimit}
 use Rattle.alphabet.specs.Lists.{find, same}
 use Rattle.alphabet.proofs.ListLaws.{first-le}
 use Rattle.reading.specs.Reading.{opening}
-use Rattle.acknowledgement.specs.Acknowledgement.{ascii, header, sent, typePart, present}
+use Rattle.acknowledgement.specs.Acknowledgement.{ascii, sent, typePart, present}
 use Rattle.acknowledgement.proofs.HeaderLaws.{no-return-no, unsound-no, sound-is}
 use Rattle.acknowledgement.proofs.sender.is_acknowledgeable.Statement.{statement}
 use Rattle.acknowledgement.proofs.sender.is_acknowledgeable.Tie as tie

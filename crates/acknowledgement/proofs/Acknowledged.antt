@@ -1,0 +1,264 @@
+-- Demand 2 of every acknowledgement that is written: it reads back, it fits ACK, it carries the sender's own control ID, his names crossed, the
+-- caller's ID and the verdict's code. All of it is looked up in the bytes that were written and in the message that was sent. Assumes nothing.
+use mathlib.Core.Path.{_≡_, refl, sym, ap, ap₂, _∙_, subst}
+use mathlib.Core.Logic.{_↔_}
+use mathlib.Core.Bool.{Bool, true, false, _&&_, _||_}
+use mathlib.Core.List.{List, [], _∷_}
+use Prim.Native.Nat.{ℕ, zero, suc, _+_, _-_, _≤_, _<_}
+use native.Mathlib.Nat.{zero-add, sub-zero}
+use native.Mathlib.Omega.{arith}
+use lib.Dec.{eqb, leb}
+use lib.ListN.{length, getD, take}
+use lib.Seq.{getD-take, take-take, length-take-le}
+use borrow.Author.Tests.{leb-true, leb-false, eqb-true, eq-eqb, lt-ltb, le-leb}
+use Rattle.alphabet.specs.Bytes.{carriageReturn, allowed}
+use Rattle.alphabet.specs.Delimiters.{permitted, wrongDelimiter}
+use Rattle.alphabet.proofs.BoolLaws.{false-true, and-both}
+use Rattle.alphabet.proofs.DelimiterLaws.{delimiter-permitted}
+use Rattle.alphabet.proofs.ListLaws.{first-least, find-is, same-is}
+use Rattle.alphabet.specs.Limits.{idLimit}
+use Rattle.alphabet.specs.Lists.{find, same}
+use Rattle.alphabet.specs.Parts.{split}
+use Rattle.alphabet.specs.declared.answers.Answer.{Answer}
+use Rattle.alphabet.specs.declared.answers.Check.the-variants.{Passes}
+use Rattle.alphabet.specs.declared.answers.Refusal.the-variants.{None, NotAcknowledgeable}
+use Rattle.reading.specs.Segments.{segments, delimitersOf}
+use Rattle.reading.specs.Reading.{reading}
+use Rattle.reading.specs.Message.{Opened, Message}
+use Rattle.reading.proofs.Accepted.{opening-if, message-last}
+use Rattle.reading.proofs.Accepted.{accepted as accepted-message}
+use Rattle.reading.proofs.SegmentLaws.{segments-walk}
+use Rattle.element.specs.Finding.{rawBytes}
+use Rattle.element.specs.declared.address.Address.{Address}
+use Rattle.element.proofs.RawLaws.{raw-header, raw-component}
+use Rattle.value.specs.Times.{isTs}
+use Rattle.text.specs.Unescape.{text}
+use Rattle.text.specs.Answers.{fitting, unescaping}
+use Rattle.text.proofs.RoundTrip.{AreBytes, round-trip}
+use Rattle.element.specs.States.{stateOf}
+use Rattle.element.specs.declared.states.State.the-variants.{Present}
+use Rattle.fields.specs.Table.{rows}
+use Rattle.fields.proofs.Honest.{none-sound}
+use Rattle.fields.proofs.ControlId.{control-id}
+use Rattle.structure.specs.Judged.{plain, Answers}
+use Rattle.verdict.specs.Verdicts.{Accepts}
+use Rattle.acknowledgement.specs.Acknowledgement.{ascii, header, fieldAddress, sent, typePart, lettersOf, acknowledgement, badId, acknowledgeable, Coded, Acknowledges}
+use Rattle.acknowledgement.specs.Acknowledgement.Coded.{accepted, refused}
+use Rattle.acknowledgement.specs.declared.letters.Code.{Code}
+use Rattle.acknowledgement.proofs.HeaderLaws.{nothing-against, return-inside, header-find, header-ends, sound-header}
+use Rattle.acknowledgement.proofs.SenderLaws.{segments-header}
+use Rattle.acknowledgement.proofs.WrittenLaws as W
+use Rattle.acknowledgement.proofs.AnswerLaws.{Writes, zero-writes, nine-unacknowledgeable}
+
+-- ---- the header's fields are the message's
+
+module _ (m : List ℕ) (inside : find carriageReturn m < length m) (opened : Opened (header m)) where
+  ends : find carriageReturn (header m) + 1 ≡ length (header m)
+  ends = header-ends m inside
+
+  first-segment : getD (segments m) 0 [] ≡ take (find carriageReturn m) m
+  unfolding segments
+  first-segment = ap (λ (ss : List (List ℕ)). getD ss 0 []) (segments-walk m 0 (find carriageReturn m) (sym (zero-add (find carriageReturn m))) inside) ∙ ap (λ (n : ℕ). take n m) (sub-zero (find carriageReturn m))
+
+  same-byte : (i : ℕ) → i < 9 → getD (header m) i 0 ≡ getD m i 0
+  same-byte i l = getD-take (find carriageReturn m + 1) m i 0 (let n = opened .nine-bytes in let e = ends in let f = header-find m inside in omega arith)
+
+  pub same-delimiters : delimitersOf (header m) ≡ delimitersOf m
+  same-delimiters =
+      λ i. same-byte 3 (omega arith) i ∷ same-byte 4 (omega arith) i ∷ same-byte 5 (omega arith) i ∷ same-byte 6 (omega arith) i ∷ same-byte 7 (omega arith) i ∷ []
+
+  long : 9 ≤ length m
+  long = let n = opened .nine-bytes in let e = ends in let f = header-find m inside in omega (arith, inside)
+
+  lines : take (find carriageReturn (header m)) (header m) ≡ take (find carriageReturn m) m
+  lines =
+      ap (λ (n : ℕ). take n (header m)) (header-find m inside)
+      ∙ take-take (find carriageReturn m) (find carriageReturn m + 1) m (omega arith)
+
+  -- a field looked up in the header is the same looked up in the message
+  pub sent-whole : (f : ℕ) → (f ≡ 1 → ⊥) → sent (header m) f ≡ sent m f
+  sent-whole f n =
+      raw-header (header m) (let q = opened .nine-bytes in omega arith) f n
+      ∙ ap₂ (λ (sep : ℕ) (l : List ℕ). getD (split sep l) (f - 1) []) (same-byte 3 (omega arith))
+      (ap (λ (ss : List (List ℕ)). getD ss 0 []) (segments-header (header m) opened ends) ∙ lines ∙ sym first-segment)
+      ∙ sym (raw-header m (let q = long in omega arith) f n)
+
+  -- so is a component of the type
+  pub type-whole : typePart (header m) 1 ≡ typePart m 1
+  type-whole =
+      raw-component (header m) (let q = opened .nine-bytes in omega arith) 9 1 (omega arith) (omega arith)
+      ∙ ap₂ (λ (ds l : List ℕ). getD (split (getD ds 1 0) (getD (split (getD ds 2 0) l) 0 [])) 0 []) same-delimiters (sent-whole 9 (λ e. omega arith))
+      ∙ sym (raw-component m (let q = long in omega arith) 9 1 (omega arith) (omega arith))
+
+-- ---- what is written
+
+-- field f of MSA, which stands behind MSH
+abbrev pub answerAddress : ℕ → Address
+answerAddress f = record { segment = 1; field = f; repetition = 0; component = 0; subcomponent = 0 }
+
+-- each number is a byte, as in every slice that is handed in
+module _ (m time id lent : List ℕ) (small : AreBytes id) {r : Answer} {x : List ℕ} (a : Acknowledges m time id lent r x) (done : r .kind ≡ None) where
+  -- the bytes that were written
+  abbrev pub w : List ℕ
+  w = take (r .length) x
+
+  writes : Writes m time id lent r x
+  writes = zero-writes m time id lent a done
+
+  abbrev h : List ℕ
+  h = header m
+
+  against : (isTs time ≡ true) × (badId id ≡ false) × (acknowledgeable m ≡ true)
+  against = nothing-against m time id (writes .nothing-against)
+
+  sound : Opened h × (find carriageReturn h + 1 ≡ length h)
+  sound = (sound-header m (against .2), header-ends m (return-inside m (against .2)))
+
+  of-message : (f : ℕ) → (f ≡ 1 → ⊥) → sent h f ≡ sent m f
+  of-message = sent-whole m (return-inside m (against .2)) (sound .0)
+
+  -- "reads back through our reader"
+  pub reads-back : reading w ≡ Passes
+  reads-back = ap reading (writes .bytes) ∙ W.reads-back h (sound .0) (sound .1) time id (against .0) small (writes .code) (writes .most)
+
+  -- "fits the ACK structure": the structure judge accepts it
+  pub fits-ack : Answers w (plain None 0)
+  fits-ack = subst (λ (b : List ℕ). Answers b (plain None 0)) (sym (writes .bytes)) (W.judged-written h (sound .0) (sound .1) time id (against .0) small (writes .code) (writes .most))
+
+  -- "carries the sender's own control ID": MSA-2, the whole field, is byte for byte the sender's MSH-10, the whole field
+  pub carries-id : rawBytes w (answerAddress 2) ≡ rawBytes m (fieldAddress 10)
+  carries-id =
+      ap (λ (b : List ℕ). rawBytes b (answerAddress 2)) (writes .bytes) ∙ W.carries-id h (sound .0) (sound .1) time id (against .0) small (writes .code)
+      ∙ of-message 10 (λ e. omega arith)
+
+  crossing : (f g : ℕ) → (g ≡ 1 → ⊥) → rawBytes (acknowledgement h time id (writes .code)) (fieldAddress f) ≡ sent h g → rawBytes w (fieldAddress f) ≡ rawBytes m (fieldAddress g)
+  crossing f g n e = ap (λ (b : List ℕ). rawBytes b (fieldAddress f)) (writes .bytes) ∙ e ∙ of-message g n
+
+  -- its MSH-3 to MSH-6 are the sender's 5, 6, 3, 4
+  pub crossed : (rawBytes w (fieldAddress 3) ≡ rawBytes m (fieldAddress 5)) × (rawBytes w (fieldAddress 4) ≡ rawBytes m (fieldAddress 6))
+      × (rawBytes w (fieldAddress 5) ≡ rawBytes m (fieldAddress 3)) × (rawBytes w (fieldAddress 6) ≡ rawBytes m (fieldAddress 4))
+  crossed =
+      let c = W.crossed h (sound .0) (sound .1) time id (against .0) small (writes .code) in
+      (crossing 3 5 (λ e. omega arith) (c .0), crossing 4 6 (λ e. omega arith) (c .1), crossing 5 3 (λ e. omega arith) (c .2), crossing 6 4 (λ e. omega arith) (c .3))
+
+  -- its MSH-10, unescaped, is the caller's ID
+  pub callers-id : (room : ℕ) → length id ≤ room → unescaping (delimitersOf w) (rawBytes w (fieldAddress 10)) room ≡ text id
+  unfolding fitting
+  callers-id room l =
+      let b = writes .bytes in
+      ap (λ (z : List ℕ). unescaping (delimitersOf z) (rawBytes z (fieldAddress 10)) room) b
+      ∙ ap (λ (z : List ℕ). unescaping (delimitersOf (acknowledgement h time id (writes .code))) z room) (W.own-id h (sound .0) (sound .1) time id (against .0) small (writes .code))
+      ∙ round-trip (delimitersOf (acknowledgement h time id (writes .code))) refl (W.message-written h (sound .0) (sound .1) time id (against .0) small (writes .code) (writes .most) .opened .delimiters-right) id room small
+      ∙ rw (le-leb (length id) room l)
+
+  -- "AA exactly when reading, structure and fields all accept"
+  pub accepts-exactly : (rawBytes w (answerAddress 1) ≡ ascii "AA") ↔ Accepts m
+  accepts-exactly =
+      let e = ap (λ (b : List ℕ). rawBytes b (answerAddress 1)) (writes .bytes) ∙ W.carries-code h (sound .0) (sound .1) time id (against .0) small (writes .code) in
+      (λ q. coded-accepts (writes .coded) (sym e ∙ q), λ q. e ∙ accepts-coded (writes .coded) q)
+    where
+      coded-accepts : {c : Code} → Coded m c → lettersOf c ≡ ascii "AA" → Accepts m
+      coded-accepts (accepted b) q = b
+      coded-accepts (refused n) q = absurd (let z : _≡_ {A = ℕ} 69 65 = ap (λ (l : List ℕ). getD l 1 0) q in omega arith)
+
+      accepts-coded : {c : Code} → Coded m c → Accepts m → lettersOf c ≡ ascii "AA"
+      accepts-coded (accepted b) q = refl
+      accepts-coded (refused n) q = absurd (n q)
+
+-- ---- 9 for an accepted message
+
+module _ (m : List ℕ) (accepts : Accepts m) where
+  message : Message m
+  message = accepted-message m (accepts .read)
+
+  o : Opened m
+  o = message .opened
+
+  return-there : find carriageReturn m < length m
+  return-there =
+      let some = o .some-bytes in
+      let l = first-least (eqb carriageReturn) m (length m - 1) (omega arith) (eq-eqb carriageReturn (getD m (length m - 1) 0) (sym (message-last m message))) in
+      omega arith
+
+  letters : (eqb (getD m 0 0) 77 ≡ true) × ((eqb (getD m 1 0) 83 && eqb (getD m 2 0) 72) ≡ true)
+  letters = and-both (eqb (getD m 0 0) 77) (eqb (getD m 1 0) 83 && eqb (getD m 2 0) 72) (o .header)
+
+  -- no CR stands among the first eight bytes: they are MSH and the delimiters
+  not-delimiter : (i : ℕ) → i < 5 → getD (delimitersOf m) i 0 ≡ carriageReturn → ⊥
+  not-delimiter i l e = false-true (sym (ap permitted e) ∙ delimiter-permitted (delimitersOf m) refl (o .delimiters-right) i l)
+
+  not-early : (i : ℕ) → i < 8 → getD m i 0 ≡ carriageReturn → ⊥
+  not-early zero l e = let n = eqb-true (getD m 0 0) 77 (letters .0) in omega arith
+  not-early (suc zero) l e = let n = eqb-true (getD m 1 0) 83 (and-both (eqb (getD m 1 0) 83) (eqb (getD m 2 0) 72) (letters .1) .0) in omega arith
+  not-early (suc (suc zero)) l e = let n = eqb-true (getD m 2 0) 72 (and-both (eqb (getD m 1 0) 83) (eqb (getD m 2 0) 72) (letters .1) .1) in omega arith
+  not-early (suc (suc (suc zero))) l e = not-delimiter 0 (omega arith) e
+  not-early (suc (suc (suc (suc zero)))) l e = not-delimiter 1 (omega arith) e
+  not-early (suc (suc (suc (suc (suc zero))))) l e = not-delimiter 2 (omega arith) e
+  not-early (suc (suc (suc (suc (suc (suc zero)))))) l e = not-delimiter 3 (omega arith) e
+  not-early (suc (suc (suc (suc (suc (suc (suc zero))))))) l e = not-delimiter 4 (omega arith) e
+  not-early (suc (suc (suc (suc (suc (suc (suc (suc i)))))))) l e = absurd (omega arith)
+
+  late : 8 ≤ find carriageReturn m
+  late = at (leb 8 (find carriageReturn m)) refl
+    where
+      at : (t : Bool) → leb 8 (find carriageReturn m) ≡ t → 8 ≤ find carriageReturn m
+      at true q = leb-true 8 (find carriageReturn m) q
+      at false q = absurd (not-early (find carriageReturn m) (leb-false 8 (find carriageReturn m) q) (find-is carriageReturn m return-there))
+
+  size : length (header m) ≡ find carriageReturn m + 1
+  size = length-take-le (find carriageReturn m + 1) m (omega (arith, return-there))
+
+  own-byte : (i : ℕ) → i < length (header m) → getD (header m) i 0 ≡ getD m i 0
+  own-byte i l = let n = size in getD-take (find carriageReturn m + 1) m i 0 (omega arith)
+
+  near : (i : ℕ) → i < 9 → getD (header m) i 0 ≡ getD m i 0
+  near i l = let n = size in let q = late in own-byte i (omega arith)
+
+  -- its header is sound by itself
+  header-sound : Opened (header m)
+  header-sound =
+      let n = size in
+      let q = late in
+      let t = return-there in
+      let most = o .most-bytes in
+      record {
+        some-bytes = omega arith;
+        most-bytes = omega arith;
+        nine-bytes = omega arith;
+        header = (λ i. eqb (near 0 (omega arith) i) 77 && (eqb (near 1 (omega arith) i) 83 && eqb (near 2 (omega arith) i) 72)) ∙ o .header;
+        byte-eight = (λ i. eqb (near 8 (omega arith) i) (near 3 (omega arith) i) || eqb (near 8 (omega arith) i) carriageReturn) ∙ o .byte-eight;
+        delimiters-right =
+            (λ i. wrongDelimiter (near 3 (omega arith) i ∷ near 4 (omega arith) i ∷ near 5 (omega arith) i ∷ near 6 (omega arith) i ∷ near 7 (omega arith) i ∷ [])) ∙ o .delimiters-right;
+        all-allowed = λ i l. ap allowed (own-byte i l) ∙ o .all-allowed i (omega arith);
+      }
+
+  identified : (stateOf (delimitersOf m) (sent m 10) ≡ Present) × (length (sent m 10) ≤ idLimit)
+  identified = at (segments m) refl (message .some-segments)
+    where
+      at : (ss : List (List ℕ)) → segments m ≡ ss → 1 ≤ length (segments m) → (stateOf (delimitersOf m) (sent m 10) ≡ Present) × (length (sent m 10) ≤ idLimit)
+      at [] e l = absurd (let n = ap length e in omega arith)
+      at (s ∷ rest) e l = control-id m s rest e (none-sound m rows (accepts .sound)) (let n = o .nine-bytes in omega arith)
+
+  -- it can be acknowledged, if it is no acknowledgement itself
+  acknowledged : same (typePart m 1) (ascii "ACK") ≡ false → acknowledgeable m ≡ true
+  unfolding acknowledgeable
+  acknowledged unlike =
+      let ds = same-delimiters m return-there header-sound in
+      let id = sent-whole m return-there header-sound 10 (λ e. omega arith) in
+      rw (
+        lt-ltb (find carriageReturn m) (length m) return-there,
+        opening-if (header m) header-sound,
+        type-whole m return-there header-sound,
+        unlike,
+        ds,
+        id,
+        identified .0,
+      ) (le-leb (length (sent m 10)) idLimit (identified .1))
+
+-- 9 "is never the answer to an accepted message except for its type"
+pub nine-for-type : (m time id lent : List ℕ) {r : Answer} {x : List ℕ} → Acknowledges m time id lent r x → r .kind ≡ NotAcknowledgeable → Accepts m → typePart m 1 ≡ ascii "ACK"
+nine-for-type m time id lent a nine accepts = at (same (typePart m 1) (ascii "ACK")) refl
+  where
+    at : (t : Bool) → same (typePart m 1) (ascii "ACK") ≡ t → typePart m 1 ≡ ascii "ACK"
+    at true e = same-is (typePart m 1) (ascii "ACK") e
+    at false e = absurd (false-true (sym (nine-unacknowledgeable m time id lent a nine) ∙ acknowledged m accepts e))

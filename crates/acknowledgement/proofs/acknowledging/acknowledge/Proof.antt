@@ -1,0 +1,73 @@
+-- Rests on what stands against an acknowledgement, and on the header of a message that can be acknowledged being sound.
+use mathlib.Core.Path.{_≡_, sym, ap, _∙_, subst}
+use mathlib.Core.List.{List}
+use Prim.Native.Nat.{ℕ}
+use lib.ListN.{length}
+use native.Mathlib.Omega.{arith}
+use borrow.Author.Needs.{needs}
+use denote.Ref.{now}
+use Rattle.alphabet.specs.Answers.{numberOf}
+use Rattle.alphabet.specs.declared.answers.Refusal.{Refusal}
+use Rattle.alphabet.specs.declared.answers.Refusal.the-variants.{None}
+use Rattle.alphabet.specs.Delimiters.{wrongDelimiter}
+use Rattle.reading.specs.Segments.{delimitersOf}
+use Rattle.text.specs.Unescape.{fault}
+use Rattle.text.specs.Answers.{answer}
+use Rattle.verdict.proofs.VerdictLaws.{number-none}
+use Rattle.acknowledgement.specs.Acknowledgement.{refusing, Acknowledges}
+use Rattle.acknowledgement.specs.Acknowledgement.Acknowledges.{not-written}
+use Rattle.acknowledgement.proofs.AnswerLaws.{meets}
+use Rattle.acknowledgement.proofs.HeaderLaws.{nothing-against, id-short, sound-header}
+use Rattle.acknowledgement.proofs.acknowledging.acknowledge.Statement.{statement}
+use Rattle.acknowledgement.proofs.acknowledging.acknowledge.Tie as tie
+
+-- nothing stands against it where the number is 0
+nothing : (c : tie.Else1)
+    → let a = c .before .before .before .before .before .before .before .args in
+    refusing (now (a .message)) (now (a .time)) (now (a .id)) ≡ None
+nothing c =
+    let k = c .before .before .refusal-of in
+    sym (k .ensures) ∙ number-none (k .result) (sym (c .before .number .ensures) ∙ c .if1 .left)
+
+returns : tie.Need-returns
+unfolding answer
+returns c =
+    let k = c .before .before .refusal-of in
+    let a = c .before .before .before .before .before .before .before .args in
+    subst (λ (x : Refusal). Acknowledges (now (a .message)) (now (a .time)) (now (a .id)) (now (a .buffer)) (answer (fault x 0)) (now (a .buffer))) (sym (k .ensures))
+    (not-written (λ e. c .if1 .taken (c .before .number .ensures ∙ ap numberOf (k .ensures ∙ e))))
+
+write-requires : tie.Need-write-requires
+write-requires c κs =
+    let h = c .before in
+    let e = h .before .before in
+    let a = e .before .before .before .before .before .before .before .args in
+    let m = now (a .message) in
+    let n = nothing-against m (now (a .time)) (now (a .id)) (nothing e) in
+    let o = sound-header m (n .2) in (
+      omega (arith, ap length (h .header-of .ensures), o .nine-bytes),
+      (ap (λ (x : List ℕ). wrongDelimiter (delimitersOf x)) (h .header-of .ensures) ∙ o .delimiters-right, id-short m (now (a .time)) (now (a .id)) (n .1)),
+    )
+
+returns-2 : tie.Need-returns-2
+returns-2 c =
+    let w = c .before .before in
+    let h = w .before .before in
+    let k = h .before in
+    let e = k .before in
+    let a = e .before .before .before .before .before .before .before .args in
+    meets (now (a .message)) (now (a .time)) (now (a .id)) (now (a .buffer)) (now (h .header-of .result)) (k .code-of .result) _ _ (nothing e) (k .code-of .ensures)
+    (h .header-of .ensures) (w .write .ensures .0) (w .write .ensures .1)
+
+pub acknowledge-spec : {M : Type 1} → statement M
+acknowledge-spec =
+    tie.close
+    (tie.spec
+    (λ c κs. search needs)
+    (λ c κs. search needs)
+    returns
+    (λ c κs. search needs)
+    (λ c κs. search needs)
+    write-requires
+    (λ c. search needs)
+    returns-2)

@@ -1,0 +1,16 @@
+-- Rests on what `nm` ensures of the same address.
+use mathlib.Core.Path.{ap, _∙_}
+use borrow.Author.Needs.{needs}
+use denote.Ref.{now}
+use Rattle.value.specs.Asked.{nmFound}
+use Rattle.boundary.specs.Seen.{numberSeen}
+use Rattle.boundary.proofs.elements.turrethog_nm.Statement.{statement}
+use Rattle.boundary.proofs.elements.turrethog_nm.Tie as tie
+
+returns : tie.Need-returns
+returns c =
+    let m = now (c .before .before .before .before .args .message) in
+    c .number-shown .ensures ∙ ap numberSeen (c .before .nm .ensures ∙ ap (nmFound m) (c .before .before .address-of .ensures))
+
+pub turrethog-nm-spec : {M : Type 1} → statement M
+turrethog-nm-spec = tie.close (tie.spec (λ c κs. search needs) (λ c κs. search needs) (λ c κs. search needs) returns)

@@ -1,0 +1,16 @@
+-- Rests on what `ts` ensures of the same address.
+use mathlib.Core.Path.{ap, _∙_}
+use borrow.Author.Needs.{needs}
+use denote.Ref.{now}
+use Rattle.value.specs.Asked.{tsFound}
+use Rattle.boundary.specs.Seen.{timeSeen}
+use Rattle.boundary.proofs.elements.turrethog_ts.Statement.{statement}
+use Rattle.boundary.proofs.elements.turrethog_ts.Tie as tie
+
+returns : tie.Need-returns
+returns c =
+    let m = now (c .before .before .before .before .args .message) in
+    c .time-shown .ensures ∙ ap timeSeen (c .before .ts .ensures ∙ ap (tsFound m) (c .before .before .address-of .ensures))
+
+pub turrethog-ts-spec : {M : Type 1} → statement M
+turrethog-ts-spec = tie.close (tie.spec (λ c κs. search needs) (λ c κs. search needs) (λ c κs. search needs) returns)
