@@ -1,5 +1,6 @@
 // `turrethog` is the command of the person on the bench: it tells whether a file holds a message, shows what it says, and
 // gets an element out of it. This file is the frame: it reads the arguments and the files, and hands the messages on.
+mod acknowledging;
 mod addresses;
 mod arguments;
 mod checking;
@@ -31,6 +32,8 @@ const SHOW: u8 = 2;
 
 const GET: u8 = 3;
 
+const ACKNOWLEDGE: u8 = 4;
+
 // The command that a word says, or 0.
 fn command_of(word: &[u8]) -> u8 {
     if alphabet::same(word, b"check") {
@@ -41,6 +44,9 @@ fn command_of(word: &[u8]) -> u8 {
     }
     if alphabet::same(word, b"get") {
         return GET;
+    }
+    if alphabet::same(word, b"ack") {
+        return ACKNOWLEDGE;
     }
     0
 }
@@ -90,9 +96,10 @@ fn check_arguments(first: usize, name: &mut [u8], message: &mut [u8]) -> u8 {
     worst
 }
 
-// Shows the file that the argument at an index names, or gets an element out of it by the arguments behind that one.
+// Shows the file that the argument at an index names, or gets an element out of it or acknowledges it by the arguments behind
+// that one.
 fn ask_argument(
-    is_shown: bool,
+    command: u8,
     index: usize,
     name: &mut [u8],
     message: &mut [u8],
@@ -106,14 +113,17 @@ fn ask_argument(
     if !file.is_read {
         return status::TROUBLE;
     }
-    if is_shown {
+    if command == SHOW {
         return showing::show(&name[..called], &message[..length], room);
+    }
+    if command == ACKNOWLEDGE {
+        return acknowledging::acknowledge(&name[..called], &message[..length], index + 1, room);
     }
     getting::get(&name[..called], &message[..length], index + 1, room)
 }
 
 // Does what the argument at an index asks, of which as many words stand behind it as the command takes: a file or more to
-// check, one to show, and one to get from, with two to five words behind its name.
+// check, one to show, one to get from with two to five words behind its name, and one to acknowledge with two.
 fn run(index: usize, name: &mut [u8], message: &mut [u8], room: &mut [u8]) -> u8
     requires { ⌜ index ≤ 2 ⌝ }
 {
@@ -123,11 +133,11 @@ fn run(index: usize, name: &mut [u8], message: &mut [u8], room: &mut [u8]) -> u8
     if (command == CHECK) & (index + 1 < count) {
         return check_arguments(index + 1, name, message);
     }
-    if (command == SHOW) & (count == index + 2) {
-        return ask_argument(true, index + 1, name, message, room);
-    }
-    if (command == GET) & ((index + 4 <= count) & (count <= index + 7)) {
-        return ask_argument(false, index + 1, name, message, room);
+    let is_shown = (command == SHOW) & (count == index + 2);
+    let is_got = (command == GET) & ((index + 4 <= count) & (count <= index + 7));
+    let is_acknowledged = (command == ACKNOWLEDGE) & (count == index + 4);
+    if is_shown | (is_got | is_acknowledged) {
+        return ask_argument(command, index + 1, name, message, room);
     }
     usage::print()
 }

@@ -26,6 +26,16 @@ fn print_asking() {
     say(b"      ./turrethog get examples/blood-count.hl7 PID 5 1 1");
 }
 
+// What the command takes that writes.
+fn print_acknowledging() {
+    say(b"");
+    say(b"  ./turrethog ack FILE TIME ID");
+    say(
+        b"      The acknowledgement, AA or AE, of a message at a time, with an ID of its own. Its bytes are written raw.",
+    );
+    say(b"      ./turrethog ack examples/blood-count.hl7 20240229093001+0000 ACK0001");
+}
+
 // How to read what is printed.
 fn print_reading() {
     terminal::print(
@@ -49,6 +59,7 @@ pub fn print() -> u8 {
     say(b"      ./turrethog check examples/*.hl7");
     say(b"");
     print_asking();
+    print_acknowledging();
     say(b"");
     print_reading();
     status::TROUBLE
