@@ -1,4 +1,4 @@
-// The words behind the command: each is copied into a buffer, and some say numbers.
+// The words behind the command. Each is copied into a buffer that the caller lends, and some say numbers.
 ghost use mathlib.Core.Path.{_≡_};
 
 // What a word says: a number, or none.

@@ -1,4 +1,5 @@
-// `check`: the verdict on a message in one line, and under a refusal the place that is meant.
+// `check`: the verdict on a message in one line, and under a refusal the place that is meant. The other commands say it so too,
+// on standard error, where a file holds no message.
 use crate::faults;
 use crate::parts;
 use crate::refusals;
@@ -35,11 +36,9 @@ fn print_accepted(to: i32, name: &[u8], message: &[u8]) {
     terminal::print(to, name);
     terminal::print(to, b": accepted: ");
     print_type(to, message);
-    terminal::print(to, b", ");
-    terminal::print_number(to, parts::count_segments(message));
-    terminal::print(to, b" segments, ");
-    terminal::print_number(to, message.len());
-    terminal::print_line(to, b" bytes");
+    terminal::print_counted(to, b", ", parts::count_segments(message), b" segments, ");
+    terminal::print_counted(to, b"", message.len(), b" bytes");
+    terminal::end_line(to);
 }
 
 // Says the verdict on the message that a file holds, and returns the status that it comes to.

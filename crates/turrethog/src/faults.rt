@@ -39,11 +39,9 @@ fn explain_line_feed(to: i32, message: &[u8], place: usize) {
 // Draws the byte at a place of the file, in its segment.
 fn draw_byte(to: i32, message: &[u8], place: usize) {
     let segment = parts::segment_around(message, place);
-    terminal::print(to, b"  byte ");
-    terminal::print_number(to, place);
-    terminal::print(to, b", in segment ");
-    terminal::print_number(to, segment.number);
-    terminal::print_line(to, b":");
+    terminal::print_counted(to, b"  byte ", place, b", in segment ");
+    terminal::print_counted(to, b"", segment.number, b":");
+    terminal::end_line(to);
     let bytes = parts::piece(message, segment.start, segment.end);
     drawing::draw_byte(to, bytes, behind(segment.start, place));
     explain_line_feed(to, message, place);
@@ -54,16 +52,18 @@ fn print_length(to: i32, message: &[u8]) {
     if message.len() == 0 {
         return terminal::print_line(to, b"  this file has none");
     }
-    terminal::print(to, b"  this file has more than ");
-    terminal::print_number(to, alphabet::message_limit());
+    terminal::print_counted(
+        to,
+        b"  this file has more than ",
+        alphabet::message_limit(),
+        b"",
+    );
     terminal::end_line(to);
 }
 
 // Prints the number of a segment and its name.
 fn print_segment(to: i32, before: &[u8], number: usize, segment: &[u8]) {
-    terminal::print(to, before);
-    terminal::print_number(to, number);
-    terminal::print(to, b", ");
+    terminal::print_counted(to, before, number, b", ");
     terminal::print(to, parts::piece(segment, 0, 3));
     terminal::print_line(to, b":");
 }
@@ -140,9 +140,8 @@ fn draw_field(to: i32, message: &[u8], number: usize, field: usize, repetition: 
     };
     terminal::print(to, b"  ");
     addresses::print(to, segment_bytes(message, number), told(address), 0);
-    terminal::print(to, b", in segment ");
-    terminal::print_number(to, number);
-    terminal::print_line(to, b":");
+    terminal::print_counted(to, b", in segment ", number, b":");
+    terminal::end_line(to);
     draw_element(to, message, address);
 }
 

@@ -1,4 +1,5 @@
-// `get`: one element of a message by its address, its state and its bytes as they were sent.
+// `get`: one element of a message by its address, its state and its bytes as they were sent. The address is said by arguments, of
+// which the first may name a segment and the others are numbers.
 use crate::addresses;
 use crate::arguments;
 use crate::arguments::Number;

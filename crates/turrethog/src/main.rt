@@ -1,5 +1,5 @@
-// `turrethog` is the command of the person on the bench: it tells whether a file holds a message, shows what it says, and
-// gets an element out of it. This file is the frame: it reads the arguments and the files, and hands the messages on.
+// `turrethog` is the command of the person on the bench: it tells whether a file holds a message that is accepted, shows what it
+// says, gets an element out of it, and acknowledges it. This file is the frame: it reads the arguments and the files, and hands the messages on.
 mod acknowledging;
 mod addresses;
 mod arguments;

@@ -1,4 +1,4 @@
-// The refusals in words, each with its number of document 01.
+// The refusals in words, each with its number of document 01. Where a place is drawn under them, `this` is what is marked there.
 use crate::terminal;
 use alphabet::Refusal;
 
@@ -129,9 +129,7 @@ pub fn print_words(to: i32, kind: Refusal) {
 // A line that says of a file that it is refused: the number, and the words.
 pub fn print_refused(to: i32, name: &[u8], kind: Refusal) {
     terminal::print(to, name);
-    terminal::print(to, b": refused (");
-    terminal::print_number(to, alphabet::number(kind) as usize);
-    terminal::print(to, b"): ");
+    terminal::print_counted(to, b": refused (", alphabet::number(kind) as usize, b"): ");
     print_words(to, kind);
     terminal::end_line(to);
 }

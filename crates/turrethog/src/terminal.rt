@@ -82,6 +82,13 @@ pub fn print_number(to: i32, number: usize) {
     io::print_decimal(to, number as u64);
 }
 
+// Prints a number between two texts.
+pub fn print_counted(to: i32, before: &[u8], number: usize, behind: &[u8]) {
+    print(to, before);
+    print_number(to, number);
+    print(to, behind);
+}
+
 // Ends a line. LF is the one control byte that is ever printed.
 pub fn end_line(to: i32) {
     io::write_all(to, b"\n");
