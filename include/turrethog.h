@@ -87,7 +87,7 @@ typedef struct {
 
 typedef struct {
     uint32_t number;
-    uint32_t state; /* absent after a refusal */
+    uint32_t state; /* absent where it was refused */
     size_t place;
     size_t start; /* the bytes of the message from start up to end; 0 and 0 where it is absent */
     size_t end;
@@ -95,7 +95,7 @@ typedef struct {
 
 typedef struct {
     uint32_t number;
-    uint32_t state;
+    uint32_t state; /* absent where the question was refused (1 to 8, 19), present where its bytes were (32, 37) */
     size_t place;
     int64_t value; /* 12.50 is 1250 with 2 decimals; 0 and 0 where the element is not present: look at the state */
     size_t decimals;
@@ -123,7 +123,7 @@ typedef struct {
 
 typedef struct {
     uint32_t number;
-    uint32_t state;
+    uint32_t state; /* as in a number */
     size_t place;
     turrethog_date date; /* TURRETHOG_NOT_SENT in each part that was not sent */
     turrethog_clock clock;
