@@ -9,7 +9,7 @@ use lib.Dec.{leb, ltb, eqb}
 use lib.ListN.{length, take}
 use lib.Seq.{take-all, length-take-le}
 use borrow.Author.Tests.{lt-ltb, le-ltb, ltb-true, ltb-false}
-use Rattle.alphabet.specs.Bytes.{carriageReturn}
+use Rattle.alphabet.specs.Bytes.{carriageReturn, ascii}
 use Rattle.alphabet.specs.Limits.{idLimit}
 use Rattle.alphabet.specs.Lists.{first, find, same}
 use Rattle.alphabet.specs.declared.answers.Check.{Check}
@@ -21,7 +21,7 @@ use Rattle.reading.specs.Reading.{opening}
 use Rattle.reading.specs.Message.{Opened}
 use Rattle.reading.proofs.Accepted.{opened-if}
 use Rattle.value.specs.Times.{isTs}
-use Rattle.acknowledgement.specs.Acknowledgement.{ascii, header, sent, typePart, present, passes, badId, acknowledgeable, refusing}
+use Rattle.acknowledgement.specs.Acknowledgement.{header, sent, typePart, present, passes, badId, acknowledgeable, refusing}
 
 module _ (m : List ℕ) where
   -- without a CR all bytes are taken

@@ -13,7 +13,7 @@ use denote.Ref.{RefT, now}
 use Rattle.alphabet.proofs.LimitLaws.{id-limit-small}
 use Rattle.alphabet.proofs.ListLaws.{drop-next}
 use Rattle.alphabet.proofs.HexLaws.{drop-two}
-use Rattle.alphabet.specs.Bytes.{carriageReturn}
+use Rattle.alphabet.specs.Bytes.{carriageReturn, ascii}
 use Rattle.alphabet.specs.Delimiters.{wrongDelimiter}
 use Rattle.alphabet.specs.Limits.{messageLimit, idLimit}
 use Rattle.alphabet.specs.Parts.{join}
@@ -24,7 +24,7 @@ use Rattle.text.specs.Escape.{escape}
 use Rattle.text.specs.Unescape.{text, fault}
 use Rattle.text.specs.Answers.{escaping}
 use Rattle.text.proofs.OutcomeLaws.{escape-most, escaping-fits}
-use Rattle.acknowledgement.specs.Acknowledgement.{ascii, sent, typePart, present, encoding, typeSent, version, headerParts, lettersOf, answerParts, acknowledgement, roomy}
+use Rattle.acknowledgement.specs.Acknowledgement.{sent, typePart, present, encoding, typeSent, version, headerParts, lettersOf, answerParts, acknowledgement, roomy}
 use Rattle.acknowledgement.specs.Pieces.{together, least, pieces, chosen, texts}
 use Rattle.acknowledgement.specs.declared.letters.Code.{Code}
 use Rattle.acknowledgement.specs.declared.letters.Code.the-variants.{Accept, Error}

@@ -1,14 +1,11 @@
 -- The acknowledgement, by document 01, 'The acknowledgement', as a list of bytes that is put together of parts; and when it is refused.
 use Prim.Native.Nat.{ℕ, _+_}
-use Prim.Native.Char.{code}
-use Prim.Native.String.{String}
-use Prim.Native.String as S
 use mathlib.Core.Path.{_≡_}
 use mathlib.Core.List.{List, [], _∷_, _++_}
 use mathlib.Core.Bool.{Bool, true, false, cond, not, _&&_, _||_}
 use lib.ListN.{length, getD, take}
 use lib.Dec.{leb, ltb, eqb}
-use Rattle.alphabet.specs.Bytes.{carriageReturn}
+use Rattle.alphabet.specs.Bytes.{carriageReturn, ascii}
 use Rattle.alphabet.specs.Limits.{messageLimit, idLimit}
 use Rattle.alphabet.specs.Lists.{find, same}
 use Rattle.alphabet.specs.Parts.{join}
@@ -31,11 +28,6 @@ use Rattle.text.specs.Answers.{answer, filled}
 use Rattle.verdict.specs.Verdicts.{Accepts}
 use Rattle.acknowledgement.specs.declared.letters.Code.{Code}
 use Rattle.acknowledgement.specs.declared.letters.Code.the-variants.{Accept, Error}
-
--- the bytes of an ASCII text
-abbrev pub ascii : String → List ℕ
-ascii S.[] = []
-ascii (S._∷_ c s) = code c ∷ ascii s
 
 -- ---- the sender's header
 

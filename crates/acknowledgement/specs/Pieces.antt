@@ -5,9 +5,9 @@ use mathlib.Core.List.{List, [], _∷_, _++_}
 use mathlib.Core.Bool.{cond}
 use lib.ListN.{getD}
 use lib.Dec.{ltb}
-use Rattle.alphabet.specs.Bytes.{carriageReturn}
+use Rattle.alphabet.specs.Bytes.{carriageReturn, ascii}
 use Rattle.reading.specs.Segments.{fieldSeparator}
-use Rattle.acknowledgement.specs.Acknowledgement.{ascii, sent, typePart, present, encoding, version}
+use Rattle.acknowledgement.specs.Acknowledgement.{sent, typePart, present, encoding, version}
 use Rattle.acknowledgement.specs.declared.letters.Code.{Code}
 use Rattle.acknowledgement.specs.declared.letters.Code.the-variants.{Accept, Error}
 

@@ -4,7 +4,7 @@ use mathlib.Core.Path.{_≡_, refl, sym, subst}
 use mathlib.Core.Bool.{Bool, true, false, not, _&&_, _||_}
 use lib.Dec.{T, leb}
 use borrow.Author.Tests.{leb-true}
-use Rattle.alphabet.specs.Bytes.{between}
+use Rattle.alphabet.specs.Bytes.{fromTo}
 
 pub false-true : {A : Type 0} → false ≡ true → A
 false-true e = absurd (subst (λ (t : Bool). T (not t)) e tt)
@@ -23,6 +23,6 @@ or-neither true y e = false-true (sym e)
 pub neither-or : {x y : Bool} → x ≡ false → y ≡ false → (x || y) ≡ false
 neither-or e f = rw (e, f)
 
-pub between-true : (lo hi b : ℕ) → between lo hi b ≡ true → (lo ≤ b) × (b ≤ hi)
-between-true lo hi b e =
+pub from-to : (lo hi b : ℕ) → fromTo lo hi b ≡ true → (lo ≤ b) × (b ≤ hi)
+from-to lo hi b e =
     (leb-true lo b (and-both (leb lo b) (leb b hi) e .0), leb-true b hi (and-both (leb lo b) (leb b hi) e .1))

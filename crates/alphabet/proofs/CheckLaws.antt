@@ -1,11 +1,10 @@
 -- Laws of checks in order: what a check that passes or fails makes of the whole. Assumes nothing.
 use mathlib.Core.Path.{_≡_, refl, sym, _∙_, subst}
 use mathlib.Core.Bool.{Bool, true, false}
-use Prim.Native.Nat.{ℕ}
+use Prim.Native.Nat.{ℕ, _≤_}
 use native.Mathlib.Omega.{arith}
-use Rattle.alphabet.specs.Answers.{failsIf, orElse}
+use Rattle.alphabet.specs.Answers.{numberOf, failsIf, orElse}
 use Rattle.alphabet.specs.declared.answers.Refusal.{Refusal}
-use Rattle.alphabet.specs.declared.answers.Refusal.the-variants.{None}
 use Rattle.alphabet.specs.declared.answers.Check.{Check}
 use Rattle.alphabet.specs.declared.answers.Check.the-variants.{Passes, Fails}
 
@@ -48,18 +47,23 @@ ends {c = Fails kind place} e = e
 
 -- ---- a check that fails says why
 
--- it passes, or its kind is that of a refusal
-abbrev pub Honest : Check → Type 0
-Honest Passes = Unit {0}
-Honest (Fails kind place) = kind ≡ None → ⊥
+-- the kind's number is one of those from lo to hi
+abbrev pub NumberFromTo : ℕ → ℕ → Refusal → Type 0
+NumberFromTo lo hi kind = (lo ≤ numberOf kind) × (numberOf kind ≤ hi)
 
-pub honest-if : (t : Bool) (kind : Refusal) (place : ℕ) → (kind ≡ None → ⊥) → Honest (failsIf t kind place)
-honest-if true kind place h = h
-honest-if false kind place h = tt
+-- it passes, or it fails with such a number
+abbrev pub Numbered : ℕ → ℕ → Check → Type 0
+Numbered lo hi Passes = Unit {0}
+Numbered lo hi (Fails kind place) = NumberFromTo lo hi kind
 
-pub honest-or : (c d : Check) → Honest c → Honest d → Honest (orElse c d)
-honest-or Passes d h k = k
-honest-or (Fails kind place) d h k = h
+module _ (lo hi : ℕ) where
+  pub numbered-if : (t : Bool) (kind : Refusal) (place : ℕ) → NumberFromTo lo hi kind → Numbered lo hi (failsIf t kind place)
+  numbered-if true kind place n = n
+  numbered-if false kind place n = tt
 
-pub honest-fails : (c : Check) (kind : Refusal) (place : ℕ) → Honest c → c ≡ Fails kind place → kind ≡ None → ⊥
-honest-fails c kind place h e = subst Honest e h
+  pub numbered-or : (c d : Check) → Numbered lo hi c → Numbered lo hi d → Numbered lo hi (orElse c d)
+  numbered-or Passes d p q = q
+  numbered-or (Fails kind place) d p q = p
+
+  pub numbered-fails : (c : Check) (kind : Refusal) (place : ℕ) → Numbered lo hi c → c ≡ Fails kind place → NumberFromTo lo hi kind
+  numbered-fails c kind place n e = subst (Numbered lo hi) e n

@@ -9,7 +9,7 @@ use native.Mathlib.Omega.{arith}
 use lib.ListN.{length, getD, take, drop, drop-of-length-le}
 use Rattle.alphabet.specs.Bytes.{digit}
 use Rattle.alphabet.specs.Digits.{allDigits, counted}
-use Rattle.alphabet.proofs.BoolLaws.{and-both, between-true}
+use Rattle.alphabet.proofs.BoolLaws.{and-both, from-to}
 use Rattle.alphabet.proofs.ListLaws.{drop-next}
 
 -- ---- along the bytes
@@ -32,7 +32,7 @@ module _ (l : List ℕ) (i : ℕ) where
     unfolding allDigits
     digits-here e =
         let b = and-both (digit (getD l i 0)) (allDigits (drop (i + 1) l)) (ap allDigits (sym (drop-next l i h)) ∙ e) in
-        let d = between-true 48 57 (getD l i 0) (b .0) in
+        let d = from-to 48 57 (getD l i 0) (b .0) in
         (d .0, d .1, b .1)
 
     pub counted-next : (n : ℕ) → counted n (drop i l) ≡ counted (n * 10 + (getD l i 0 - 48)) (drop (i + 1) l)
@@ -87,7 +87,7 @@ unfolding counted allDigits
 counted-below n [] e = rw (pow-zero, mul-one) (omega arith)
 counted-below n (d ∷ r) e =
     let b = and-both (digit d) (allDigits r) e in
-    let t = between-true 48 57 d (b .0) in
+    let t = from-to 48 57 d (b .0) in
     let t1 = t .1 in
     let h : n * 10 + (d - 48) + 1 ≤ (n + 1) * 10 = omega arith in
     lt-of-lt-of-le (counted-below (n * 10 + (d - 48)) r (b .1))
@@ -106,10 +106,10 @@ digits-same n n′ (d ∷ r) (d′ ∷ r′) e e′ h q =
     let i = digits-same (n * 10 + (d - 48)) (n′ * 10 + (d′ - 48)) r r′ (b .1) (b′ .1) (omega arith) q in
     let i0 = i .0 in
     let i1 = i .1 in
-    let t = between-true 48 57 d (b .0) in
+    let t = from-to 48 57 d (b .0) in
     let t0 = t .0 in
     let t1 = t .1 in
-    let u = between-true 48 57 d′ (b′ .0) in
+    let u = from-to 48 57 d′ (b′ .0) in
     let u0 = u .0 in
     let u1 = u .1 in
     let m : n ≡ n′ = omega arith in

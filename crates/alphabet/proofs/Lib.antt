@@ -8,4 +8,3 @@ pub mod LimitLaws
 pub mod CheckLaws
 pub mod NullLaws
 pub mod FillingLaws
-pub mod EachLaws

@@ -4,12 +4,12 @@ use mathlib.Core.List.{List, [], _∷_}
 use mathlib.Core.Bool.{Bool, not, _&&_, _||_}
 use lib.ListN.{getD}
 use lib.Dec.{ltb, eqb}
-use Rattle.alphabet.specs.Bytes.{between}
+use Rattle.alphabet.specs.Bytes.{fromTo}
 use Rattle.alphabet.specs.Lists.{first, find}
 
 -- "ASCII punctuation (0x21-2F, 3A-40, 5B-60, 7B-7E)"
 abbrev pub punctuation : ℕ → Bool
-punctuation b = between 33 47 b || (between 58 64 b || (between 91 96 b || between 123 126 b))
+punctuation b = fromTo 33 47 b || (fromTo 58 64 b || (fromTo 91 96 b || fromTo 123 126 b))
 
 -- "none of `"` `+` `-` `.`"
 abbrev pub kept : ℕ → Bool

@@ -1,10 +1,8 @@
 -- The definitions at samples, each computed: what is a word, what a word says, and the bytes of the program's own words. Assumes nothing.
 use Prim.Native.Nat.{ℕ}
-use Prim.Native.Char.{code}
-use Prim.Native.String.{String}
-use Prim.Native.String as S
 use mathlib.Core.Path.{_≡_, refl}
 use mathlib.Core.List.{List, [], _∷_}
+use Rattle.alphabet.specs.Bytes.{ascii}
 use Rattle.alphabet.specs.Parts.{split}
 use Rattle.ask.specs.Words.{words}
 use Rattle.alphabet.specs.Hex.{allHex, pairsOf}
@@ -13,11 +11,6 @@ use Rattle.alphabet.specs.Digits.{allDigits, counted}
 use Rattle.ask.specs.Numbers.{held, number}
 use Rattle.ask.specs.Questions.{readVerb, Verb, read, find, nm, si, dt, tm, ts, escape, unescape, structure, verdict, ack, noQuestion, readAsked}
 use Rattle.ask.specs.declared.numbers.Number.the-variants.{Value, Refused}
-
--- the bytes of an ASCII text
-abbrev ascii : String → List ℕ
-ascii S.[] = []
-ascii (S._∷_ c s) = code c ∷ ascii s
 
 own-words : (readVerb ≡ ascii "read") × (noQuestion ≡ ascii "?\n")
 own-words = (refl, refl)

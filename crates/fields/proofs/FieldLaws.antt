@@ -9,6 +9,7 @@ use native.Mathlib.Omega.{arith}
 use lib.Dec.{eqb, leb}
 use lib.ListN.{length, getD, take, drop}
 use borrow.Author.Tests.{eqb-true, eqb-false, eq-eqb, leb-true, not-true}
+use Rattle.alphabet.specs.Bytes.{ascii}
 use Rattle.alphabet.specs.Answers.{inOrder}
 use Rattle.alphabet.specs.Lists.{first}
 use Rattle.alphabet.specs.Parts.{split, partAt}
@@ -22,7 +23,7 @@ use Rattle.element.specs.States.{stateOf}
 use Rattle.element.specs.declared.states.State.the-variants.{Absent, Empty}
 use Rattle.element.specs.Levels.{between, partIn, fieldIn}
 use Rattle.element.proofs.LevelLaws.{between-length, in-at, in-none, field-other, field-header}
-use Rattle.fields.specs.Table.{ascii, nameOf, rows, noRow}
+use Rattle.fields.specs.Table.{nameOf, rows, noRow}
 use Rattle.fields.specs.Rules.{judgedPart, partState, repetitionCheck, repetitionChecks, requiredCheck, somePresent, isSaid, saidField, kindOf, portionOf, rowCheck}
 use Rattle.fields.specs.Judging.{repetitionsIn, repetitionsOf, saidIn}
 use Rattle.fields.specs.Walk.{partNumber, fieldBytes, saidBytes}

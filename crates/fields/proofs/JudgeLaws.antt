@@ -9,7 +9,7 @@ use lib.ListN.{length, getD, take, drop, length-drop, drop-of-length-le}
 use lib.Seq.{drop-cons, length-take-le}
 use borrow.Author.Tests.{eq-eqb, ne-eqb}
 use Rattle.alphabet.specs.Answers.{orElse}
-use Rattle.alphabet.specs.Bytes.{carriageReturn}
+use Rattle.alphabet.specs.Bytes.{carriageReturn, ascii}
 use Rattle.alphabet.specs.Lists.{find}
 use Rattle.alphabet.specs.Parts.{split}
 use Rattle.alphabet.specs.declared.answers.Check.{Check}
@@ -18,7 +18,7 @@ use Rattle.alphabet.specs.declared.answers.Refusal.{Refusal}
 use Rattle.alphabet.specs.declared.parts.Part.the-variants.{At}
 use Rattle.reading.specs.Segments.{allButLast, segments, delimitersOf}
 use Rattle.reading.proofs.SegmentLaws.{segments-walk, segments-over}
-use Rattle.fields.specs.Table.{rows, noRow, nameOf, ascii}
+use Rattle.fields.specs.Table.{rows, noRow, nameOf}
 use Rattle.fields.specs.Rules.{isSaid, rowCheck}
 use Rattle.fields.specs.Judging.{Fault, Sound, Faulty, nameAt, saidIn, repetitionsOf, located, orFault, firstFault, rowFault, segmentFault, segmentFaults, judging}
 use Rattle.fields.specs.Walk.{fieldBytes, saidBytes}

@@ -3,6 +3,3 @@ pub mod RuleLaws
 pub mod CursorLaws
 pub mod FieldLaws
 pub mod JudgeLaws
-pub mod Agreement
-pub mod Honest
-pub mod ControlId

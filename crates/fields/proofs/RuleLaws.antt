@@ -6,6 +6,7 @@ use Prim.Native.Nat.{ℕ, _≤_}
 use native.Mathlib.Omega.{arith}
 use borrow.Author.Tests.{not-true, not-false}
 use lib.ListN.{length, getD, take}
+use Rattle.alphabet.specs.Bytes.{ascii}
 use Rattle.alphabet.specs.Lists.{find, same}
 use Rattle.alphabet.specs.Answers.{failsIf}
 use Rattle.alphabet.specs.Parts.{split}
@@ -14,7 +15,6 @@ use Rattle.alphabet.specs.declared.answers.Check.the-variants.{Passes}
 use Rattle.alphabet.specs.declared.answers.Refusal.the-variants.{ValueWithoutType}
 use Rattle.element.specs.States.{stateOf}
 use Rattle.value.specs.Asked.{isPresent}
-use Rattle.fields.specs.Table.{ascii}
 use Rattle.fields.specs.Rules.{formCheck, judgedPart, partState, placed, repetitionCheck, firstState, somePresent, isSaid, saidCheck, kindSaid, kindOf, portionOf}
 use Rattle.fields.specs.declared.table.Portion.{Portion}
 use Rattle.fields.specs.declared.table.Portion.the-variants.{Component}

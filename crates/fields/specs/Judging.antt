@@ -5,6 +5,7 @@ use mathlib.Core.List.{List, [], _∷_, map}
 use mathlib.Core.Bool.{cond}
 use lib.ListN.{length, getD}
 use lib.Dec.{eqb}
+use Rattle.alphabet.specs.Bytes.{ascii}
 use Rattle.alphabet.specs.Parts.{split}
 use Rattle.alphabet.specs.declared.answers.Check.{Check}
 use Rattle.alphabet.specs.declared.answers.Check.the-variants.{Passes, Fails}
@@ -14,7 +15,7 @@ use Rattle.alphabet.specs.declared.parts.Part.{Part}
 use Rattle.alphabet.specs.declared.parts.Part.the-variants.{At, Absent}
 use Rattle.reading.specs.Segments.{delimitersOf, segments}
 use Rattle.element.specs.Levels.{between, fieldIn}
-use Rattle.fields.specs.Table.{ascii, nameOf}
+use Rattle.fields.specs.Table.{nameOf}
 use Rattle.fields.specs.Rules.{isSaid, saidField, rowCheck}
 use Rattle.fields.specs.declared.table.Kind.{Kind}
 use Rattle.fields.specs.declared.table.Row.{Row}

@@ -5,6 +5,7 @@ use mathlib.Core.List.{List, [], _∷_}
 use mathlib.Core.Bool.{Bool, true, false, cond, not, _&&_, _||_}
 use lib.ListN.{length, getD}
 use lib.Dec.{ltb}
+use Rattle.alphabet.specs.Bytes.{ascii}
 use Rattle.alphabet.specs.Answers.{failsIf, inOrder}
 use Rattle.alphabet.specs.Limits.{idLimit}
 use Rattle.alphabet.specs.Lists.{same}
@@ -18,7 +19,7 @@ use Rattle.element.specs.declared.states.State.the-variants.{Absent, Empty, Nul
 use Rattle.value.specs.Asked.{isPresent}
 use Rattle.value.specs.Numbers.{nmCheck, isSi}
 use Rattle.value.specs.Times.{isDt, isTm, isTs}
-use Rattle.fields.specs.Table.{ascii, valuesOf}
+use Rattle.fields.specs.Table.{valuesOf}
 use Rattle.fields.specs.declared.table.Portion.{Portion}
 use Rattle.fields.specs.declared.table.Portion.the-variants.{Whole, Component}
 use Rattle.fields.specs.declared.table.Kind.{Kind}

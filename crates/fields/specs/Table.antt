@@ -1,11 +1,10 @@
 -- The table of document 01, 'Fields judged', as data. "Columns: part judged; type; R required; Y may repeat."
 use Prim.Native.Nat.{ℕ, _+_, _*_}
-use Prim.Native.Char.{code}
 use Prim.Native.String.{String}
-use Prim.Native.String as S
 use mathlib.Core.List.{List, [], _∷_}
 use mathlib.Core.Bool.{Bool, true, false}
 use lib.ListN.{getD}
+use Rattle.alphabet.specs.Bytes.{ascii}
 use Rattle.alphabet.specs.Parts.{split}
 use Rattle.fields.specs.declared.table.Values.{Values}
 use Rattle.fields.specs.declared.table.Values.the-variants.{Processing, Version, Sex, ValueTypes, Statuses, Codes}
@@ -14,11 +13,6 @@ use Rattle.fields.specs.declared.table.Portion.the-variants.{Whole, Comp
 use Rattle.fields.specs.declared.table.Kind.{Kind}
 use Rattle.fields.specs.declared.table.Kind.the-variants.{Any, Identifier, Ts, Si, OneOf, AsField}
 use Rattle.fields.specs.declared.table.Row.{Row}
-
--- the bytes of an ASCII text
-abbrev pub ascii : String → List ℕ
-ascii S.[] = []
-ascii (S._∷_ c s) = code c ∷ ascii s
 
 -- the words of a text, which stand between its spaces
 abbrev pub words : String → List (List ℕ)

@@ -1,4 +1,3 @@
 pub mod SegmentLaws
 pub mod Accepted
-pub mod HeaderLaws
 pub mod Honest

@@ -17,7 +17,7 @@ use Rattle.text.specs.Unescape.{known, meaning, sequence, step, scan}
 use Rattle.text.specs.Answers.{fitting, escaping, unescaping, answer}
 use Rattle.value.specs.Numbers.{nmForm, unsigned, nmRead, nmCheck, nmValue}
 use Rattle.value.specs.Times.{figureAt, dateOf, clockOf, offsetOf, validDate, validClock, fractionForm, zoneForm, timeForm, isTime, timeRead}
-use Rattle.structure.proofs.Samples.{sample-10, sample-11, sample-12}
+use Rattle.samples.proofs.Structures.{sample-10, sample-11, sample-12}
 use Rattle.samples.specs.Table.{Row, Holds, All, ofText, ofNumbers, ofTimes, ofStates, ofStructures, samples}
 
 -- two parts of a table make one

@@ -1,14 +1,13 @@
 -- The starred samples of document 01, 'Samples', as one table. A row says what comes of some bytes; `Holds` says it by the definitions that the
 -- public contracts cite.
 use Prim.Native.Nat.{ℕ}
-use Prim.Native.Char.{code}
 use Prim.Native.String.{String}
-use Prim.Native.String as S
 use lib.IntN.{ℤ, pos, negℤ}
 use mathlib.Core.Path.{_≡_}
 use mathlib.Core.Bool.{Bool, true, false}
 use mathlib.Core.List.{List, [], _∷_, _++_, map}
 use lib.ListN.{length}
+use Rattle.alphabet.specs.Bytes.{ascii}
 use Rattle.alphabet.specs.Answers.{numberOf}
 use Rattle.alphabet.specs.declared.answers.Refusal.the-variants.{None}
 use Rattle.element.specs.Finding.{found}
@@ -21,11 +20,6 @@ use Rattle.text.specs.Answers.{escaping, unescaping, answer}
 use Rattle.structure.specs.SegmentNames.{name}
 use Rattle.structure.specs.Structures.{oruR01}
 use Rattle.structure.specs.Judged.{Judged, refusedAs}
-
--- the bytes of an ASCII text
-abbrev pub ascii : String → List ℕ
-ascii S.[] = []
-ascii (S._∷_ c s) = code c ∷ ascii s
 
 -- a row of the table
 pub data Row : Type 0 where

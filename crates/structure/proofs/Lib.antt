@@ -8,7 +8,6 @@ pub mod ListingLaws
 pub mod WalkLaws
 pub mod Telling
 pub mod OnlyOne
-pub mod Samples
 pub mod SegmentWalk
 pub mod NameLaws
 pub mod TableTest

@@ -6,9 +6,10 @@ use Prim.Native.Nat.{ℕ, _+_, _*_, _/_, _≤_, _<_}
 use native.Mathlib.Omega.{arith}
 use lib.ListN.{length, getD, drop, drop-of-length-le}
 use borrow.Author.Tests.{eq-eqb, ne-eqb}
+use Rattle.alphabet.specs.Bytes.{ascii}
 use Rattle.alphabet.specs.Lists.{same}
 use Rattle.alphabet.proofs.ListLaws.{drop-next}
-use Rattle.structure.specs.SegmentNames.{nameOf, ascii, among, passedOver}
+use Rattle.structure.specs.SegmentNames.{nameOf, among, passedOver}
 use Rattle.structure.specs.Structures.{admissionOf, chosen}
 use Rattle.structure.specs.declared.structures.Structure.{Structure}
 use Rattle.structure.specs.declared.structures.Structure.the-variants.{ObservationReport, Acknowledgement, Merge, Admission, Transfer, Unlisted}

@@ -6,12 +6,13 @@ use mathlib.Core.Path.{_≡_, refl}
 use mathlib.Core.List.{List, [], _∷_, _++_}
 use mathlib.Core.Bool.{cond, _&&_, _||_}
 use lib.Dec.{eqb}
+use Rattle.alphabet.specs.Bytes.{ascii}
 use Rattle.alphabet.specs.Lists.{same}
 use Rattle.element.specs.Finding.{rawBytes}
 use Rattle.element.specs.declared.address.Address.{Address}
 use Rattle.structure.specs.Shapes.{Shape}
 use Rattle.structure.specs.Shapes.Shape.{end, seg, opt, rep}
-use Rattle.structure.specs.SegmentNames.{ascii, name}
+use Rattle.structure.specs.SegmentNames.{name}
 use Rattle.structure.specs.declared.structures.Structure.{Structure}
 use Rattle.structure.specs.declared.structures.Structure.the-variants.{ObservationReport, Acknowledgement, Merge, Admission, Transfer, Unlisted}
 

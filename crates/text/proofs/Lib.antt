@@ -2,8 +2,3 @@ pub mod PieceLaws
 pub mod SequenceLaws
 pub mod OutcomeLaws
 pub mod StepLaws
-pub mod TableLaws
-pub mod RoundTrip
-pub mod Grammar
-pub mod Answers
-pub mod Clean

@@ -7,15 +7,15 @@ use native.Mathlib.Omega.{arith}
 use lib.Dec.{ltb, eqb}
 use lib.ListN.{length, getD, take}
 use borrow.Author.Tests.{ltb-true, ltb-false}
-use Rattle.alphabet.specs.Bytes.{between, hexDigit}
+use Rattle.alphabet.specs.Bytes.{fromTo, hexDigit}
 use Rattle.alphabet.specs.Lists.{first}
-use Rattle.alphabet.proofs.BoolLaws.{and-both, between-true, false-true}
+use Rattle.alphabet.proofs.BoolLaws.{and-both, from-to, false-true}
 use Rattle.alphabet.proofs.ListLaws.{first-before}
 use Rattle.turrethog.specs.Terminal.{plain, notPlain, inBraces, Visible}
 
 -- a byte before the first that is not plain
 pub run-visible : (l : List ℕ) (i : ℕ) → i < first notPlain l → Visible (getD l i 0)
-run-visible l i h = between-true 32 126 (getD l i 0) (and-both (between 32 126 (getD l i 0)) (not (eqb (getD l i 0) 123)) (at (plain (getD l i 0)) (first-before notPlain l i h)) .0)
+run-visible l i h = from-to 32 126 (getD l i 0) (and-both (fromTo 32 126 (getD l i 0)) (not (eqb (getD l i 0) 123)) (at (plain (getD l i 0)) (first-before notPlain l i h)) .0)
   where
     at : (t : Bool) → not t ≡ false → t ≡ true
     at true e = refl

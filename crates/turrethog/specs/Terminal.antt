@@ -3,11 +3,11 @@ use Prim.Native.Nat.{ℕ, _/_, _%_, _≤_}
 use mathlib.Core.List.{List, [], _∷_}
 use mathlib.Core.Bool.{Bool, not, _&&_}
 use lib.Dec.{eqb}
-use Rattle.alphabet.specs.Bytes.{between, hexDigit}
+use Rattle.alphabet.specs.Bytes.{fromTo, hexDigit}
 
 -- printable ASCII, but for the opening brace
 abbrev pub plain : ℕ → Bool
-plain b = between 32 126 b && not (eqb b 123)
+plain b = fromTo 32 126 b && not (eqb b 123)
 
 abbrev pub notPlain : ℕ → Bool
 notPlain b = not (plain b)

@@ -7,9 +7,9 @@ use native.Mathlib.Omega.{arith}
 use lib.Dec.{eqb}
 use lib.ListN.{length, drop}
 use borrow.Author.Tests.{eqb-true, eq-eqb, ne-eqb}
-use Rattle.alphabet.specs.Bytes.{between}
+use Rattle.alphabet.specs.Bytes.{fromTo}
 use Rattle.alphabet.specs.Digits.{allDigits}
-use Rattle.alphabet.proofs.BoolLaws.{and-both, between-true}
+use Rattle.alphabet.proofs.BoolLaws.{and-both, from-to}
 use Rattle.value.specs.Times.{dtLength, dateOf, validDate, isDt, validOffset, offsetOf, frontOf, tailOf, zoneOf, frontLength, toSeconds, fractionForm, zoneForm, timeForm, dateIn, clockOf, clockStart, validClock, isTime}
 
 -- ---- DT
@@ -34,7 +34,7 @@ unfolding fractionForm
 fraction-none seconds tail h = rw (eq-eqb (length tail) 0 h)
 
 pub fraction-some : (seconds : Bool) (tail : List ℕ) → (length tail ≡ 0 → ⊥)
-    → fractionForm seconds tail ≡ ((seconds && between 2 5 (length tail)) && allDigits (drop 1 tail))
+    → fractionForm seconds tail ≡ ((seconds && fromTo 2 5 (length tail)) && allDigits (drop 1 tail))
 unfolding fractionForm
 fraction-some seconds tail h = rw (ne-eqb (length tail) 0 h)
 
@@ -42,11 +42,11 @@ pub fraction-holds : (seconds : Bool) (tail : List ℕ) → fractionForm seconds
 unfolding fractionForm
 fraction-holds seconds tail e = at (eqb (length tail) 0) refl e
   where
-    at : (t : Bool) → eqb (length tail) 0 ≡ t → (t || ((seconds && between 2 5 (length tail)) && allDigits (drop 1 tail))) ≡ true → (allDigits (drop 1 tail) ≡ true) × (length tail ≤ 5)
+    at : (t : Bool) → eqb (length tail) 0 ≡ t → (t || ((seconds && fromTo 2 5 (length tail)) && allDigits (drop 1 tail))) ≡ true → (allDigits (drop 1 tail) ≡ true) × (length tail ≤ 5)
     at true q e = let h = eqb-true (length tail) 0 q in (none-digits tail h, omega arith)
     at false q e =
-        let b = and-both (seconds && between 2 5 (length tail)) (allDigits (drop 1 tail)) e in
-        (b .1, between-true 2 5 (length tail) (and-both seconds (between 2 5 (length tail)) (b .0) .1) .1)
+        let b = and-both (seconds && fromTo 2 5 (length tail)) (allDigits (drop 1 tail)) e in
+        (b .1, from-to 2 5 (length tail) (and-both seconds (fromTo 2 5 (length tail)) (b .0) .1) .1)
 
 -- ---- the zone
 

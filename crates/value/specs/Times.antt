@@ -4,7 +4,7 @@ use mathlib.Core.List.{List}
 use mathlib.Core.Bool.{Bool, true, false, cond, not, _&&_, _||_}
 use lib.Dec.{leb, eqb}
 use lib.ListN.{length, getD, take, drop}
-use Rattle.alphabet.specs.Bytes.{between}
+use Rattle.alphabet.specs.Bytes.{fromTo}
 use Rattle.alphabet.specs.Digits.{allDigits, decimal}
 use Rattle.alphabet.specs.Lists.{find}
 use Rattle.value.specs.Numbers.{whole}
@@ -56,7 +56,7 @@ offsetOf zone =
 
 abbrev pub inRange : ℕ → ℕ → Figure → Bool
 inRange least most NotSent = true
-inRange least most (Sent n) = between least most n
+inRange least most (Sent n) = fromTo least most n
 
 abbrev pub numberIn : Figure → ℕ
 numberIn NotSent = 0
@@ -126,7 +126,7 @@ clockStart false = 0
 
 -- a fraction stands behind seconds alone, and has one to four digits
 unfoldable pub fractionForm : Bool → List ℕ → Bool
-fractionForm seconds tail = eqb (length tail) 0 || ((seconds && between 2 5 (length tail)) && allDigits (drop 1 tail))
+fractionForm seconds tail = eqb (length tail) 0 || ((seconds && fromTo 2 5 (length tail)) && allDigits (drop 1 tail))
 
 unfoldable pub zoneForm : List ℕ → Bool
 zoneForm zone = eqb (length zone) 0 || ((eqb (length zone) 5 && allDigits (drop 1 zone)) && validOffset (offsetOf zone))

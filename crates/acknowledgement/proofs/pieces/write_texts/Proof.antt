@@ -5,9 +5,9 @@ use Prim.Native.Nat.{ℕ}
 use lib.ListN.{length}
 use borrow.Author.Needs.{needs}
 use denote.Ref.{now}
-use Rattle.alphabet.specs.Bytes.{carriageReturn}
+use Rattle.alphabet.specs.Bytes.{carriageReturn, ascii}
 use Rattle.text.specs.Answers.{answer, filled}
-use Rattle.acknowledgement.specs.Acknowledgement.{ascii, version, roomy}
+use Rattle.acknowledgement.specs.Acknowledgement.{version, roomy}
 use Rattle.acknowledgement.specs.Pieces.{together, pieces, texts}
 use Rattle.acknowledgement.proofs.pieces.write_texts.Statement.{statement}
 use Rattle.acknowledgement.proofs.pieces.write_texts.Tie as tie

@@ -8,11 +8,11 @@ use lib.ListN.{length}
 use native.Mathlib.Omega.{arith}
 use borrow.Author.Needs.{needs}
 use denote.Ref.{now}
-use Rattle.alphabet.specs.Bytes.{carriageReturn}
+use Rattle.alphabet.specs.Bytes.{carriageReturn, ascii}
 use Rattle.alphabet.specs.Lists.{find, same}
 use Rattle.alphabet.proofs.ListLaws.{first-le}
 use Rattle.reading.specs.Reading.{opening}
-use Rattle.acknowledgement.specs.Acknowledgement.{ascii, sent, typePart, present}
+use Rattle.acknowledgement.specs.Acknowledgement.{sent, typePart, present}
 use Rattle.acknowledgement.proofs.HeaderLaws.{no-return-no, unsound-no, sound-is}
 use Rattle.acknowledgement.proofs.sender.is_acknowledgeable.Statement.{statement}
 use Rattle.acknowledgement.proofs.sender.is_acknowledgeable.Tie as tie

@@ -3,7 +3,7 @@ use borrow.Author.Needs.{needs}
 use mathlib.Core.Path.{sym, ap, _∙_}
 use mathlib.Core.Bool.{Bool, _&&_}
 use lib.ListN.{length}
-use Rattle.alphabet.specs.Bytes.{between}
+use Rattle.alphabet.specs.Bytes.{fromTo}
 use Rattle.alphabet.specs.Digits.{allDigits}
 use Rattle.alphabet.proofs.ListLaws.{rest-of}
 use Rattle.value.proofs.TimeLaws.{fraction-none, fraction-some}
@@ -15,7 +15,7 @@ returns-2 : tie.Need-returns-2
 returns-2 c =
     let a = c .before .before .before .before .args in
     let l = now (a .tail) in
-    ap (λ (t : Bool). (a .seconds && between 2 5 (length l)) && t) (c .is-digits .ensures ∙ ap allDigits (rest-of l 1)) ∙ sym (fraction-some (a .seconds) l (c .before .before .if1 .left))
+    ap (λ (t : Bool). (a .seconds && fromTo 2 5 (length l)) && t) (c .is-digits .ensures ∙ ap allDigits (rest-of l 1)) ∙ sym (fraction-some (a .seconds) l (c .before .before .if1 .left))
 
 pub is-fraction-spec : {M : Type 1} → statement M
 is-fraction-spec =

@@ -1,14 +1,14 @@
 -- What holds of each byte of a list: of lists put together, of the parts at a separator, and of parts joined. Assumes nothing.
-use mathlib.Core.Path.{_≡_, refl, sym, ap, _∙_, subst}
+use mathlib.Core.Path.{_≡_, refl, sym, ap}
 use mathlib.Core.List.{List, [], _∷_, _++_}
 use mathlib.Core.Bool.{Bool, true, false, cond}
-use Prim.Native.Nat.{ℕ, zero, suc, _<_, _≤_}
+use Prim.Native.Nat.{ℕ, zero, suc, _<_}
 use native.Mathlib.Omega.{arith}
 use lib.Dec.{eqb}
-use lib.ListN.{length, getD, take, drop}
-use borrow.Author.Tests.{eqb-true, eqb-false, ne-eqb, eq-eqb}
+use lib.ListN.{length, getD, take}
+use borrow.Author.Tests.{eqb-false, ne-eqb}
 use Rattle.alphabet.specs.Lists.{first, find}
 use Rattle.alphabet.specs.Parts.{grown, split, join}
 
 -- P holds of each byte
 unfoldable pub Each : (ℕ → Type 0) → List ℕ → Type 0

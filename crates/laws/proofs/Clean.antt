@@ -1,44 +1,43 @@
 -- What escaping writes holds no separator and no byte that is not allowed; and the round trip as a user of the two functions meets it.
 -- Assumes nothing.
-use mathlib.Core.Path.{_≡_, refl, sym, ap, subst⁻¹, _∙_}
-use mathlib.Core.List.{List, [], _∷_, _++_}
+use mathlib.Core.Path.{_≡_, refl, ap, subst⁻¹, _∙_}
+use mathlib.Core.List.{List, [], _∷_}
 use mathlib.Core.Bool.{Bool, true, false, not, _||_}
-use Prim.Native.Nat.{ℕ, zero, suc, _/_, _%_, _≤_, _<_}
+use Prim.Native.Nat.{ℕ, suc, _/_, _%_, _≤_, _<_}
 use native.Mathlib.Omega.{arith}
 use lib.Dec.{ltb}
 use lib.ListN.{length, getD, take, drop}
 use lib.Seq.{take-append-seam}
 use borrow.Author.Tests.{le-leb, le-ltb, ltb-true, ltb-false}
-use Rattle.alphabet.proofs.BoolLaws.{and-both, between-true}
+use Rattle.alphabet.proofs.BoolLaws.{and-both, from-to}
 use Rattle.alphabet.proofs.DelimiterLaws.{delimiter-permitted}
-use Rattle.alphabet.proofs.EachLaws.{Each, each-append, each-at}
+use Rattle.laws.proofs.EachLaws.{Each, each-append, each-at}
 use Rattle.alphabet.specs.Lists.{find}
-use Rattle.alphabet.specs.Bytes.{between, printable, hexDigit, isNull}
+use Rattle.alphabet.specs.Bytes.{fromTo, printable, hexDigit, isNull}
 use Rattle.alphabet.specs.Delimiters.{punctuation, kept, permitted, wrongDelimiter}
 use Rattle.alphabet.specs.declared.answers.Refusal.the-variants.{None}
-use Rattle.alphabet.specs.declared.answers.Answer.{Answer}
 use Rattle.text.specs.Escape.{letters, escapeOf, escapeByte, escapeBytes, twoQuotes, escape}
 use Rattle.text.specs.Unescape.{Outcome, text}
 use Rattle.alphabet.specs.Filling.{over}
 use Rattle.text.specs.Answers.{fitting, escaping, unescaping, answer, filled}
 use Rattle.text.proofs.PieceLaws.{written-letter, written-plain, written-hex}
 use Rattle.text.proofs.OutcomeLaws.{escape-null, escape-other}
-use Rattle.text.proofs.TableLaws.{letter-back, digit-back, letter-printable, digit-printable}
-use Rattle.text.proofs.RoundTrip.{AreBytes, absent, round-trip}
+use Rattle.laws.proofs.EscapeTable.{letter-back, digit-back, letter-printable, digit-printable}
+use Rattle.laws.proofs.RoundTrip.{AreBytes, absent, round-trip}
 
 -- ---- a delimiter is printable
 
-within : (lo hi b : ℕ) → 32 ≤ lo → hi ≤ 126 → between lo hi b ≡ true → printable b ≡ true
+within : (lo hi b : ℕ) → 32 ≤ lo → hi ≤ 126 → fromTo lo hi b ≡ true → printable b ≡ true
 within lo hi b l h e =
-    let p = between-true lo hi b e in
+    let p = from-to lo hi b e in
     rw (le-leb 32 b (omega arith)) (rw (le-leb b 126 (omega arith)))
 
 pub permitted-printable : (b : ℕ) → permitted b ≡ true → printable b ≡ true
 permitted-printable b e =
-    at (between 33 47 b) refl (between 58 64 b) refl (between 91 96 b) refl (and-both (punctuation b) (not (kept b)) e .0)
+    at (fromTo 33 47 b) refl (fromTo 58 64 b) refl (fromTo 91 96 b) refl (and-both (punctuation b) (not (kept b)) e .0)
   where
-    at : (t : Bool) → between 33 47 b ≡ t → (u : Bool) → between 58 64 b ≡ u → (v : Bool) → between 91 96 b ≡ v
-        → (t || (u || (v || between 123 126 b))) ≡ true → printable b ≡ true
+    at : (t : Bool) → fromTo 33 47 b ≡ t → (u : Bool) → fromTo 58 64 b ≡ u → (v : Bool) → fromTo 91 96 b ≡ v
+        → (t || (u || (v || fromTo 123 126 b))) ≡ true → printable b ≡ true
     at true p u q v s k = within 33 47 b (omega arith) (omega arith) p
     at false p true q v s k = within 58 64 b (omega arith) (omega arith) q
     at false p false q true s k = within 91 96 b (omega arith) (omega arith) s

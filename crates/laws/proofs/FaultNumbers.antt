@@ -3,15 +3,15 @@ use mathlib.Core.Path.{_≡_, refl, ap}
 use mathlib.Core.Logic.{_⊎_, inl, inr}
 use mathlib.Core.Bool.{Bool, true, false, cond, not, _&&_}
 use mathlib.Core.List.{List, [], _∷_, map}
-use Prim.Native.Nat.{ℕ, _+_, _≤_}
+use Prim.Native.Nat.{ℕ, _+_}
 use native.Mathlib.Omega.{arith}
 use lib.Dec.{ltb, eqb}
 use lib.ListN.{length}
-use Rattle.alphabet.specs.Answers.{numberOf, failsIf, orElse, inOrder}
+use Rattle.alphabet.specs.Answers.{numberOf, failsIf, inOrder}
 use Rattle.alphabet.specs.Limits.{idLimit}
+use Rattle.alphabet.proofs.CheckLaws.{NumberFromTo, Numbered, numbered-if, numbered-or}
 use Rattle.alphabet.specs.declared.answers.Check.{Check}
 use Rattle.alphabet.specs.declared.answers.Check.the-variants.{Passes, Fails}
-use Rattle.alphabet.specs.declared.answers.Refusal.{Refusal}
 use Rattle.alphabet.specs.declared.answers.Refusal.the-variants.{None, RequiredMissing, BreaksForm, NotListed, RequiredNull, ValueWithoutType, Repeated, ValueTooLong}
 use Rattle.alphabet.specs.declared.parts.Part.{Part}
 use Rattle.reading.specs.Segments.{delimitersOf, segments}
@@ -21,51 +21,38 @@ use Rattle.element.specs.declared.states.State.the-variants.{Absent, Empty, Nul
 use Rattle.value.specs.Asked.{isPresent}
 use Rattle.value.specs.Numbers.{nmCheck, nmForm, nmDigits, mostDigits, isSi}
 use Rattle.value.specs.Times.{isDt, isTm, isTs}
 use Rattle.fields.specs.Table.{valuesOf}
 use Rattle.fields.specs.Rules.{member, formCheck, judgedPart, partState, placed, repetitionCheck, repetitionChecks, firstState, requiredCheck, repeatedCheck, saidCheck, isSaid, somePresent, kindOf, portionOf, rowCheck}
 use Rattle.fields.specs.Judging.{Fault, Sound, Faulty, nameAt, saidIn, repetitionsOf, located, orFault, firstFault, rowFault, segmentFault, segmentFaults, judging, faultAnswer}
 use Rattle.fields.specs.declared.table.Portion.{Portion}
 use Rattle.fields.specs.declared.table.Kind.{Kind}
 use Rattle.fields.specs.declared.table.Kind.the-variants.{Any, Identifier, Ts, Si, Nm, Dt, Tm, OneOf, AsField}
 use Rattle.fields.specs.declared.table.Row.{Row}
 
--- a number of the field judge's
-abbrev pub OfFields : Refusal → Type 0
-OfFields kind = (31 ≤ numberOf kind) × (numberOf kind ≤ 37)
-
--- a check that fails with such a number, if it fails
+-- a check that fails with a number of the field judge's, if it fails
 abbrev Told : Check → Type 0
-Told Passes = Unit {0}
-Told (Fails kind place) = OfFields kind
+Told c = Numbered 31 37 c
 
 abbrev AllTold : List Check → Type 0
 AllTold [] = Unit {0}
 AllTold (c ∷ later) = Told c × AllTold later
 
-or-told : (c d : Check) → Told c → Told d → Told (orElse c d)
-or-told Passes d p q = q
-or-told (Fails kind place) d p q = p
-
 order-told : (cs : List Check) → AllTold cs → Told (inOrder cs)
 order-told [] p = tt
-order-told (c ∷ later) p = or-told c (inOrder later) (p .0) (order-told later (p .1))
-
-fails-told : (t : Bool) (kind : Refusal) (place : ℕ) → OfFields kind → Told (failsIf t kind place)
-fails-told true kind place k = k
-fails-told false kind place k = tt
+order-told (c ∷ later) p = numbered-or 31 37 c (inOrder later) (p .0) (order-told later (p .1))
 
 form-told : (kind : Kind) (bytes : List ℕ) → Told (formCheck kind bytes)
 unfolding formCheck nmCheck
 form-told Any bytes = tt
-form-told Identifier bytes = fails-told (ltb idLimit (length bytes)) ValueTooLong 0 (omega arith, omega arith)
-form-told Ts bytes = fails-told (not (isTs bytes)) BreaksForm 0 (omega arith, omega arith)
-form-told Si bytes = fails-told (not (isSi bytes)) BreaksForm 0 (omega arith, omega arith)
+form-told Identifier bytes = numbered-if 31 37 (ltb idLimit (length bytes)) ValueTooLong 0 (omega arith, omega arith)
+form-told Ts bytes = numbered-if 31 37 (not (isTs bytes)) BreaksForm 0 (omega arith, omega arith)
+form-told Si bytes = numbered-if 31 37 (not (isSi bytes)) BreaksForm 0 (omega arith, omega arith)
 form-told Nm bytes =
-    or-told (failsIf (not (nmForm bytes)) BreaksForm 0) _ (fails-told (not (nmForm bytes)) BreaksForm 0 (omega arith, omega arith))
-    (or-told (failsIf (ltb mostDigits (length (nmDigits bytes))) ValueTooLong 0) Passes (fails-told (ltb mostDigits (length (nmDigits bytes))) ValueTooLong 0 (omega arith, omega arith)) tt)
-form-told Dt bytes = fails-told (not (isDt bytes)) BreaksForm 0 (omega arith, omega arith)
-form-told Tm bytes = fails-told (not (isTm bytes)) BreaksForm 0 (omega arith, omega arith)
-form-told (OneOf values) bytes = fails-told (not (member bytes (valuesOf values))) NotListed 0 (omega arith, omega arith)
+    numbered-or 31 37 (failsIf (not (nmForm bytes)) BreaksForm 0) _ (numbered-if 31 37 (not (nmForm bytes)) BreaksForm 0 (omega arith, omega arith))
+    (numbered-or 31 37 (failsIf (ltb mostDigits (length (nmDigits bytes))) ValueTooLong 0) Passes (numbered-if 31 37 (ltb mostDigits (length (nmDigits bytes))) ValueTooLong 0 (omega arith, omega arith)) tt)
+form-told Dt bytes = numbered-if 31 37 (not (isDt bytes)) BreaksForm 0 (omega arith, omega arith)
+form-told Tm bytes = numbered-if 31 37 (not (isTm bytes)) BreaksForm 0 (omega arith, omega arith)
+form-told (OneOf values) bytes = numbered-if 31 37 (not (member bytes (valuesOf values))) NotListed 0 (omega arith, omega arith)
 form-told (AsField f) bytes = tt
 
 placed-told : (number : ℕ) (c : Check) → Told c → Told (placed number c)
@@ -87,61 +74,61 @@ module _ (ds : List ℕ) where
   repetitions-told portion kind number (r ∷ rest) = (repetition-told portion kind number r, repetitions-told portion kind (number + 1) rest)
 
   required-told : (required : Bool) (s : State) → Told (requiredCheck required s)
-  required-told required Absent = fails-told required RequiredMissing 1 (omega arith, omega arith)
-  required-told required Empty = fails-told required RequiredMissing 1 (omega arith, omega arith)
-  required-told required Null = fails-told required RequiredNull 1 (omega arith, omega arith)
+  required-told required Absent = numbered-if 31 37 required RequiredMissing 1 (omega arith, omega arith)
+  required-told required Empty = numbered-if 31 37 required RequiredMissing 1 (omega arith, omega arith)
+  required-told required Null = numbered-if 31 37 required RequiredNull 1 (omega arith, omega arith)
   required-told required Present = tt
 
   row-told : (row : Row) (said : List ℕ) (rs : List (List ℕ)) → Told (rowCheck ds row said rs)
   unfolding rowCheck
   row-told row said rs =
-      or-told (requiredCheck (row .required) (firstState ds (row .portion) rs)) _ (required-told (row .required) (firstState ds (row .portion) rs))
-      (or-told (repeatedCheck (row .repeats) rs) _ (fails-told (not (row .repeats) && ltb 1 (length rs)) Repeated 1 (omega arith, omega arith))
-      (or-told (saidCheck ds (row .kind) said rs) _ (fails-told ((isSaid (row .kind) && not (isPresent (stateOf ds said))) && somePresent ds rs) ValueWithoutType 1 (omega arith, omega arith))
+      numbered-or 31 37 (requiredCheck (row .required) (firstState ds (row .portion) rs)) _ (required-told (row .required) (firstState ds (row .portion) rs))
+      (numbered-or 31 37 (repeatedCheck (row .repeats) rs) _ (numbered-if 31 37 (not (row .repeats) && ltb 1 (length rs)) Repeated 1 (omega arith, omega arith))
+      (numbered-or 31 37 (saidCheck ds (row .kind) said rs) _ (numbered-if 31 37 ((isSaid (row .kind) && not (isPresent (stateOf ds said))) && somePresent ds rs) ValueWithoutType 1 (omega arith, omega arith))
       (order-told (repetitionChecks ds (portionOf row said) (kindOf (row .kind) said) 1 rs) (repetitions-told (portionOf row said) (kindOf (row .kind) said) 1 rs))))
 
 -- ---- faults
 
-abbrev Numbered : Fault → Type 0
-Numbered Sound = Unit {0}
-Numbered (Faulty kind segment field repetition) = OfFields kind
+abbrev FaultNumbered : Fault → Type 0
+FaultNumbered Sound = Unit {0}
+FaultNumbered (Faulty kind segment field repetition) = NumberFromTo 31 37 kind
 
-or-numbered : (f g : Fault) → Numbered f → Numbered g → Numbered (orFault f g)
+or-numbered : (f g : Fault) → FaultNumbered f → FaultNumbered g → FaultNumbered (orFault f g)
 or-numbered Sound g p q = q
 or-numbered (Faulty kind segment field repetition) g p q = p
 
-located-numbered : (segment field : ℕ) (c : Check) → Told c → Numbered (located segment field c)
+located-numbered : (segment field : ℕ) (c : Check) → Told c → FaultNumbered (located segment field c)
 located-numbered segment field Passes p = tt
 located-numbered segment field (Fails kind place) p = p
 
 module _ (m : List ℕ) where
-  row-numbered : (number : ℕ) (part : Part) (s : List ℕ) (row : Row) → Numbered (rowFault m number part s row)
+  row-numbered : (number : ℕ) (part : Part) (s : List ℕ) (row : Row) → FaultNumbered (rowFault m number part s row)
   unfolding rowFault
   row-numbered number part s row = at (eqb (row .segment) (nameAt number s))
     where
-      at : (t : Bool) → Numbered (cond t (located number (row .field) (rowCheck (delimitersOf m) row (saidIn m number part (row .kind)) (repetitionsOf m number part (row .field)))) Sound)
+      at : (t : Bool) → FaultNumbered (cond t (located number (row .field) (rowCheck (delimitersOf m) row (saidIn m number part (row .kind)) (repetitionsOf m number part (row .field)))) Sound)
       at true = located-numbered number (row .field) (rowCheck (delimitersOf m) row (saidIn m number part (row .kind)) (repetitionsOf m number part (row .field))) (row-told (delimitersOf m) row (saidIn m number part (row .kind)) (repetitionsOf m number part (row .field)))
       at false = tt
 
-  rows-numbered : (number : ℕ) (part : Part) (s : List ℕ) (rs : List Row) → Numbered (firstFault (map (rowFault m number part s) rs))
+  rows-numbered : (number : ℕ) (part : Part) (s : List ℕ) (rs : List Row) → FaultNumbered (firstFault (map (rowFault m number part s) rs))
   unfolding firstFault
   rows-numbered number part s [] = tt
   rows-numbered number part s (row ∷ rest) = or-numbered (rowFault m number part s row) _ (row-numbered number part s row) (rows-numbered number part s rest)
 
-  segments-numbered : (rs : List Row) (number at : ℕ) (ss : List (List ℕ)) → Numbered (firstFault (segmentFaults rs m number at ss))
+  segments-numbered : (rs : List Row) (number at : ℕ) (ss : List (List ℕ)) → FaultNumbered (firstFault (segmentFaults rs m number at ss))
   unfolding firstFault segmentFaults
   segments-numbered rs number at [] = tt
   segments-numbered rs number at (s ∷ rest) = or-numbered (segmentFault rs m number at s) _ (rows-numbered number _ s rs) (segments-numbered rs (number + 1) (at + length s + 1) rest)
 
-  pub judging-numbered : (rs : List Row) → Numbered (judging rs m)
+  pub judging-numbered : (rs : List Row) → FaultNumbered (judging rs m)
   unfolding judging
   judging-numbered rs = segments-numbered rs 0 0 (segments m)
 
   -- the answer is 0, or one of 31 to 37
-  pub fields-number : (rs : List Row) → (numberOf (faultAnswer (judging rs m) .kind) ≡ 0) ⊎ OfFields (faultAnswer (judging rs m) .kind)
+  pub fields-number : (rs : List Row) → (numberOf (faultAnswer (judging rs m) .kind) ≡ 0) ⊎ NumberFromTo 31 37 (faultAnswer (judging rs m) .kind)
   fields-number rs = at (judging rs m) (judging-numbered rs)
     where
-      at : (f : Fault) → Numbered f → (numberOf (faultAnswer f .kind) ≡ 0) ⊎ OfFields (faultAnswer f .kind)
+      at : (f : Fault) → FaultNumbered f → (numberOf (faultAnswer f .kind) ≡ 0) ⊎ NumberFromTo 31 37 (faultAnswer f .kind)
       at Sound n = inl refl
       at (Faulty kind segment field repetition) n = inr n
 
@@ -149,6 +136,6 @@ module _ (m : List ℕ) where
   pub none-sound : (rs : List Row) → faultAnswer (judging rs m) .kind ≡ None → judging rs m ≡ Sound
   none-sound rs e = at (judging rs m) (judging-numbered rs) e
     where
-      at : (f : Fault) → Numbered f → faultAnswer f .kind ≡ None → f ≡ Sound
+      at : (f : Fault) → FaultNumbered f → faultAnswer f .kind ≡ None → f ≡ Sound
       at Sound n q = refl
       at (Faulty kind segment field repetition) n q = absurd (let z = ap numberOf q in omega (arith, n .0))

@@ -4,14 +4,14 @@ use mathlib.Core.List.{List, [], _∷_, _++_}
 use mathlib.Core.Bool.{Bool, true, false, cond, _&&_}
 use Prim.Native.Nat.{ℕ, _+_, _-_, _*_, _≤_}
 use lib.IntN.{pos}
-use Rattle.alphabet.specs.Bytes.{between}
+use Rattle.alphabet.specs.Bytes.{fromTo}
 use Rattle.alphabet.specs.Digits.{counted, decimal}
-use Rattle.alphabet.proofs.BoolLaws.{and-both, between-true}
+use Rattle.alphabet.proofs.BoolLaws.{and-both, from-to}
 use Rattle.alphabet.proofs.DigitLaws.{counted-append}
 use Rattle.value.specs.Numbers.{signed}
 use Rattle.value.specs.Times.{inRange, numberIn, leap, daysIn, validDate}
-use Rattle.value.specs.declared.figures.Figure.the-variants.{NotSent, Sent}
+use Rattle.value.specs.declared.figures.Figure.the-variants.{Sent}
 use Rattle.value.specs.declared.figures.Date.{Date}
 
 -- ---- the calendar
 
@@ -20,20 +20,20 @@ pub day-exists : (d : Date) (n : ℕ) → validDate d ≡ true → d .day ≡ Se
 unfolding validDate
 day-exists d n e q =
     let b = and-both (inRange 1 12 (d .month)) _ (and-both (inRange 1 9999 (d .year)) _ e .1) .1 in
-    between-true 1 (daysIn (numberIn (d .year)) (numberIn (d .month))) n (ap (inRange 1 (daysIn (numberIn (d .year)) (numberIn (d .month)))) (sym q) ∙ b)
+    from-to 1 (daysIn (numberIn (d .year)) (numberIn (d .month))) n (ap (inRange 1 (daysIn (numberIn (d .year)) (numberIn (d .month)))) (sym q) ∙ b)
 
 pub month-exists : (d : Date) (n : ℕ) → validDate d ≡ true → d .month ≡ Sent n → (1 ≤ n) × (n ≤ 12)
 unfolding validDate
 month-exists d n e q =
     let b = and-both (inRange 1 12 (d .month)) _ (and-both (inRange 1 9999 (d .year)) _ e .1) .0 in
-    between-true 1 12 n (ap (inRange 1 12) (sym q) ∙ b)
+    from-to 1 12 n (ap (inRange 1 12) (sym q) ∙ b)
 
 -- 29 February exists exactly in the leap years of the Gregorian rule
-pub leap-day : (year : ℕ) → validDate (record { year = Sent year; month = Sent 2; day = Sent 29 }) ≡ (between 1 9999 year && leap year)
+pub leap-day : (year : ℕ) → validDate (record { year = Sent year; month = Sent 2; day = Sent 29 }) ≡ (fromTo 1 9999 year && leap year)
 unfolding validDate
-leap-day year = ap (λ (t : Bool). between 1 9999 year && t) (at (leap year))
+leap-day year = ap (λ (t : Bool). fromTo 1 9999 year && t) (at (leap year))
   where
-    at : (t : Bool) → between 1 (cond t 29 28) 29 ≡ t
+    at : (t : Bool) → fromTo 1 (cond t 29 28) 29 ≡ t
     at true = refl
     at false = refl
 

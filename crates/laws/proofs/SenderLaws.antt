@@ -12,13 +12,13 @@ use Rattle.alphabet.specs.Lists.{find}
 use Rattle.alphabet.specs.Parts.{split}
 use Rattle.alphabet.proofs.BoolLaws.{false-true}
 use Rattle.alphabet.proofs.DelimiterLaws.{delimiter-permitted, delimiters-differ}
-use Rattle.alphabet.proofs.EachLaws.{Each, Every, at-each, each-take, each-both, each-weaken, each-split, split-each, every-at}
+use Rattle.laws.proofs.EachLaws.{Each, Every, at-each, each-take, each-both, each-weaken, each-split, split-each, every-at}
 use Rattle.alphabet.proofs.PartLaws.{split-step}
 use Rattle.reading.specs.Segments.{allButLast, segments, delimitersOf, fieldSeparator}
 use Rattle.reading.specs.Message.{Opened}
-use Rattle.element.proofs.RawLaws.{raw-header, raw-component}
-use Rattle.text.proofs.Clean.{permitted-printable}
+use Rattle.laws.proofs.RawLaws.{raw-header, raw-component}
+use Rattle.laws.proofs.Clean.{permitted-printable}
 use Rattle.acknowledgement.specs.Acknowledgement.{sent, typePart}
 
 abbrev pub Printable : ℕ → Type 0
 Printable b = printable b ≡ true

@@ -7,16 +7,16 @@ use native.Mathlib.Omega.{arith}
 use lib.Dec.{eqb}
 use lib.ListN.{length, getD}
 use borrow.Author.Tests.{eq-eqb, le-leb, lt-leb}
-use Rattle.alphabet.specs.Bytes.{carriageReturn, printable, allowed, digit}
+use Rattle.alphabet.specs.Bytes.{carriageReturn, printable, allowed, digit, ascii}
 use Rattle.alphabet.specs.Delimiters.{permitted, wrongDelimiter}
 use Rattle.alphabet.specs.Limits.{messageLimit}
 use Rattle.alphabet.specs.Lists.{find, same}
 use Rattle.alphabet.specs.Parts.{split, join}
 use Rattle.alphabet.specs.declared.answers.Check.the-variants.{Passes}
-use Rattle.alphabet.proofs.BoolLaws.{false-true, between-true}
+use Rattle.alphabet.proofs.BoolLaws.{false-true, from-to}
 use Rattle.alphabet.proofs.DelimiterLaws.{delimiter-own}
 use Rattle.alphabet.proofs.LimitLaws.{segment-limit-two}
-use Rattle.alphabet.proofs.EachLaws.{Each, Every, each-append, each-at, at-each, each-weaken, each-join, every-weaken, each-free, every-at}
+use Rattle.laws.proofs.EachLaws.{Each, Every, each-append, each-at, at-each, each-weaken, each-join, every-weaken, each-free, every-at}
 use Rattle.alphabet.proofs.PartLaws.{split-join, split-cons, split-last}
 use Rattle.reading.specs.Segments.{segments, delimitersOf, fieldSeparator, named, isHeader}
 use Rattle.reading.specs.Reading.{reading}
@@ -24,12 +24,12 @@ use Rattle.reading.specs.Message.{ended, Opened, Message}
 use Rattle.reading.proofs.SegmentLaws.{segments-ended}
 use Rattle.reading.proofs.Accepted.{accepting}
 use Rattle.element.specs.Finding.{rawBytes}
-use Rattle.element.proofs.RawLaws.{raw-header, raw-other, raw-component}
+use Rattle.laws.proofs.RawLaws.{raw-header, raw-other, raw-component}
 use Rattle.value.specs.Times.{isTs}
-use Rattle.value.proofs.TimeBytes.{time-each}
+use Rattle.laws.proofs.TimeBytes.{time-each}
 use Rattle.text.specs.Escape.{escape}
-use Rattle.text.proofs.RoundTrip.{AreBytes}
-use Rattle.text.proofs.Clean.{MayStand, never-separator}
+use Rattle.laws.proofs.RoundTrip.{AreBytes}
+use Rattle.laws.proofs.Clean.{MayStand, never-separator}
 use Rattle.alphabet.specs.declared.answers.Refusal.the-variants.{None}
 use Rattle.structure.specs.Shapes.{Yields, names}
 use Rattle.structure.specs.Shapes.Spans.{stand, skip, ended as ended-shape}
@@ -38,10 +38,10 @@ use Rattle.structure.specs.Structures.{ack, typeAddress, structureOf, grammarOf
 use Rattle.structure.specs.Judged.{plain, Judged, accepted, by, Answers, read}
 use Rattle.structure.specs.declared.structures.Structure.the-variants.{Acknowledgement}
 use Rattle.structure.proofs.NameLaws.{is-acknowledgement}
-use Rattle.acknowledgement.specs.Acknowledgement.{ascii, fieldAddress, sent, typePart, present, encoding, typeSent, headerParts, lettersOf, answerParts, acknowledgement}
+use Rattle.acknowledgement.specs.Acknowledgement.{fieldAddress, sent, typePart, present, encoding, typeSent, headerParts, lettersOf, answerParts, acknowledgement}
 use Rattle.acknowledgement.specs.declared.letters.Code.{Code}
 use Rattle.acknowledgement.specs.declared.letters.Code.the-variants.{Accept, Error}
-use Rattle.acknowledgement.proofs.SenderLaws.{Printable, Not, Clean, field-clean, event-clean, delimiter-printable, delimiters-apart, no-delimiter, sign-clean}
+use Rattle.laws.proofs.SenderLaws.{Printable, Not, Clean, field-clean, event-clean, delimiter-printable, delimiters-apart, no-delimiter, sign-clean}
 
 or-true : (t : Bool) → (t || true) ≡ true
 or-true true = refl
@@ -80,7 +80,7 @@ module _ (h : List ℕ) (o : Opened h) (one : find carriageReturn h + 1 ≡ leng
 
   digit-fine : (b : ℕ) → digit b ≡ true → Fine b
   digit-fine b e =
-      let d = between-true 48 57 b e in
+      let d = from-to 48 57 b e in
       let p : Printable b = rw (le-leb 32 b (omega arith)) (rw (le-leb b 126 (omega arith))) in
       let f : permitted b ≡ false =
       rw (le-leb 33 b (omega arith), lt-leb b 47 (omega arith)) (rw (lt-leb 58 b (omega arith), lt-leb 91 b (omega arith), lt-leb 123 b (omega arith))) in

@@ -17,13 +17,13 @@ use Rattle.alphabet.specs.Bytes.{printable, isNull}
 use Rattle.alphabet.specs.Delimiters.{wrongDelimiter}
 use Rattle.alphabet.specs.declared.answers.Refusal.{Refusal}
 use Rattle.alphabet.specs.declared.answers.Refusal.the-variants.{NotAllowed, Separator, UnknownEscape, UnclosedEscape}
 use Rattle.text.specs.Escape.{escapeOf, escape}
 use Rattle.text.specs.Unescape.{known, meaning, Outcome, text, fault, before, scan}
 use Rattle.text.specs.Answers.{unescaping}
 use Rattle.text.specs.Reads.{Reads, done, plain, escaped, Stops, forbidden, separator, unknown, unclosed, Refuses, Unescapes, delimiter, null, refused, long, written}
 use Rattle.text.proofs.StepLaws.{step-unknown, step-unclosed, step-forbidden, step-separator, step-plain, scan-emit, scan-stop, before-before, before-none}
 use Rattle.text.proofs.OutcomeLaws.{unescaping-bad, unescaping-null, unescaping-fault, unescaping-fits, unescaping-long}
-use Rattle.text.proofs.RoundTrip.{AreBytes, sequence-back, scan-back}
+use Rattle.laws.proofs.RoundTrip.{AreBytes, sequence-back, scan-back}
 
 -- ---- from the grammar to the scan
 

@@ -1,7 +1,7 @@
 -- The raw bytes at an address, as parts of the split: a field of a segment, and a component of its first repetition. Assumes nothing.
 use mathlib.Core.Path.{_≡_, refl, sym, ap, _∙_}
-use mathlib.Core.List.{List, [], _∷_}
-use Prim.Native.Nat.{ℕ, zero, suc, _+_, _-_, _≤_, _<_}
+use mathlib.Core.List.{List, []}
+use Prim.Native.Nat.{ℕ, zero, suc, _-_, _≤_}
 use native.Mathlib.Omega.{arith}
 use lib.ListN.{length, getD, List·getD-eq-default}
 use borrow.Author.Tests.{le-leb, lt-leb, ne-eqb}
@@ -10,11 +10,11 @@ use Rattle.alphabet.specs.declared.parts.Part.{Part}
 use Rattle.alphabet.specs.declared.parts.Part.the-variants.{At, Absent}
 use Rattle.reading.specs.Segments.{delimitersOf, fieldSeparator, segments, segmentAt}
 use Rattle.reading.proofs.SegmentLaws.{segment-bytes, segment-past}
 use Rattle.element.specs.Levels.{between, Within, partIn, fieldIn, below, repetitionAt, componentAt, elementAt}
 use Rattle.element.specs.Finding.{partBytes, rawBytes}
 use Rattle.element.specs.declared.address.Address.{Address}
 use Rattle.element.proofs.LevelLaws.{within-segment, within-field, within-in, field-header, field-other}
-use Rattle.element.proofs.ElementLaws.{part-means, absent-means}
+use Rattle.laws.proofs.ElementLaws.{part-means, absent-means}
 
 -- a part's part, by its bytes
 pub part-in-bytes : (sep : ℕ) (m : List ℕ) (p : Part) (k : ℕ) → Within m p → partBytes m (partIn sep m p k) ≡ getD (split sep (partBytes m p)) k []

@@ -1,7 +1,7 @@
 -- What is promised of elements: each lies inside its segment, absent means past the last part, which bytes each state means, and the whole of a
 -- level with one part is that part. Assumes nothing.
 use mathlib.Core.Path.{_≡_, refl, sym, ap, subst, _∙_}
-use mathlib.Core.List.{List, [], _∷_}
+use mathlib.Core.List.{List, []}
 use mathlib.Core.Bool.{Bool, true, false, not, cond}
 use Prim.Native.Nat.{ℕ, _+_, _-_, _≤_, _<_}
 use native.Mathlib.Omega.{arith}
@@ -18,15 +18,16 @@ use Rattle.alphabet.proofs.NullLaws.{two-quotes, not-quotes}
 use Rattle.alphabet.proofs.ListLaws.{piece-of-piece, first-before, first-none}
 use Rattle.alphabet.proofs.PartLaws.{part-bytes, standing-first, standing-absent, absent-past}
 use Rattle.reading.specs.Segments.{fieldSeparator, segmentAt}
 use Rattle.element.specs.States.{blank, isEmpty, stateOf}
 use Rattle.element.specs.Levels.{between, Within, moved, partIn, fieldIn, below, repetitionAt, componentAt, elementAt}
 use Rattle.element.specs.declared.address.Address.{Address}
 use Rattle.element.specs.declared.states.State.{State}
 use Rattle.element.specs.declared.states.State.the-variants.{Empty, Null, Present}
 use Rattle.reading.specs.Message.{Message}
-use Rattle.reading.proofs.HeaderLaws.{first-segment}
+use Rattle.laws.specs.Means.{Means, null, empty, present}
+use Rattle.laws.proofs.HeaderLaws.{first-segment}
 use Rattle.element.proofs.LevelLaws.{between-length, in-absent, within-segment, within-field, within-below}
 use Rattle.element.proofs.StateLaws.{state-null, state-empty, state-present}
 
 -- ---- the states and their bytes
 
@@ -40,12 +41,7 @@ blank-all : (ds bytes : List ℕ) → ((i : ℕ) → i < length bytes → blank 
 blank-all ds bytes h =
     eq-eqb (first (λ (b : ℕ). not (blank ds b)) bytes) (length bytes) (first-none (λ (b : ℕ). not (blank ds b)) bytes (λ i k. ap not (h i k)))
 
--- what each state says of the bytes of an element that is there: exactly one of the three
-pub data Means (ds bytes : List ℕ) : State → Type 0 where
-  null : bytes ≡ 34 ∷ 34 ∷ [] → Means ds bytes Null
-  empty : (bytes ≡ 34 ∷ 34 ∷ [] → ⊥) → ((i : ℕ) → i < length bytes → blank ds (getD bytes i 0) ≡ true) → Means ds bytes Empty
-  present : (bytes ≡ 34 ∷ 34 ∷ [] → ⊥) → (((i : ℕ) → i < length bytes → blank ds (getD bytes i 0) ≡ true) → ⊥) → Means ds bytes Present
-
+-- each state means what it should of the bytes
 pub state-means : (ds bytes : List ℕ) → Means ds bytes (stateOf ds bytes)
 state-means ds bytes = at (isNull bytes) refl (isEmpty ds bytes) refl
   where

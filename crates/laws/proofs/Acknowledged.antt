@@ -11,7 +11,7 @@ use lib.Dec.{eqb, leb}
 use lib.ListN.{length, getD, take}
 use lib.Seq.{getD-take, take-take, length-take-le}
 use borrow.Author.Tests.{leb-true, leb-false, eqb-true, eq-eqb, lt-ltb, le-leb}
-use Rattle.alphabet.specs.Bytes.{carriageReturn, allowed}
+use Rattle.alphabet.specs.Bytes.{carriageReturn, allowed, ascii}
 use Rattle.alphabet.specs.Delimiters.{permitted, wrongDelimiter}
 use Rattle.alphabet.proofs.BoolLaws.{false-true, and-both}
 use Rattle.alphabet.proofs.DelimiterLaws.{delimiter-permitted}
@@ -30,25 +30,25 @@ use Rattle.reading.proofs.Accepted.{accepted as accepted-message}
 use Rattle.reading.proofs.SegmentLaws.{segments-walk}
 use Rattle.element.specs.Finding.{rawBytes}
 use Rattle.element.specs.declared.address.Address.{Address}
-use Rattle.element.proofs.RawLaws.{raw-header, raw-component}
+use Rattle.laws.proofs.RawLaws.{raw-header, raw-component}
 use Rattle.value.specs.Times.{isTs}
 use Rattle.text.specs.Unescape.{text}
 use Rattle.text.specs.Answers.{fitting, unescaping}
-use Rattle.text.proofs.RoundTrip.{AreBytes, round-trip}
+use Rattle.laws.proofs.RoundTrip.{AreBytes, round-trip}
 use Rattle.element.specs.States.{stateOf}
 use Rattle.element.specs.declared.states.State.the-variants.{Present}
 use Rattle.fields.specs.Table.{rows}
-use Rattle.fields.proofs.Honest.{none-sound}
-use Rattle.fields.proofs.ControlId.{control-id}
+use Rattle.laws.proofs.FaultNumbers.{none-sound}
+use Rattle.laws.proofs.ControlId.{control-id}
 use Rattle.structure.specs.Judged.{plain, Answers}
 use Rattle.verdict.specs.Verdicts.{Accepts}
-use Rattle.acknowledgement.specs.Acknowledgement.{ascii, header, fieldAddress, sent, typePart, lettersOf, acknowledgement, badId, acknowledgeable, Coded, Acknowledges}
+use Rattle.acknowledgement.specs.Acknowledgement.{header, fieldAddress, sent, typePart, lettersOf, acknowledgement, badId, acknowledgeable, Coded, Acknowledges}
 use Rattle.acknowledgement.specs.Acknowledgement.Coded.{accepted, refused}
 use Rattle.acknowledgement.specs.declared.letters.Code.{Code}
 use Rattle.acknowledgement.proofs.HeaderLaws.{nothing-against, return-inside, header-find, header-ends, sound-header}
-use Rattle.acknowledgement.proofs.SenderLaws.{segments-header}
-use Rattle.acknowledgement.proofs.WrittenLaws as W
+use Rattle.laws.proofs.SenderLaws.{segments-header}
+use Rattle.laws.proofs.WrittenLaws as W
 use Rattle.acknowledgement.proofs.AnswerLaws.{Writes, zero-writes, nine-unacknowledgeable}
 
 -- ---- the header's fields are the message's
 

@@ -1,19 +1,19 @@
 -- The bytes of a time are digits, signs and points, and nothing else. Assumes nothing.
-use mathlib.Core.Path.{_≡_, refl, sym, ap, _∙_, subst}
-use mathlib.Core.Bool.{Bool, true, _&&_}
+use mathlib.Core.Path.{_≡_, sym, ap, _∙_, subst}
+use mathlib.Core.Bool.{Bool, true}
 use mathlib.Core.List.{List, [], _∷_}
-use Prim.Native.Nat.{ℕ, _+_, _-_, _≤_, _<_, min}
+use Prim.Native.Nat.{ℕ, _-_, _≤_, _<_, min}
 use native.Mathlib.Decide.{decLt}
 use native.Mathlib.Omega.{arith}
-use lib.ListN.{length, getD, take, drop, length-drop, take-append-drop}
+use lib.ListN.{length, getD, drop, length-drop, take-append-drop}
 use Rattle.alphabet.specs.Bytes.{digit}
 use Rattle.alphabet.specs.Digits.{allDigits}
 use Rattle.alphabet.specs.Lists.{find}
 use Rattle.alphabet.proofs.BoolLaws.{and-both}
 use Rattle.alphabet.proofs.ListLaws.{drop-next, find-is}
-use Rattle.alphabet.proofs.EachLaws.{Each, each-append}
+use Rattle.laws.proofs.EachLaws.{Each, each-append}
 use Rattle.value.specs.Times.{bodyOf, zoneOf, frontOf, tailOf, isTime}
 use Rattle.value.proofs.TimeLaws.{time-formed, front-digits, tail-holds, zone-held}
 
 module _ (P : ℕ → Type 0) (digits : (b : ℕ) → digit b ≡ true → P b) where
   digits-each : (l : List ℕ) → allDigits l ≡ true → Each P l

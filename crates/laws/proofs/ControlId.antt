@@ -1,19 +1,19 @@
 -- A message in which the field judge finds nothing has a control ID: MSH-10, the whole field, is present and not too long. Assumes nothing.
 use mathlib.Core.Path.{_≡_, refl, sym, ap, _∙_, subst}
-use mathlib.Core.Bool.{Bool, true, false, cond, not}
+use mathlib.Core.Bool.{true, false, cond}
 use mathlib.Core.List.{List, [], _∷_, map}
 use Prim.Native.Nat.{ℕ, _+_, _≤_}
 use native.Mathlib.Omega.{arith}
 use lib.Dec.{ltb}
 use lib.ListN.{length, getD, drop}
 use borrow.Author.Tests.{ltb-false}
-use Rattle.alphabet.specs.Answers.{failsIf, orElse, inOrder}
+use Rattle.alphabet.specs.Answers.{failsIf, inOrder}
 use Rattle.alphabet.specs.Limits.{idLimit}
+use Rattle.alphabet.proofs.CheckLaws.{both-pass, passes-not}
 use Rattle.alphabet.specs.Parts.{join, standing}
 use Rattle.alphabet.proofs.PartLaws.{join-split}
 use Rattle.alphabet.specs.declared.answers.Check.{Check}
 use Rattle.alphabet.specs.declared.answers.Check.the-variants.{Passes, Fails}
-use Rattle.alphabet.specs.declared.answers.Refusal.{Refusal}
 use Rattle.alphabet.specs.declared.answers.Refusal.the-variants.{Repeated, ValueTooLong}
 use Rattle.alphabet.specs.declared.parts.Part.{Part}
 use Rattle.alphabet.specs.declared.parts.Part.the-variants.{At, Absent}
@@ -23,14 +23,14 @@ use Rattle.element.specs.Levels.{fieldIn, between}
 use Rattle.element.specs.States.{stateOf}
 use Rattle.element.specs.declared.states.State.{State}
 use Rattle.element.specs.declared.states.State.the-variants.{Absent as no-part, Empty, Null, Present}
-use Rattle.element.proofs.RawLaws.{raw-whole}
+use Rattle.laws.proofs.RawLaws.{raw-whole}
 use Rattle.value.specs.Asked.{isPresent}
 use Rattle.fields.specs.Table.{row, rows, noRow, R, no}
 use Rattle.fields.specs.Rules.{formCheck, judgedPart, placed, repetitionCheck, repetitionChecks, firstState, requiredCheck, repeatedCheck, saidCheck, rowCheck}
 use Rattle.fields.specs.Judging.{Fault, Sound, Faulty, repetitionsIn, repetitionsOf, located, orFault, firstFault, rowFault, segmentFault, segmentFaults, judging}
 use Rattle.fields.specs.declared.table.Portion.the-variants.{Whole}
 use Rattle.fields.specs.declared.table.Kind.the-variants.{Identifier}
 use Rattle.fields.specs.declared.table.Row.{Row}
 
 -- where nothing is found in all, nothing is found in each
 or-sound : (f g : Fault) → orFault f g ≡ Sound → (f ≡ Sound) × (g ≡ Sound)
@@ -40,14 +40,6 @@ or-sound (Faulty kind segment field repetition) g e = absurd (let z : _≡_ {A =
 located-sound : (segment field : ℕ) (c : Check) → located segment field c ≡ Sound → c ≡ Passes
 located-sound segment field Passes e = refl
 located-sound segment field (Fails kind place) e = absurd (let z : _≡_ {A = ℕ} 0 1 = cc in omega arith)
-
-or-passes : (c d : Check) → orElse c d ≡ Passes → (c ≡ Passes) × (d ≡ Passes)
-or-passes Passes d e = (refl, e)
-or-passes (Fails kind place) d e = absurd (let z : _≡_ {A = ℕ} 0 1 = cc in omega arith)
-
-fails-passes : (t : Bool) (kind : Refusal) (place : ℕ) → failsIf t kind place ≡ Passes → t ≡ false
-fails-passes true kind place e = absurd (let z : _≡_ {A = ℕ} 0 1 = cc in omega arith)
-fails-passes false kind place e = refl
 
 placed-passes : (number : ℕ) (c : Check) → placed number c ≡ Passes → c ≡ Passes
 placed-passes number Passes e = refl
@@ -75,21 +67,21 @@ short-id : (ds r : List ℕ) → stateOf ds r ≡ Present → repetitionCheck ds
 unfolding repetitionCheck formCheck judgedPart
 short-id ds r p e =
     let f : placed 1 (failsIf (ltb idLimit (length r)) ValueTooLong 0) ≡ Passes = sym (ap (λ (s : State). cond (isPresent s) (placed 1 (failsIf (ltb idLimit (length r)) ValueTooLong 0)) Passes) p) ∙ e in
-    ltb-false idLimit (length r) (fails-passes (ltb idLimit (length r)) ValueTooLong 0 (placed-passes 1 (failsIf (ltb idLimit (length r)) ValueTooLong 0) f))
+    ltb-false idLimit (length r) (passes-not (ltb idLimit (length r)) ValueTooLong 0 (placed-passes 1 (failsIf (ltb idLimit (length r)) ValueTooLong 0) f))
 
 one-of : (ds : List ℕ) (rs : List (List ℕ)) → firstState ds Whole rs ≡ Present → length rs ≤ 1 → inOrder (repetitionChecks ds Whole Identifier 1 rs) ≡ Passes → One ds rs
 unfolding repetitionChecks judgedPart
 one-of ds [] p l f = absurd (let z : _≡_ {A = ℕ} 0 1 = cc in omega arith)
-one-of ds (r ∷ []) p l f = record { bytes = r; alone = refl; present = p; short = short-id ds r p (or-passes (repetitionCheck ds Whole Identifier 1 r) Passes f .0) }
+one-of ds (r ∷ []) p l f = record { bytes = r; alone = refl; present = p; short = short-id ds r p (both-pass (repetitionCheck ds Whole Identifier 1 r) Passes f .0) }
 one-of ds (r ∷ q ∷ rest) p l f = absurd (omega arith)
 
 one : (ds : List ℕ) (rs : List (List ℕ)) → rowCheck ds control [] rs ≡ Passes → One ds rs
 unfolding rowCheck
 one ds rs e =
-    let a = or-passes (requiredCheck true (firstState ds Whole rs)) _ e in
-    let b = or-passes (repeatedCheck false rs) _ (a .1) in
-    let c = or-passes (saidCheck ds Identifier [] rs) (inOrder (repetitionChecks ds Whole Identifier 1 rs)) (b .1) in
-    one-of ds rs (required-present (firstState ds Whole rs) (a .0)) (ltb-false 1 (length rs) (fails-passes (ltb 1 (length rs)) Repeated 1 (b .0))) (c .1)
+    let a = both-pass (requiredCheck true (firstState ds Whole rs)) _ e in
+    let b = both-pass (repeatedCheck false rs) _ (a .1) in
+    let c = both-pass (saidCheck ds Identifier [] rs) (inOrder (repetitionChecks ds Whole Identifier 1 rs)) (b .1) in
+    one-of ds rs (required-present (firstState ds Whole rs) (a .0)) (ltb-false 1 (length rs) (passes-not (ltb 1 (length rs)) Repeated 1 (b .0))) (c .1)
 
 -- ---- the message
 

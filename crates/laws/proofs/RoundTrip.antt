@@ -15,14 +15,14 @@ use Rattle.alphabet.proofs.NullLaws.{two-quotes}
 use Rattle.alphabet.specs.Lists.{first, find}
 use Rattle.alphabet.specs.Bytes.{printable, hexOf, hexDigit, isNull}
 use Rattle.alphabet.specs.Delimiters.{permitted, wrongDelimiter}
 use Rattle.text.specs.Escape.{letters, escapeOf, escapeByte, escapeBytes, twoQuotes, escape}
 use Rattle.alphabet.specs.Hex.{allHex, pairsOf}
 use Rattle.text.specs.Unescape.{known, meaning, text, before, scan}
 use Rattle.text.specs.Answers.{fitting, unescaping}
 use Rattle.text.proofs.PieceLaws.{written-letter, written-plain, written-hex}
 use Rattle.text.proofs.OutcomeLaws.{escape-null, escape-other}
 use Rattle.text.proofs.StepLaws.{step-known, step-plain, scan-emit, scan-skip}
-use Rattle.text.proofs.TableLaws.{letter-back, digit-back, escape-not}
+use Rattle.laws.proofs.EscapeTable.{letter-back, digit-back, escape-not}
 
 find-other : (b x : ℕ) (r : List ℕ) → (b ≡ x → ⊥) → find b (x ∷ r) ≡ suc (find b r)
 unfolding first

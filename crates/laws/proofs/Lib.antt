@@ -1,0 +1,17 @@
+pub mod EachLaws
+pub mod HeaderLaws
+pub mod ElementLaws
+pub mod RawLaws
+pub mod ValueLaws
+pub mod TimeBytes
+pub mod OneSpelling
+pub mod EscapeTable
+pub mod RoundTrip
+pub mod Clean
+pub mod Grammar
+pub mod FaultNumbers
+pub mod Agreement
+pub mod ControlId
+pub mod SenderLaws
+pub mod WrittenLaws
+pub mod Acknowledged

@@ -1,0 +1,63 @@
+-- Demand 3: "The structure judge accepts exactly when the grammar listed for the type can yield the segment names, Z segments it doesn't name taken out.
+-- Its refusal points to the first segment that, with those before it, begins no acceptable message, or to the end where only more are missing, and
+-- lists exactly the names that could have stood there." Assumes nothing.
+use mathlib.Core.Path.{_≡_, refl, subst, ap, _∙_}
+use mathlib.Core.Logic.{_↔_}
+use mathlib.Core.List.{List}
+use Prim.Native.Nat.{ℕ}
+use native.Mathlib.Omega.{arith}
+use Rattle.alphabet.specs.declared.answers.Check.the-variants.{Passes}
+use Rattle.alphabet.specs.declared.answers.Refusal.the-variants.{None}
+use Rattle.reading.specs.Reading.{reading}
+use Rattle.structure.specs.Shapes.{Shape, Yields, names}
+use Rattle.structure.specs.SegmentNames.{segmentNames, kept}
+use Rattle.structure.specs.Structures.{listed, structureOf, grammarOf}
+use Rattle.structure.specs.Judged.{plain, Judged, no-structure, by, Answers, unread, read}
+use Rattle.structure.specs.Judged.Judged.{accepted as yielded, refused as not-yielded}
+use Rattle.structure.specs.declared.judging.Judgement.{Judgement}
+use Rattle.structure.proofs.OnlyOne.{only-one, goes-on, could-stand-is}
+use Rattle.structure.proofs.OnlyOne.{accepts-exactly as judged-exactly}
+use Rattle.fields.specs.Table.{rows}
+use Rattle.fields.specs.Judging.{faultAnswer, judging}
+use Rattle.verdict.specs.Verdicts.{ofStructure, ofFields, Verdicts}
+use Rattle.verdict.specs.Verdicts.Verdicts.{refused as by-structure, judged as by-fields}
+use Rattle.verdict.specs.declared.FaultRecord.{FaultRecord}
+use Rattle.promises.specs.Structures.{Exactly, accepted, refused}
+
+exactly : (s : Shape) (ns : List ℕ) {j : Judgement} → Judged s ns j → Exactly s ns j
+exactly s ns (yielded y) = accepted y
+exactly s ns (not-yielded place ends list r) =
+    refused (record {
+      not-yielded = r .not-yielded;
+      inside = r .within;
+      before = goes-on s ns place ends list r;
+      stuck = r .stuck;
+      kind = refl;
+      list = list;
+      given = refl;
+      could-stand = could-stand-is s ns place ends list r;
+      could-end = r .could-end;
+    })
+
+-- a message that was read, and whose type is listed with the structure s
+module _ (m : List ℕ) (s : Shape) (done : reading m ≡ Passes) (known : grammarOf (structureOf m) ≡ listed s) where
+  judged : {j : Judgement} → Answers m j → Judged s (segmentNames m) j
+  judged (unread kind place e) = absurd (let z : _≡_ {A = ℕ} 0 1 = cc in omega arith)
+  judged (read e (no-structure g)) = absurd (let z : _≡_ {A = ℕ} 0 1 = cc in omega arith)
+  judged {j} (read e (by t g k)) = let q : t ≡ s = cc in subst (λ (x : Shape). Judged x (segmentNames m) j) q k
+
+  -- exactly the grammar, exactly the place, exactly the list
+  pub structure-exactly : {j : Judgement} → Answers m j → Exactly s (segmentNames m) j
+  structure-exactly a = exactly s (segmentNames m) (judged a)
+
+  pub accepts-exactly : {j : Judgement} → Answers m j → (j ≡ plain None 0) ↔ Yields s (kept (names s) (segmentNames m))
+  accepts-exactly a = judged-exactly s (segmentNames m) (judged a)
+
+-- the verdict agrees: what the structure judge refuses it refuses with the same place, list and flag; where he accepts, the fields decide
+pub verdict-refuses : (m : List ℕ) {j : Judgement} {r : FaultRecord} → Answers m j → Verdicts m r → (j .kind ≡ None → ⊥) → r ≡ ofStructure j
+verdict-refuses m a (by-structure k b n) some = ap ofStructure (only-one m b a)
+verdict-refuses m a (by-fields k b n) some = absurd (some (ap (λ (x : Judgement). x .kind) (only-one m a b) ∙ n))
+
+pub verdict-goes-on : (m : List ℕ) {j : Judgement} {r : FaultRecord} → Answers m j → Verdicts m r → j .kind ≡ None → r ≡ ofFields (faultAnswer (judging rows m))
+verdict-goes-on m a (by-structure k b n) e = absurd (n (ap (λ (x : Judgement). x .kind) (only-one m b a) ∙ e))
+verdict-goes-on m a (by-fields k b n) e = refl

@@ -1,0 +1,6 @@
+pub mod Among
+pub mod TextNumbers
+pub mod Demand1
+pub mod Demand2
+pub mod Demand3
+pub mod NoSecondAnswer

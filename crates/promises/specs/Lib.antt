@@ -1,0 +1,4 @@
+pub mod Entries
+pub mod Elements
+pub mod Acknowledgements
+pub mod Structures

@@ -1,0 +1,35 @@
+-- What demand 3 says of a refusal by the structure judge: exactly the place, exactly the list.
+use Prim.Native.Nat.{ℕ, _+_, _≤_, _<_}
+use mathlib.Core.Path.{_≡_}
+use mathlib.Core.Logic.{_↔_}
+use mathlib.Core.Bool.{cond}
+use mathlib.Core.List.{List, [], _∷_, _++_}
+use lib.Dec.{T, ltb}
+use lib.ListN.{length}
+use Rattle.alphabet.specs.declared.answers.Refusal.the-variants.{None, SegmentMisplaced, EndedEarly}
+use Rattle.structure.specs.Shapes.{Shape, Yields, Viable, names}
+use Rattle.structure.specs.SegmentNames.{kept}
+use Rattle.structure.specs.Listed.{In}
+use Rattle.structure.specs.Judged.{plain, front, nameList}
+use Rattle.structure.specs.declared.judging.Judgement.{Judgement}
+
+-- The names ns, as sent, are refused by the structure s with the judgement j. `front s n ns` are the first n of them, Z segments that s does not
+-- name taken out; `Viable` says that names begin an acceptable message.
+pub record RefusedExactly (s : Shape) (ns : List ℕ) (j : Judgement) : Type 0 where
+  pub not-yielded : Yields s (kept (names s) ns) → ⊥
+  -- "points to the first segment that, with those before it, begins no acceptable message, or to the end where only more are missing"
+  pub inside : j .place ≤ length ns
+  pub before : (i : ℕ) → i ≤ j .place → Viable s (front s i ns)
+  pub stuck : j .place < length ns → Viable s (front s (j .place + 1) ns) → ⊥
+  pub kind : j .kind ≡ cond (ltb (j .place) (length ns)) SegmentMisplaced EndedEarly
+  -- "and lists exactly the names that could have stood there"
+  pub list : List ℕ
+  pub given : j .names ≡ nameList list
+  pub could-stand : (n : ℕ) → In n list ↔ Viable s (front s (j .place) ns ++ (n ∷ []))
+  -- and whether the message could have ended there
+  pub could-end : T (j .«could_end») ↔ Yields s (front s (j .place) ns)
+
+-- "accepts exactly when the grammar listed for the type can yield the segment names, Z segments it doesn't name taken out"
+pub data Exactly (s : Shape) (ns : List ℕ) : Judgement → Type 0 where
+  accepted : Yields s (kept (names s) ns) → Exactly s ns (plain None 0)
+  refused : {j : Judgement} → RefusedExactly s ns j → Exactly s ns j
