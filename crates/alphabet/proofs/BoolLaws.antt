@@ -9,6 +9,10 @@ use Rattle.alphabet.specs.Bytes.{fromTo}
 pub false-true : {A : Type 0} → false ≡ true → A
 false-true e = absurd (subst (λ (t : Bool). T (not t)) e tt)
 
+pub not-not : (x : Bool) → not (not x) ≡ x
+not-not true = refl
+not-not false = refl
+
 pub and-both : (x y : Bool) → (x && y) ≡ true → (x ≡ true) × (y ≡ true)
 and-both true y e = (refl, e)
 and-both false y e = false-true e

@@ -1,16 +1,17 @@
 -- Laws of lists and of `first`, for any test: what a loop that searches cites, and where what it finds stands. Assumes nothing.
-use mathlib.Core.Path.{_≡_, refl, sym, ap, _∙_}
+use mathlib.Core.Path.{_≡_, refl, sym, ap, subst, _∙_}
 use mathlib.Core.List.{List, [], _∷_}
-use mathlib.Core.Bool.{Bool, true, false, cond, _&&_}
+use mathlib.Core.Bool.{Bool, true, false, cond, not, _&&_}
 use Prim.Native.Nat.{ℕ, zero, suc, _+_, _-_, _≤_, _<_}
 use native.Mathlib.Numerals.{add-one}
+use native.Mathlib.Decide.{decLt}
 use native.Mathlib.Omega.{arith}
-use lib.Dec.{eqb}
+use lib.Dec.{eqb, leb}
 use Rattle.alphabet.proofs.BoolLaws.{and-both, false-true}
 use lib.ListN.{length, getD, take, drop, drop-of-length-le, length-drop}
-use lib.Seq.{drop-cons, take-all, take-nil, take-take, drop-drop}
+use lib.Seq.{drop-cons, take-all, take-nil, take-take, drop-drop, getD-take, getD-drop}
 use native.Mathlib.Nat.{sub-zero, zero-sub}
-use borrow.Author.Tests.{eqb-true, eq-eqb, ne-eqb}
+use borrow.Author.Tests.{eqb-true, eq-eqb, ne-eqb, leb-true, le-leb, lt-leb}
 use Rattle.alphabet.specs.Lists.{first, find, same}
 
 -- what stands from i on, by its first element
@@ -92,6 +93,43 @@ module _ (test : ℕ → Bool) where
       at : (t : Bool) → first test r ≤ i → cond t 0 (suc (first test r)) ≤ suc i
       at true ih = omega arith
       at false ih = omega arith
+
+  -- the beginning is always reached
+  pub first-begin : (l : List ℕ) → true ≡ leb 0 (first test l)
+  first-begin l = sym (le-leb 0 (first test l) (omega arith))
+
+  -- one element more is passed over exactly where it does not pass
+  pub first-step : (l : List ℕ) (i : ℕ) → i < length l → leb (i + 1) (first test l) ≡ (leb i (first test l) && not (test (getD l i 0)))
+  first-step l i h = at (decLt i (first test l)) (decLt (first test l) i)
+    where
+      at : Dec (i < first test l) → Dec (first test l < i) → leb (i + 1) (first test l) ≡ (leb i (first test l) && not (test (getD l i 0)))
+      at (yes k) x = rw (le-leb (i + 1) (first test l) (omega arith), le-leb i (first test l) (omega arith), first-before l i k)
+      at (no k) (yes j) = rw (lt-leb (i + 1) (first test l) (omega arith), lt-leb i (first test l) j)
+      at (no k) (no j) =
+          let e : first test l ≡ i = omega arith in
+          let p = subst (λ (n : ℕ). test (getD l n 0) ≡ true) e (first-passes l (omega arith)) in
+          rw (lt-leb (i + 1) (first test l) (omega arith), le-leb i (first test l) (omega arith), p)
+
+  -- a place that was reached, where the element passes, is the first
+  pub first-reached : (l : List ℕ) (i : ℕ) → i < length l → i ≤ first test l → test (getD l i 0) ≡ true → first test l ≡ i
+  first-reached l i h k e = let z = first-least l i h e in omega arith
+
+  -- and where it does not pass, the next place is reached
+  pub first-next : (l : List ℕ) (i : ℕ) → i < length l → i ≤ first test l → test (getD l i 0) ≡ false → i + 1 ≤ first test l
+  first-next l i h k e = leb-true (i + 1) (first test l) (first-step l i h ∙ rw (le-leb i (first test l) k, e))
+
+  -- a block without an element that passes is passed over whole
+  pub first-block : (l : List ℕ) (i n : ℕ) → i + n ≤ length l → i ≤ first test l → n ≤ first test (take n (drop i l)) → i + n ≤ first test l
+  first-block l i n h k w = at (decLt (first test l) (i + n))
+    where
+      at : Dec (first test l < i + n) → i + n ≤ first test l
+      at (no c) = omega arith
+      at (yes c) =
+          let j = first test l - i in
+          let e : i + j ≡ first test l = omega arith in
+          let p = first-passes l (omega arith) in
+          let q = first-before (take n (drop i l)) j (omega arith) in
+          absurd (false-true (sym q ∙ ap test (getD-take n (drop i l) j 0 (omega arith) ∙ getD-drop i l j 0 ∙ ap (λ (x : ℕ). getD l x 0) e) ∙ p))
 
 -- the byte that was looked for stands where it was found
 pub find-is : (b : ℕ) (l : List ℕ) → find b l < length l → getD l (find b l) 0 ≡ b

@@ -1,13 +1,17 @@
 // What a byte may be, by document 01's 'Bytes and segments', where a byte first stands, and whether two texts are the same.
 // The tests are free of branches and nested as their definitions are, so that they need no proof.
 ghost use mathlib.Core.Path.{_≡_};
-ghost use Prim.Native.Nat.{_%_};
-ghost use lib.ListN.{getD};
+ghost use Prim.Native.Nat.{_%_, _≤_};
+ghost use lib.Dec.{leb};
+ghost use lib.ListN.{length, getD};
 ghost use Rattle.alphabet.specs.Bytes.{printable, allowed, forbidden, capital, digit, hexOf, hexDigit, isNull};
 ghost use Rattle.alphabet.specs.Lists.{first, find, same};
 
 // CR, which ends every segment.
 pub const CARRIAGE_RETURN: u8 = 13;
+
+// How many bytes are looked at together in a search.
+const BLOCK: usize = 32;
 
 // Printable ISO 8859/1: what may stand plainly in text.
 pub fn is_printable(b: u8) -> bool
@@ -75,11 +79,38 @@ pub fn is_null(bytes: &[u8]) -> bool
     (bytes.len() == 2) & ((first == 34) & (second == 34))
 }
 
+// Whether b is none of the bytes. Every byte is looked at and nothing branches, so that the compiler takes many at once.
+fn is_without(bytes: &[u8], b: u8) -> bool
+    ensures { λ r. ⌜ r ≡ leb (length (now (bytes .entry))) (find b (now (bytes .entry))) ⌝ }
+{
+    let mut without = true;
+    let mut i = 0;
+    while i < bytes.len() {
+        without = without & (b != bytes[i]);
+        i += 1;
+    }
+    without
+}
+
+// A place at or before the first b: blocks without it are passed over whole.
+fn before_first(bytes: &[u8], b: u8) -> usize
+    ensures { λ r. ⌜ r ≤ find b (now (bytes .entry)) ⌝ }
+{
+    let mut i = 0;
+    while BLOCK <= bytes.len() - i {
+        if !is_without(&bytes[i..i + BLOCK], b) {
+            return i;
+        }
+        i += BLOCK;
+    }
+    i
+}
+
 // The place of the first b, or the length where there is none.
 pub fn find(bytes: &[u8], b: u8) -> usize
     ensures { λ r. ⌜ r ≡ find b (now (bytes .entry)) ⌝ }
 {
-    let mut i = 0;
+    let mut i = before_first(bytes, b);
     while i < bytes.len() {
         if bytes[i] == b {
             return i;
@@ -89,10 +120,26 @@ pub fn find(bytes: &[u8], b: u8) -> usize
     bytes.len()
 }
 
-// The place of the first byte that may not stand in a message, or the length where there is none.
+// Whether all bytes may stand in a message. As in `is_without`, nothing branches.
+fn is_all_allowed(bytes: &[u8]) -> bool
+    ensures { λ r. ⌜ r ≡ leb (length (now (bytes .entry))) (first forbidden (now (bytes .entry))) ⌝ }
+{
+    let mut all = true;
+    let mut i = 0;
+    while i < bytes.len() {
+        all = all & is_allowed(bytes[i]);
+        i += 1;
+    }
+    all
+}
+
+// The place of the first byte that may not stand in a message, or the length where there is none, which is the usual case and told first.
 pub fn first_not_allowed(bytes: &[u8]) -> usize
     ensures { λ r. ⌜ r ≡ first forbidden (now (bytes .entry)) ⌝ }
 {
+    if is_all_allowed(bytes) {
+        return bytes.len();
+    }
     let mut i = 0;
     while i < bytes.len() {
         if !is_allowed(bytes[i]) {

@@ -1,0 +1,54 @@
+-- Rests on `first-block`: a block without b is passed over whole.
+use Prim.Native.Nat.{ℕ, _≤_, _+_, _-_}
+use mathlib.Core.Path.{_≡_, sym, _∙_}
+use mathlib.Core.Bool.{true}
+use lib.Dec.{eqb, leb}
+use lib.ListN.{length, take, drop, length-drop}
+use lib.Seq.{length-take-le}
+use native.Mathlib.Omega.{arith}
+use borrow.Author.Needs.{needs}
+use borrow.Author.Tests.{leb-true, not-false}
+use denote.Ref.{now}
+use Rattle.alphabet.specs.Lists.{find}
+use Rattle.alphabet.proofs.ListLaws.{first-block}
+use Rattle.alphabet.proofs.bytes.before_first.Statement.{statement}
+use Rattle.alphabet.proofs.bytes.before_first.Tie as tie
+
+abbrev Inv-loop : tie.InvT-loop
+Inv-loop bytes b i₀ i = (i ≤ length bytes) × (i ≤ find b bytes)
+
+abbrev μ-loop : tie.MeasureT-loop
+μ-loop bytes b i₀ i = length bytes - i
+
+loop-again : tie.Need-loop-again Inv-loop μ-loop
+loop-again c =
+    let l = c .before .before .before .before in
+    let b = l .before .before .args .b in
+    let s = now (l .before .before .args .bytes) in
+    let i = l .loop .i in
+    let n = i + 32 - i in
+    let e : n ≡ 32 = omega arith in
+    let d = length-drop i s in
+    let k = length-take-le n (drop i s) (omega arith) in
+    let w = leb-true (length (take n (drop i s))) (find b (take n (drop i s))) (sym (c .before .is-without .ensures) ∙ not-false _ (c .if1 .left)) in
+    let f = first-block (eqb b) s i n (omega arith) (l .loop .inv .1) (omega arith) in
+    (omega arith, omega arith)
+
+pub before-first-spec : {M : Type 1} → statement M
+before-first-spec =
+    tie.close
+    (tie.spec
+    Inv-loop
+    μ-loop
+    (λ c. (omega arith, omega arith))
+    (λ c. omega arith)
+    (λ c. omega arith)
+    (λ c. omega arith)
+    (λ c. omega arith)
+    (λ c. omega arith)
+    (λ c κs. search needs)
+    (λ c. c .before .before .before .before .loop .inv .1)
+    (λ c. omega arith)
+    (λ c. omega arith)
+    loop-again
+    (λ c. c .before .loop .inv .1))
