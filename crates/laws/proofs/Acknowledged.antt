@@ -4,18 +4,17 @@ use mathlib.Core.Path.{_≡_, refl, sym, ap, ap₂, _∙_, subst}
 use mathlib.Core.Logic.{_↔_}
 use mathlib.Core.Bool.{Bool, true, false, _&&_, _||_}
 use mathlib.Core.List.{List, [], _∷_}
-use Prim.Native.Nat.{ℕ, zero, suc, _+_, _-_, _≤_, _<_}
+use Prim.Native.Nat.{ℕ, _+_, _-_, _≤_, _<_}
 use native.Mathlib.Nat.{zero-add, sub-zero}
 use native.Mathlib.Omega.{arith}
-use lib.Dec.{eqb, leb}
+use lib.Dec.{eqb}
 use lib.ListN.{length, getD, take}
 use lib.Seq.{getD-take, take-take, length-take-le}
-use borrow.Author.Tests.{leb-true, leb-false, eqb-true, eq-eqb, lt-ltb, le-leb}
+use borrow.Author.Tests.{lt-ltb, le-leb}
 use Rattle.alphabet.specs.Bytes.{carriageReturn, allowed, ascii}
-use Rattle.alphabet.specs.Delimiters.{permitted, wrongDelimiter}
-use Rattle.alphabet.proofs.BoolLaws.{false-true, and-both}
-use Rattle.alphabet.proofs.DelimiterLaws.{delimiter-permitted}
-use Rattle.alphabet.proofs.ListLaws.{first-least, find-is, same-is}
+use Rattle.alphabet.specs.Delimiters.{wrongDelimiter}
+use Rattle.alphabet.proofs.BoolLaws.{false-true}
+use Rattle.alphabet.proofs.ListLaws.{same-is}
 use Rattle.alphabet.specs.Limits.{idLimit}
 use Rattle.alphabet.specs.Lists.{find, same}
 use Rattle.alphabet.specs.Parts.{split}
@@ -25,11 +24,12 @@ use Rattle.alphabet.specs.declared.answers.Refusal.the-variants.{None, NotAckno
 use Rattle.reading.specs.Segments.{segments, delimitersOf}
 use Rattle.reading.specs.Reading.{reading}
 use Rattle.reading.specs.Message.{Opened, Message}
-use Rattle.reading.proofs.Accepted.{opening-if, message-last}
+use Rattle.reading.proofs.Accepted.{opening-if}
 use Rattle.reading.proofs.Accepted.{accepted as accepted-message}
 use Rattle.reading.proofs.SegmentLaws.{segments-walk}
 use Rattle.element.specs.Finding.{rawBytes}
 use Rattle.element.specs.declared.address.Address.{Address}
+use Rattle.laws.proofs.HeaderLaws.{first-segment as begins}
 use Rattle.laws.proofs.RawLaws.{raw-header, raw-component}
 use Rattle.value.specs.Times.{isTs}
 use Rattle.text.specs.Unescape.{text}
@@ -175,35 +175,10 @@ module _ (m : List ℕ) (accepts : Accepts m) where
   o = message .opened
 
   return-there : find carriageReturn m < length m
-  return-there =
-      let some = o .some-bytes in
-      let l = first-least (eqb carriageReturn) m (length m - 1) (omega arith) (eq-eqb carriageReturn (getD m (length m - 1) 0) (sym (message-last m message))) in
-      omega arith
-
-  letters : (eqb (getD m 0 0) 77 ≡ true) × ((eqb (getD m 1 0) 83 && eqb (getD m 2 0) 72) ≡ true)
-  letters = and-both (eqb (getD m 0 0) 77) (eqb (getD m 1 0) 83 && eqb (getD m 2 0) 72) (o .header)
-
-  -- no CR stands among the first eight bytes: they are MSH and the delimiters
-  not-delimiter : (i : ℕ) → i < 5 → getD (delimitersOf m) i 0 ≡ carriageReturn → ⊥
-  not-delimiter i l e = false-true (sym (ap permitted e) ∙ delimiter-permitted (delimitersOf m) refl (o .delimiters-right) i l)
-
-  not-early : (i : ℕ) → i < 8 → getD m i 0 ≡ carriageReturn → ⊥
-  not-early zero l e = let n = eqb-true (getD m 0 0) 77 (letters .0) in omega arith
-  not-early (suc zero) l e = let n = eqb-true (getD m 1 0) 83 (and-both (eqb (getD m 1 0) 83) (eqb (getD m 2 0) 72) (letters .1) .0) in omega arith
-  not-early (suc (suc zero)) l e = let n = eqb-true (getD m 2 0) 72 (and-both (eqb (getD m 1 0) 83) (eqb (getD m 2 0) 72) (letters .1) .1) in omega arith
-  not-early (suc (suc (suc zero))) l e = not-delimiter 0 (omega arith) e
-  not-early (suc (suc (suc (suc zero)))) l e = not-delimiter 1 (omega arith) e
-  not-early (suc (suc (suc (suc (suc zero))))) l e = not-delimiter 2 (omega arith) e
-  not-early (suc (suc (suc (suc (suc (suc zero)))))) l e = not-delimiter 3 (omega arith) e
-  not-early (suc (suc (suc (suc (suc (suc (suc zero))))))) l e = not-delimiter 4 (omega arith) e
-  not-early (suc (suc (suc (suc (suc (suc (suc (suc i)))))))) l e = absurd (omega arith)
+  return-there = begins m message .2
 
   late : 8 ≤ find carriageReturn m
-  late = at (leb 8 (find carriageReturn m)) refl
-    where
-      at : (t : Bool) → leb 8 (find carriageReturn m) ≡ t → 8 ≤ find carriageReturn m
-      at true q = leb-true 8 (find carriageReturn m) q
-      at false q = absurd (not-early (find carriageReturn m) (leb-false 8 (find carriageReturn m) q) (find-is carriageReturn m return-there))
+  late = begins m message .1
 
   size : length (header m) ≡ find carriageReturn m + 1
   size = length-take-le (find carriageReturn m + 1) m (omega (arith, return-there))

@@ -2,18 +2,18 @@
 use mathlib.Core.Path.{_≡_, refl, sym, ap, _∙_}
 use mathlib.Core.List.{List, []}
 use mathlib.Core.Bool.{false}
-use Prim.Native.Nat.{ℕ, zero, suc, _+_, _-_, _≤_}
+use Prim.Native.Nat.{ℕ, zero, suc, _-_, _≤_}
 use native.Mathlib.Omega.{arith}
-use lib.ListN.{length, getD, take, drop}
-use Rattle.alphabet.specs.Parts.{split, partAt}
+use lib.ListN.{length, getD}
+use Rattle.alphabet.specs.Parts.{split}
 use Rattle.alphabet.specs.declared.parts.Part.{Part}
 use Rattle.alphabet.specs.declared.parts.Part.the-variants.{At, Absent}
-use Rattle.alphabet.proofs.ListLaws.{piece-of-piece}
-use Rattle.alphabet.proofs.PartLaws.{split-nothing, part-bytes, past-none, none-past}
+use Rattle.alphabet.proofs.PartLaws.{split-nothing}
 use Rattle.reading.specs.Segments.{delimitersOf, segmentAt}
-use Rattle.element.specs.Levels.{between, Within, partIn, fieldIn, fixed, below, repetitionAt, componentAt, elementAt}
+use Rattle.element.specs.Levels.{Within, partIn, fieldIn, fixed, below, repetitionAt, componentAt, elementAt}
 use Rattle.element.specs.Finding.{partBytes}
-use Rattle.element.proofs.LevelLaws.{between-length, in-absent, in-at, in-none, below-whole, below-split, within-field, within-in, within-segment}
+use Rattle.element.proofs.LevelLaws.{below-whole, below-split, within-field, within-in, within-segment}
+use Rattle.laws.proofs.RawLaws.{part-in-bytes}
 use Rattle.fields.specs.Rules.{judgedPart}
 use Rattle.fields.specs.Judging.{repetitionsIn, repetitionsOf}
 use Rattle.fields.specs.declared.table.Portion.{Portion}
@@ -28,26 +28,6 @@ componentOf Component = 1
 nothing-in : (sep : ℕ) (i : ℕ) → getD (split sep []) i [] ≡ []
 nothing-in sep zero = ap (λ (ps : List (List ℕ)). getD ps 0 []) (split-nothing sep)
 nothing-in sep (suc i) = ap (λ (ps : List (List ℕ)). getD ps (suc i) []) (split-nothing sep)
-
--- a part's part, by its bytes
-part-of-part : (sep : ℕ) (m : List ℕ) (part : Part) (i : ℕ) → Within m part → partBytes m (partIn sep m part i) ≡ getD (split sep (partBytes m part)) i []
-part-of-part sep m Absent i w = ap (partBytes m) (in-absent sep m Absent i refl) ∙ sym (nothing-in sep i)
-part-of-part sep m (At s e) i w = at (partAt sep (between m s e) i) refl
-  where
-    at : (p : Part) → partAt sep (between m s e) i ≡ p → partBytes m (partIn sep m (At s e) i) ≡ getD (split sep (between m s e)) i []
-    at Absent q = ap (partBytes m) (in-none sep m (At s e) i s e refl q) ∙ sym (past-none (split sep (between m s e)) i (none-past sep (between m s e) i q))
-    at (At a b) q =
-        let p = part-bytes sep (between m s e) i a b q in
-        let w0 = w .0 in
-        let w1 = w .1 in
-        let n = between-length m s e w0 w1 in
-        let p1 = p .1 in
-        let p2 = p .2 in
-        let k : (s + b) - (s + a) ≡ b - a = omega arith in
-        ap (partBytes m) (in-at sep m (At s e) i s e refl a b q)
-        ∙ ap (λ (j : ℕ). take j (drop (s + a) m)) k
-        ∙ sym (piece-of-piece m s (e - s) a (b - a) (omega arith))
-        ∙ p .3
 
 -- the repetitions of a part hold those of its bytes
 repetition-bytes : (m : List ℕ) (part : Part) (r : ℕ) → getD (repetitionsIn m part) r [] ≡ getD (split (getD (delimitersOf m) 2 0) (partBytes m part)) r []
@@ -73,12 +53,12 @@ module _ (m : List ℕ) (segment field r : ℕ) (four : 4 ≤ length m) (split-f
   unfolding judgedPart elementAt componentAt repetitionAt
   judged-element Whole =
       repetition-bytes m fieldPart r
-      ∙ sym (part-of-part (getD (delimitersOf m) 2 0) m fieldPart r within-fieldPart)
+      ∙ sym (part-in-bytes (getD (delimitersOf m) 2 0) m fieldPart r within-fieldPart)
       ∙ ap (partBytes m) (sym (below-whole (getD (delimitersOf m) 4 0) m _ 0 (fixed segment field) refl ∙ below-whole (getD (delimitersOf m) 1 0) m _ 0 (fixed segment field) refl ∙ repetition-part))
   judged-element Component =
       ap (λ (b : List ℕ). getD (split (getD (delimitersOf m) 1 0) b) 0 [])
-      (repetition-bytes m fieldPart r ∙ sym (part-of-part (getD (delimitersOf m) 2 0) m fieldPart r within-fieldPart))
-      ∙ sym (part-of-part (getD (delimitersOf m) 1 0) m (partIn (getD (delimitersOf m) 2 0) m fieldPart r) 0 (within-in (getD (delimitersOf m) 2 0) m fieldPart r within-fieldPart))
+      (repetition-bytes m fieldPart r ∙ sym (part-in-bytes (getD (delimitersOf m) 2 0) m fieldPart r within-fieldPart))
+      ∙ sym (part-in-bytes (getD (delimitersOf m) 1 0) m (partIn (getD (delimitersOf m) 2 0) m fieldPart r) 0 (within-in (getD (delimitersOf m) 2 0) m fieldPart r within-fieldPart))
       ∙ ap (partBytes m)
       (sym (below-whole (getD (delimitersOf m) 4 0) m _ 0 (fixed segment field) refl
       ∙ below-split (getD (delimitersOf m) 1 0) m _ 1 split-further (λ e. omega arith)

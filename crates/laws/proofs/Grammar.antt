@@ -10,7 +10,7 @@ use lib.Dec.{leb, ltb, eqb}
 use lib.ListN.{length, take, drop, length-append, length-drop}
 use lib.Seq.{split-at, take-append-seam}
 use borrow.Author.Tests.{eqb-true, eqb-false, eq-eqb, ltb-true, ltb-false, leb-true, leb-false}
-use Rattle.alphabet.proofs.ListLaws.{find-is, find-own, first-le}
+use Rattle.alphabet.proofs.ListLaws.{find-is, first-le}
 use Rattle.alphabet.proofs.NullLaws.{two-quotes, not-quotes, other-quotes}
 use Rattle.alphabet.specs.Lists.{first, find}
 use Rattle.alphabet.specs.Bytes.{printable, isNull}
@@ -23,7 +23,7 @@ use Rattle.text.specs.Answers.{unescaping}
 use Rattle.text.specs.Reads.{Reads, done, plain, escaped, Stops, forbidden, separator, unknown, unclosed, Refuses, Unescapes, delimiter, null, refused, long, written}
 use Rattle.text.proofs.StepLaws.{step-unknown, step-unclosed, step-forbidden, step-separator, step-plain, scan-emit, scan-stop, before-before, before-none}
 use Rattle.text.proofs.OutcomeLaws.{unescaping-bad, unescaping-null, unescaping-fault, unescaping-fits, unescaping-long}
-use Rattle.laws.proofs.RoundTrip.{AreBytes, sequence-back, scan-back}
+use Rattle.laws.proofs.RoundTrip.{no-delimiter, AreBytes, sequence-back, scan-back}
 
 -- ---- from the grammar to the scan
 
@@ -37,18 +37,12 @@ find-within b (x ∷ c) r h = at (eqb b x) refl h (find-within b c r)
     at false e h ih = rw e (ap suc (ih (omega arith)))
 
 module _ (ds : List ℕ) (five : length ds ≡ 5) where
-  no-delimiter : (b : ℕ) → 5 ≤ find b ds → b ≡ escapeOf ds → ⊥
-  no-delimiter b h e =
-      let z = find-own ds 3 (omega arith) in
-      let q : find b ds ≡ find (escapeOf ds) ds = ap (λ (x : ℕ). find x ds) e in
-      omega arith
-
   -- what is read passes, whatever follows
   reads-before : {u t : List ℕ} → Reads ds u t → (v : List ℕ) (at : ℕ) → scan ds at 0 (u ++ v) ≡ before t (scan ds (at + length u) 0 v)
   reads-before done v at = before-none (scan ds at 0 v) ∙ ap (λ (n : ℕ). before [] (scan ds n 0 v)) (sym (add-zero at))
   reads-before (plain {r} {t} b a h m) v at =
       let e : (at + 1) + length r ≡ at + suc (length r) = omega arith in
-      scan-emit ds at b (r ++ v) (b ∷ []) 0 (step-plain ds b (r ++ v) (no-delimiter b h) a h)
+      scan-emit ds at b (r ++ v) (b ∷ []) 0 (step-plain ds b (r ++ v) (no-delimiter ds five b h) a h)
       ∙ ap (before (b ∷ [])) (reads-before m v (at + 1))
       ∙ before-before (b ∷ []) t (scan ds ((at + 1) + length r) 0 v) ∙ ap (λ (n : ℕ). before (b ∷ t) (scan ds n 0 v)) e
   reads-before (escaped {r} {t} c f k m) v at =
@@ -63,7 +57,7 @@ module _ (ds : List ℕ) (five : length ds ≡ 5) where
   unfolding scan
   reads-from done at = refl
   reads-from (plain {r} {t} b a h m) at =
-      scan-emit ds at b r (b ∷ []) 0 (step-plain ds b r (no-delimiter b h) a h) ∙ ap (before (b ∷ [])) (reads-from m (at + 1))
+      scan-emit ds at b r (b ∷ []) 0 (step-plain ds b r (no-delimiter ds five b h) a h) ∙ ap (before (b ∷ [])) (reads-from m (at + 1))
   reads-from (escaped {r} {t} c f k m) at =
       sequence-back ds at c r (meaning ds c) (find-within (escapeOf ds) c r f) k refl ∙ ap (before (meaning ds c)) (reads-from m (at + (length c + 2)))
 

@@ -3,8 +3,9 @@ pub mod HeaderLaws
 pub mod ElementLaws
 pub mod RawLaws
 pub mod ValueLaws
-pub mod TimeBytes
+pub mod ValueBytes
 pub mod OneSpelling
+pub mod Places
 pub mod EscapeTable
 pub mod RoundTrip
 pub mod Clean

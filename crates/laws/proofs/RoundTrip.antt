@@ -9,8 +9,8 @@ use lib.ListN.{length, getD, take, length-append}
 use lib.Seq.{take-append-seam, drop-append-add}
 use borrow.Author.Tests.{eq-eqb, ne-eqb, lt-ltb, le-ltb, ltb-true, ltb-false}
 use Rattle.alphabet.proofs.BoolLaws.{false-true}
-use Rattle.alphabet.proofs.ListLaws.{find-is}
-use Rattle.alphabet.proofs.DelimiterLaws.{delimiter-permitted, delimiter-own}
+use Rattle.alphabet.proofs.ListLaws.{find-is, find-own}
+use Rattle.alphabet.proofs.DelimiterLaws.{delimiter-permitted}
 use Rattle.alphabet.proofs.NullLaws.{two-quotes}
 use Rattle.alphabet.specs.Lists.{first, find}
 use Rattle.alphabet.specs.Bytes.{printable, hexOf, hexDigit, isNull}
@@ -60,12 +60,14 @@ hex-meaning ds h l b p q = let e : hexOf h * 16 + hexOf l ≡ b = omega arith in
 abbrev pub AreBytes : List ℕ → Type 0
 AreBytes t = (i : ℕ) → getD t i 0 < 256
 
-module _ (ds : List ℕ) (five : length ds ≡ 5) (fine : wrongDelimiter ds ≡ 5) where
-  other-than-escape : (b : ℕ) → 5 ≤ find b ds → b ≡ escapeOf ds → ⊥
-  other-than-escape b h e =
-      let z : find b ds ≡ 3 = ap (λ (x : ℕ). find x ds) e ∙ delimiter-own ds five fine 3 (omega arith) in
-      omega arith
+-- what is no delimiter is not the escape delimiter
+pub no-delimiter : (ds : List ℕ) → length ds ≡ 5 → (b : ℕ) → 5 ≤ find b ds → b ≡ escapeOf ds → ⊥
+no-delimiter ds five b h e =
+    let z = find-own ds 3 (omega arith) in
+    let q : find b ds ≡ find (escapeOf ds) ds = ap (λ (x : ℕ). find x ds) e in
+    omega arith
 
+module _ (ds : List ℕ) (five : length ds ≡ 5) (fine : wrongDelimiter ds ≡ 5) where
   escape-at : (x : ℕ) (r : List ℕ) → permitted x ≡ false → find (escapeOf ds) (x ∷ r) ≡ suc (find (escapeOf ds) r)
   escape-at x r f = find-other (escapeOf ds) x r (escape-not ds five fine x f)
 
@@ -83,7 +85,7 @@ module _ (ds : List ℕ) (five : length ds ≡ 5) (fine : wrongDelimiter ds ≡ 
       (ap (λ (x : ℕ). getD ds x 0 ∷ []) (q .1) ∙ ap (λ (x : ℕ). x ∷ []) (find-is b ds (omega arith)))
 
   plain-read : (b at : ℕ) (r : List ℕ) → 5 ≤ find b ds → printable b ≡ true → Back b at r (b ∷ [])
-  plain-read b at r h a = scan-emit ds at b r (b ∷ []) 0 (step-plain ds b r (other-than-escape b h) a h)
+  plain-read b at r h a = scan-emit ds at b r (b ∷ []) 0 (step-plain ds b r (no-delimiter ds five b h) a h)
 
   hex-read : (b at : ℕ) (r : List ℕ) → b < 256 → Back b at r (escapeOf ds ∷ 88 ∷ hexDigit (b / 16) ∷ hexDigit (b % 16) ∷ escapeOf ds ∷ [])
   hex-read b at r h =

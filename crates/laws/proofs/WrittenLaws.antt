@@ -6,7 +6,7 @@ use Prim.Native.Nat.{ℕ, zero, suc, _+_, _-_, _≤_, _<_}
 use native.Mathlib.Omega.{arith}
 use lib.Dec.{eqb}
 use lib.ListN.{length, getD}
-use borrow.Author.Tests.{eq-eqb, le-leb, lt-leb}
+use borrow.Author.Tests.{eq-eqb, le-leb}
 use Rattle.alphabet.specs.Bytes.{carriageReturn, printable, allowed, digit, ascii}
 use Rattle.alphabet.specs.Delimiters.{permitted, wrongDelimiter}
 use Rattle.alphabet.specs.Limits.{messageLimit}
@@ -26,7 +26,7 @@ use Rattle.reading.proofs.Accepted.{accepting}
 use Rattle.element.specs.Finding.{rawBytes}
 use Rattle.laws.proofs.RawLaws.{raw-header, raw-other, raw-component}
 use Rattle.value.specs.Times.{isTs}
-use Rattle.laws.proofs.TimeBytes.{time-each}
+use Rattle.laws.proofs.ValueBytes.{time-each, digit-none}
 use Rattle.text.specs.Escape.{escape}
 use Rattle.laws.proofs.RoundTrip.{AreBytes}
 use Rattle.laws.proofs.Clean.{MayStand, never-separator}
@@ -82,9 +82,7 @@ module _ (h : List ℕ) (o : Opened h) (one : find carriageReturn h + 1 ≡ leng
   digit-fine b e =
       let d = from-to 48 57 b e in
       let p : Printable b = rw (le-leb 32 b (omega arith)) (rw (le-leb b 126 (omega arith))) in
-      let f : permitted b ≡ false =
-      rw (le-leb 33 b (omega arith), lt-leb b 47 (omega arith)) (rw (lt-leb 58 b (omega arith), lt-leb 91 b (omega arith), lt-leb 123 b (omega arith))) in
-      sign b p f
+      sign b p (digit-none b e)
 
   time-fine : (time : List ℕ) → isTs time ≡ true → Each Fine time
   time-fine time e = time-each Fine digit-fine (sign 43 refl refl) (sign 45 refl refl) (sign 46 refl refl) true time e
