@@ -110,6 +110,20 @@ fn before_first(bytes: &[u8], b: u8) -> usize
 pub fn find(bytes: &[u8], b: u8) -> usize
     ensures { λ r. ⌜ r ≡ find b (now (bytes .entry)) ⌝ }
 {
+    let mut i = 0;
+    while i < bytes.len() {
+        if bytes[i] == b {
+            return i;
+        }
+        i += 1;
+    }
+    bytes.len()
+}
+
+// The same, for a byte that stands far off, as the end of a segment does: faster there, and slower where it is near.
+pub fn find_far(bytes: &[u8], b: u8) -> usize
+    ensures { λ r. ⌜ r ≡ find b (now (bytes .entry)) ⌝ }
+{
     let mut i = before_first(bytes, b);
     while i < bytes.len() {
         if bytes[i] == b {

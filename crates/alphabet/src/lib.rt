@@ -18,6 +18,7 @@ pub use answers::or_else;
 pub use bytes::CARRIAGE_RETURN;
 pub use bytes::byte_at;
 pub use bytes::find;
+pub use bytes::find_far;
 pub use bytes::first_not_allowed;
 pub use bytes::hex_digit;
 pub use bytes::hex_value;

@@ -30,7 +30,7 @@ pub fn segment_end(message: &[u8], start: usize) -> usize
     if message.len() <= start {
         return start;
     }
-    start + alphabet::find(&message[start..], alphabet::CARRIAGE_RETURN)
+    start + alphabet::find_far(&message[start..], alphabet::CARRIAGE_RETURN)
 }
 
 // Where the segment of the given index, from 0, stands, without its CR.
