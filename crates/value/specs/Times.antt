@@ -131,10 +131,13 @@ fractionForm seconds tail = eqb (length tail) 0 || ((seconds && fromTo 2 5 (leng
 unfoldable pub zoneForm : List ℕ → Bool
 zoneForm zone = eqb (length zone) 0 || ((eqb (length zone) 5 && allDigits (drop 1 zone)) && validOffset (offsetOf zone))
 
+-- front, tail and zone, each of its own form
+abbrev pub partsForm : Bool → List ℕ → List ℕ → List ℕ → Bool
+partsForm dated front tail zone =
+    (allDigits front && frontLength dated (length front)) && (fractionForm (eqb (length front) (toSeconds dated)) tail && zoneForm zone)
+
 unfoldable pub timeForm : Bool → List ℕ → Bool
-timeForm dated l =
-    (allDigits (frontOf l) && frontLength dated (length (frontOf l)))
-    && (fractionForm (eqb (length (frontOf l)) (toSeconds dated)) (tailOf l) && zoneForm (zoneOf l))
+timeForm dated l = partsForm dated (frontOf l) (tailOf l) (zoneOf l)
 
 abbrev pub dateIn : Bool → List ℕ → Date
 dateIn true front = dateOf front

@@ -10,8 +10,9 @@ use crate::figures::offset_of;
 use crate::numbers::whole_of;
 ghost use mathlib.Core.Path.{_≡_};
 ghost use Prim.Native.Nat.{min};
+ghost use lib.ListN.{drop};
 ghost use Rattle.alphabet.specs.Lists.{find};
-ghost use Rattle.value.specs.Times.{isDt, bodyOf, zoneOf, frontOf, tailOf, frontLength, toSeconds, clockStart, fractionForm, zoneForm, timeForm, isTime, isTm, isTs};
+ghost use Rattle.value.specs.Times.{isDt, bodyOf, zoneOf, frontOf, tailOf, frontLength, fractionForm, zoneForm, partsForm, isTime, isTm, isTs};
 
 // YYYY[MM[DD]]
 pub fn is_dt(bytes: &[u8]) -> bool
@@ -56,13 +57,19 @@ pub fn front_of(bytes: &[u8]) -> &[u8]
     whole_of(body_of(bytes))
 }
 
+// The point and what stands behind it.
+fn from_point(body: &[u8]) -> &[u8]
+    ensures { λ r. ⌜ now r ≡ drop (find 46 (now (body .entry))) (now (body .entry)) ⌝ }
+{
+    let point = alphabet::find(body, b'.');
+    &body[point..]
+}
+
 // The point and what stands behind it, before the sign.
 pub fn tail_of(bytes: &[u8]) -> &[u8]
     ensures { λ r. ⌜ now r ≡ tailOf (now (bytes .entry)) ⌝ }
 {
-    let body = body_of(bytes);
-    let point = alphabet::find(body, b'.');
-    &body[point..]
+    from_point(body_of(bytes))
 }
 
 // How many digits may stand in front.
@@ -102,26 +109,28 @@ fn is_zone(zone: &[u8]) -> bool
     (offset.hours <= 14) & (offset.minutes <= 59)
 }
 
-fn has_form(dated: bool, bytes: &[u8]) -> bool
-    ensures { λ r. ⌜ r ≡ timeForm dated (now (bytes .entry)) ⌝ }
+fn has_form(dated: bool, front: &[u8], tail: &[u8], zone: &[u8]) -> bool
+    ensures { λ r. ⌜ r ≡ partsForm dated (now (front .entry)) (now (tail .entry)) (now (zone .entry)) ⌝ }
 {
-    let front = front_of(bytes);
     let seconds = if dated { 14 } else { 6 };
     let digits = is_digits(front) & is_front_length(dated, front.len());
-    let fraction = is_fraction(front.len() == seconds, tail_of(bytes));
-    digits & (fraction & is_zone(zone_of(bytes)))
+    let fraction = is_fraction(front.len() == seconds, tail);
+    digits & (fraction & is_zone(zone))
 }
 
+// The parts are taken once: their forms are judged, and then what they say.
 pub fn is_time(dated: bool, bytes: &[u8]) -> bool
     ensures { λ r. ⌜ r ≡ isTime dated (now (bytes .entry)) ⌝ }
 {
-    if !has_form(dated, bytes) {
+    let body = body_of(bytes);
+    let front = whole_of(body);
+    let tail = from_point(body);
+    if !has_form(dated, front, tail, zone_of(bytes)) {
         return false;
     }
-    let front = front_of(bytes);
     let start = if dated { 8 } else { 0 };
     let date = date_in(dated, front);
-    let clock = clock_of(front, start, tail_of(bytes));
+    let clock = clock_of(front, start, tail);
     is_date(date) & is_clock(clock)
 }
 
