@@ -70,7 +70,7 @@ headerParts h time id =
     ∷ sent h 5 ∷ sent h 6 ∷ sent h 3 ∷ sent h 4
     ∷ time ∷ [] ∷ typeSent h ∷ escape (delimitersOf h) id ∷ sent h 11 ∷ version ∷ []
 
--- "Code AA exactly when reading, structure and fields all accept; else AE."
+-- how a code is written; which one it is says `Coded`
 abbrev pub lettersOf : Code → List ℕ
 lettersOf Accept = ascii "AA"
 lettersOf Error = ascii "AE"

@@ -7,8 +7,3 @@ mod sender;
 
 pub use acknowledging::acknowledge;
 pub use letters::Code;
-pub use sender::field_of;
-pub use sender::header_of;
-pub use sender::is_acknowledgeable;
-pub use sender::is_present;
-pub use sender::type_part;

@@ -1,4 +1,4 @@
--- The limits of document 01. No proof opens them; what arithmetic needs of them is `proofs/Limits.antt`.
+-- The limits of document 01. No proof about messages opens them: what arithmetic needs of them is in `proofs/LimitLaws.antt`.
 use Prim.Native.Nat.{ℕ}
 
 -- "A message has 1 to 32,768 bytes and 1 to 256 segments."

@@ -28,8 +28,8 @@ fn part_in(message: &[u8], part: Part, separator: u8, index: usize) -> Part
     }
 }
 
-// The field of a segment. MSH, the first segment, has its fields counted from the separator itself: this is the one
-// place that knows.
+// The field of a segment. MSH, the first segment, has its fields counted from the separator itself: here and,
+// for a walk along a segment, in `fields`.
 fn field_in(message: &[u8], segment: usize, part: Part, field: usize) -> Part
     requires { ⌜ Within (now message) part ⌝ }
     ensures { λ r. ⌜ r ≡ fieldIn (now (message .entry)) segment part field ⌝ }

@@ -9,14 +9,11 @@ use alphabet::Delimiters;
 use alphabet::Refusal;
 use element::State;
 ghost use mathlib.Core.Path.{_≡_};
-ghost use mathlib.Core.List.{[], _∷_};
-ghost use mathlib.Core.Bool.{not, _&&_};
 ghost use lib.ListN.{getD};
-ghost use Rattle.alphabet.specs.Answers.{inOrder};
 ghost use Rattle.alphabet.specs.Parts.{split};
 ghost use Rattle.element.specs.States.{stateOf};
 ghost use Rattle.value.specs.Asked.{isPresent};
-ghost use Rattle.fields.specs.Rules.{formCheck, judgedPart, partState, repetitionCheck, firstState, requiredCheck, repeatedCheck, somePresent, isSaid, saidField, saidCheck, kindSaid, kindOf, portionOf};
+ghost use Rattle.fields.specs.Rules.{formCheck, judgedPart, repetitionCheck, requiredCheck, somePresent, isSaid, saidField, saidCheck, kindSaid, kindOf, portionOf};
 ghost use Rattle.fields.specs.Walk.{openingCheck};
 
 // The bytes of a part that is present, against a type.

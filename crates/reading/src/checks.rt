@@ -6,11 +6,8 @@ use alphabet::Check;
 use alphabet::Refusal;
 ghost use mathlib.Core.Path.{_≡_};
 ghost use mathlib.Core.List.{[], _∷_};
-ghost use mathlib.Core.Bool.{Bool};
-ghost use Prim.Native.Nat.{_≤_, _-_};
-ghost use lib.ListN.{length, getD, take, drop};
 ghost use Rattle.alphabet.specs.Answers.{inOrder};
-ghost use Rattle.reading.specs.Segments.{isHeader, named, fieldSeparator};
+ghost use Rattle.reading.specs.Segments.{isHeader, named};
 ghost use Rattle.reading.specs.Reading.{lengthCheck, headed, headerCheck, delimiterCheck, byteCheck, opening, endCheck, segmentCheck, segmentsCheck};
 
 // The first three bytes are `MSH`.

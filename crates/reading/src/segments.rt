@@ -22,8 +22,8 @@ pub fn delimiters_of(message: &[u8]) -> Delimiters
     }
 }
 
-// The place of the CR that ends the segment which begins at `start`, or the message's end where there is none.
-// A walk over the segments goes on behind it.
+// The place of the CR that ends the segment which begins at `start`, or the message's end where there is none; from past the
+// end it is `start` itself. A walk over the segments goes on behind it.
 pub fn segment_end(message: &[u8], start: usize) -> usize
     ensures { λ r. ⌜ r ≡ start + find carriageReturn (drop start (now (message .entry))) ⌝ }
 {

@@ -20,15 +20,15 @@ abbrev pub Acc : (ℕ → Entry) → Entry → List ℕ → Type 0
 Acc tab e [] = T (e .ends)
 Acc tab e (q ∷ ws) = has (e .next) q × Acc tab (tab q) ws
 
-T-left : (a b : Bool) → T a → T (a || b)
+pub T-left : (a b : Bool) → T a → T (a || b)
 T-left true b t = tt
 T-left false b t = absurd t
 
-T-right : (a b : Bool) → T b → T (a || b)
+pub T-right : (a b : Bool) → T b → T (a || b)
 T-right true b t = tt
 T-right false b t = t
 
-T-cases : (a b : Bool) → T (a || b) → T a ⊎ T b
+pub T-cases : (a b : Bool) → T (a || b) → T a ⊎ T b
 T-cases true b t = inl tt
 T-cases false b t = inr t
 

@@ -13,23 +13,12 @@ use lib.Dec.{T, eqb}
 use borrow.Author.Tests.{eqb-true, eqb-false}
 use Rattle.structure.specs.Engine.{bit, has, hasb, Entry, entry, into, join, entryAt, nameIn, gathered}
 use Rattle.structure.proofs.SetLaws.{has-zero, or-left, or-right, or-cases}
+use Rattle.structure.proofs.FollowLaws.{T-left, T-right, T-cases}
 use Rattle.structure.proofs.RunLaws.{Gathered}
 
 -- the lowest digit
 pub low-bit : (x : ℕ) → bitAnd x 1 ≡ x % 2
 low-bit x = and-mask x 1
-
-T-or : (a b : Bool) → T (a || b) → T a ⊎ T b
-T-or true b t = inl tt
-T-or false b t = inr t
-
-T-or-left : (a b : Bool) → T a → T (a || b)
-T-or-left true b t = tt
-T-or-left false b t = absurd t
-
-T-or-right : (a b : Bool) → T b → T (a || b)
-T-or-right true b t = tt
-T-or-right false b t = t
 
 module _ (tab : ℕ → Entry) where
   -- the same places
@@ -47,9 +36,9 @@ module _ (tab : ℕ → Entry) where
     next-from = λ q h. ⊎-elim (λ l. let j = r .next-from q l in (j .0, inl (j .1), j .2)) (λ m. (k, inr refl, m)) (or-cases (e .next) (tab k .next) q h);
     next-to = λ p q h n. ⊎-elim (λ l. or-left (e .next) (tab k .next) q (r .next-to p q l n))
         (λ m. or-right (e .next) (tab k .next) q (subst (λ (x : ℕ). has (tab x .next) q) m n)) h;
-    ends-from = λ t. ⊎-elim (λ l. let j = r .ends-from l in (j .0, inl (j .1), j .2)) (λ m. (k, inr refl, m)) (T-or (e .ends) (tab k .ends) t);
-    ends-to = λ p h n. ⊎-elim (λ l. T-or-left (e .ends) (tab k .ends) (r .ends-to p l n))
-        (λ m. T-or-right (e .ends) (tab k .ends) (subst (λ (x : ℕ). T (tab x .ends)) m n)) h;
+    ends-from = λ t. ⊎-elim (λ l. let j = r .ends-from l in (j .0, inl (j .1), j .2)) (λ m. (k, inr refl, m)) (T-cases (e .ends) (tab k .ends) t);
+    ends-to = λ p h n. ⊎-elim (λ l. T-left (e .ends) (tab k .ends) (r .ends-to p l n))
+        (λ m. T-right (e .ends) (tab k .ends) (subst (λ (x : ℕ). T (tab x .ends)) m n)) h;
   }
 
   module _ (H : ℕ → Type 0) where

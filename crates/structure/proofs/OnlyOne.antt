@@ -112,7 +112,7 @@ module _ (s : Shape) where
             kinds false q = let z : _≡_ {A = ℕ} 0 1 = cc in omega arith
 
 -- no second judgement of a message that was read
-one-structured : (m : List ℕ) {r t : Judgement} → Structured m r → Structured m t → r ≡ t
+pub one-structured : (m : List ℕ) {r t : Judgement} → Structured m r → Structured m t → r ≡ t
 one-structured m (no-structure e) (no-structure f) = refl
 one-structured m (no-structure e) (by s f j) = absurd (let z : _≡_ {A = ℕ} 0 1 = cc in omega arith)
 one-structured m (by s e j) (no-structure f) = absurd (let z : _≡_ {A = ℕ} 0 1 = cc in omega arith)

@@ -13,7 +13,7 @@ use Rattle.reading.specs.Reading.{reading}
 use Rattle.structure.specs.Shapes.{Shape, Yields, Viable, Possible, names, nameAt}
 use Rattle.structure.specs.SegmentNames.{segmentNames, kept}
 use Rattle.structure.specs.Listed.{Listed}
-use Rattle.structure.specs.Structures.{Grammar, listed, unlisted, structureOf, grammarOf}
+use Rattle.structure.specs.Structures.{listed, unlisted, structureOf, grammarOf}
 use Rattle.structure.specs.declared.listing.Names.{Names}
 use Rattle.structure.specs.declared.judging.Judgement.{Judgement}
 

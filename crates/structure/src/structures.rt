@@ -8,7 +8,6 @@ use crate::walking::Next;
 use alphabet::Refusal;
 use element::Address;
 ghost use mathlib.Core.Path.{_≡_};
-ghost use mathlib.Core.List.{List};
 ghost use Rattle.structure.specs.Structures.{admissionOf, structureOf, typeAddress};
 ghost use Rattle.structure.specs.Judged.{Structured};
 

@@ -90,7 +90,9 @@ pub fn read(name: &[u8], buffer: &mut [u8]) -> Content
     }
     let content = fill(file, buffer);
     if !content.is_read {
-        return fail(name);
+        let failed = fail(name);
+        libc::close(file);
+        return failed;
     }
     libc::close(file);
     content
