@@ -7,7 +7,7 @@ use crate::{Answer, Refusal};
 /// The letters of the delimiters, in their order.
 const LETTERS: &[u8; 5] = b"FSRET";
 
-const BLOCK: usize = 16;
+const BLOCK: usize = 32;
 
 fn written(length: usize) -> Answer {
     Answer { length, ..Answer::default() }
@@ -49,7 +49,7 @@ fn added_length(text: &[u8], delimiters: &Delimiters) -> usize {
         let delimits = delimiters.iter().fold(false, |found, &it| found | (it == byte));
         u8::from(delimits) * 2 + u8::from(!is_printable(byte)) * 4
     };
-    let mut blocks = text.chunks_exact(2 * BLOCK);
+    let mut blocks = text.chunks_exact(BLOCK);
     let mut length = 0;
     for block in &mut blocks {
         length += usize::from(block.iter().map(added).sum::<u8>());
