@@ -89,7 +89,12 @@ fn baseline_verdict(message: &[u8]) -> baseline::Verdict {
 
 #[no_mangle]
 #[inline(never)]
-fn baseline_acknowledge(message: &[u8], time: &[u8], id: &[u8], buffer: &mut [u8]) -> baseline::Answer {
+fn baseline_acknowledge(
+    message: &[u8],
+    time: &[u8],
+    id: &[u8],
+    buffer: &mut [u8],
+) -> baseline::Answer {
     baseline::acknowledge(message, time, id, buffer)
 }
 
@@ -182,26 +187,10 @@ impl Job {
                     room,
                 )),
                 Entry::Escape => Told::Answer(library::turrethog_escape(
-                    field,
-                    component,
-                    repetition,
-                    escape,
-                    subcomponent,
-                    at,
-                    length,
-                    to,
-                    room,
+                    field, component, repetition, escape, subcomponent, at, length, to, room,
                 )),
                 Entry::Unescape => Told::Answer(library::turrethog_unescape(
-                    field,
-                    component,
-                    repetition,
-                    escape,
-                    subcomponent,
-                    at,
-                    length,
-                    to,
-                    room,
+                    field, component, repetition, escape, subcomponent, at, length, to, room,
                 )),
             }
         }
@@ -302,7 +291,9 @@ fn main() -> ExitCode {
             }
         },
         _ => {
-            eprintln!("usage: harness once SIDE ENTRY SIZE | harness rows | harness table [COUNTS]");
+            eprintln!(
+                "usage: harness once SIDE ENTRY SIZE | harness rows | harness table [COUNTS]"
+            );
             return ExitCode::from(2);
         }
     }
@@ -336,16 +327,17 @@ fn table(jobs: &[Job], counts: &HashMap<String, u64>) -> ExitCode {
             return ExitCode::FAILURE;
         }
     }
-    println!("| Entry point | Bytes | Instructions | of the baseline | per byte | ratio | Time, µs | of the baseline | ratio |");
+    println!("| Entry point | Bytes | Instructions | per byte | baseline | ratio | µs | baseline | ratio |");
     println!("|---|---|---|---|---|---|---|---|---|");
     for job in jobs {
         let bytes = job.bytes.len();
-        let count = |side: &str| counts.get(&format!("{side} {} {}", job.name(), job.size)).copied();
+        let count =
+            |side: &str| counts.get(&format!("{side} {} {}", job.name(), job.size)).copied();
         let instructions = match (count("library"), count("baseline")) {
             (Some(ours), Some(theirs)) => {
                 let each = ours as f64 / bytes as f64;
                 let ratio = ours as f64 / theirs as f64;
-                format!("{ours} | {theirs} | {each:.2} | {ratio:.2}")
+                format!("{ours} | {each:.1} | {theirs} | {ratio:.2}")
             }
             _ => "- | - | - | -".to_string(),
         };
@@ -356,6 +348,7 @@ fn table(jobs: &[Job], counts: &HashMap<String, u64>) -> ExitCode {
             job.name()
         );
     }
+    println!();
     for entry in ["read", "verdict", "acknowledge"] {
         let each = |side: &str, size: &str| {
             let count = *counts.get(&format!("{side} {entry} {size}"))?;
@@ -364,7 +357,7 @@ fn table(jobs: &[Job], counts: &HashMap<String, u64>) -> ExitCode {
         };
         let growth = |side| Some(each(side, "largest")? / each(side, "small")?);
         if let (Some(ours), Some(theirs)) = (growth("library"), growth("baseline")) {
-            println!("{entry}: instructions per byte of the largest report beside the small one: {ours:.2} (baseline {theirs:.2})");
+            println!("{entry}: per byte, the largest report takes {ours:.2} times the instructions of the small one (baseline: {theirs:.2})");
         }
     }
     ExitCode::SUCCESS

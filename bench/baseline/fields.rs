@@ -6,7 +6,9 @@ use crate::bytes::{COMPONENT, FIELD, REPETITION};
 use crate::reading::{name, Segments};
 use crate::values::{fault_of_nm, is_dt, is_si, is_tm, is_ts};
 use crate::Verdict;
-use Kind::{Any, AsValueType, Codes, Dt, Id, Nm, Processing, Sex, Si, Statuses, Tm, Ts, ValueTypes, Version};
+use Kind::{
+    Any, AsValueType, Codes, Dt, Id, Nm, Processing, Sex, Si, Statuses, Tm, Ts, ValueTypes, Version,
+};
 use Portion::{First, Whole};
 
 #[derive(Clone, Copy, PartialEq)]
@@ -228,7 +230,17 @@ fn fault_of(kind: Kind, part: &[u8]) -> u32 {
         ValueTypes => (
             matches!(
                 part,
-                b"CE" | b"DT" | b"ED" | b"FT" | b"NM" | b"RP" | b"SN" | b"ST" | b"TM" | b"TS" | b"TX"
+                b"CE"
+                    | b"DT"
+                    | b"ED"
+                    | b"FT"
+                    | b"NM"
+                    | b"RP"
+                    | b"SN"
+                    | b"ST"
+                    | b"TM"
+                    | b"TS"
+                    | b"TX"
             ),
             33,
         ),
