@@ -1,0 +1,90 @@
+//! Answers questions to the baseline in the form of the program `ask`, one line for each: those that
+//! read, judge, acknowledge, escape and unescape. bench/check compares the answers with the model's.
+
+use baseline::{acknowledge, escape, read, unescape, verdict, Answer};
+use std::io::{self, BufRead, BufWriter, Write};
+
+const LONGEST_LINE: usize = 200_000;
+const MOST_ROOM: usize = 65_536;
+
+/// What each byte of a lent buffer is before the call.
+const UNWRITTEN: u8 = 0xA5;
+
+fn main() -> io::Result<()> {
+    let mut out = BufWriter::new(io::stdout().lock());
+    for line in io::stdin().lock().split(b'\n') {
+        let line = line?;
+        writeln!(out, "{}", answer(&line).unwrap_or_else(|| "?".to_string()))?;
+    }
+    out.flush()
+}
+
+fn answer(line: &[u8]) -> Option<String> {
+    if line.len() > LONGEST_LINE {
+        return None;
+    }
+    let line = std::str::from_utf8(line).ok()?;
+    let words: Vec<&str> = line.split(' ').collect();
+    match words[..] {
+        ["read", message] => {
+            let Answer { number, place, .. } = read(&bytes(message)?);
+            Some(format!("{number} {place}"))
+        }
+        ["verdict", message] => verdict_words(&bytes(message)?),
+        ["escape", text, delimiters, room] => text_words(text, delimiters, room, escape),
+        ["unescape", text, delimiters, room] => text_words(text, delimiters, room, unescape),
+        ["ack", message, time, id, room] => {
+            let (message, time, id) = (bytes(message)?, bytes(time)?, bytes(id)?);
+            let mut buffer = buffer_of(room)?;
+            let answer = acknowledge(&message, &time, &id, &mut buffer);
+            Some(written_words(answer, &buffer))
+        }
+        _ => None,
+    }
+}
+
+fn verdict_words(message: &[u8]) -> Option<String> {
+    let found = verdict(message);
+    let names: Vec<String> = found.names.list().into_iter().map(letters).collect();
+    let names = if names.is_empty() { "-".to_string() } else { names.join(",") };
+    let end = if found.could_end { "yes" } else { "no" };
+    let (number, place, field) = (found.number, found.place, found.field);
+    Some(format!("{number} {place} {field} {} {end} {names}", found.repetition))
+}
+
+/// The letters of a name that is a number.
+fn letters(name: u32) -> String {
+    name.to_be_bytes()[1..].iter().map(|&byte| char::from(byte)).collect()
+}
+
+type Writer = fn(&[u8; 5], &[u8], &mut [u8]) -> Answer;
+
+fn text_words(text: &str, delimiters: &str, room: &str, write: Writer) -> Option<String> {
+    let delimiters = <[u8; 5]>::try_from(bytes(delimiters)?).ok()?;
+    let mut buffer = buffer_of(room)?;
+    let answer = write(&delimiters, &bytes(text)?, &mut buffer);
+    Some(written_words(answer, &buffer))
+}
+
+fn written_words(answer: Answer, buffer: &[u8]) -> String {
+    let hex: String = buffer.iter().map(|byte| format!("{byte:02x}")).collect();
+    let hex = if hex.is_empty() { "-" } else { &hex };
+    format!("{} {} {} {hex}", answer.number, answer.place, answer.length)
+}
+
+fn buffer_of(room: &str) -> Option<Vec<u8>> {
+    let digits = !room.is_empty() && room.bytes().all(|byte| byte.is_ascii_digit());
+    let room: usize = room.parse().ok()?;
+    (digits && room <= MOST_ROOM).then(|| vec![UNWRITTEN; room])
+}
+
+fn bytes(word: &str) -> Option<Vec<u8>> {
+    if word == "-" {
+        return Some(Vec::new());
+    }
+    if word.is_empty() || word.len() % 2 != 0 {
+        return None;
+    }
+    let digit = |byte: u8| char::from(byte).to_digit(16).map(|digit| digit as u8);
+    word.as_bytes().chunks(2).map(|pair| Some(digit(pair[0])? * 16 + digit(pair[1])?)).collect()
+}

@@ -1,0 +1,87 @@
+//! The baseline: reading, judging, acknowledging, escaping and unescaping as one would write them in
+//! Rust for speed, with std alone and no unsafe code. It stands beside the proved library to be
+//! measured, and it answers as the model does: bench/check holds it to that.
+
+#![forbid(unsafe_code)]
+
+mod acknowledging;
+mod bytes;
+mod fields;
+mod reading;
+mod structure;
+mod text;
+mod values;
+
+pub use acknowledging::acknowledge;
+pub use structure::Names;
+pub use text::{escape, unescape};
+
+/// A number of the table, 0 where nothing was refused; its place; the length of what was written.
+#[derive(Clone, Copy, Default)]
+pub struct Answer {
+    pub number: u32,
+    pub place: usize,
+    pub length: usize,
+}
+
+/// Why something is refused, and where.
+#[derive(Clone, Copy)]
+struct Refusal {
+    number: u32,
+    place: usize,
+}
+
+impl From<Refusal> for Answer {
+    fn from(refusal: Refusal) -> Answer {
+        Answer { number: refusal.number, place: refusal.place, length: 0 }
+    }
+}
+
+/// The first fault of a message, or 0 in all. The names that could have stood are kept as a set, and
+/// made into names only where somebody asks.
+#[derive(Clone, Copy, Default)]
+pub struct Verdict {
+    pub number: u32,
+    pub could_end: bool,
+    pub place: usize,
+    pub field: usize,
+    pub repetition: usize,
+    pub names: Names,
+}
+
+impl From<Refusal> for Verdict {
+    fn from(refusal: Refusal) -> Verdict {
+        Verdict { number: refusal.number, place: refusal.place, ..Verdict::default() }
+    }
+}
+
+/// Numbers 1 to 8.
+#[inline]
+pub fn read(message: &[u8]) -> Answer {
+    match reading::check(message, |_, _| ()) {
+        Ok(()) => Answer::default(),
+        Err(refusal) => refusal.into(),
+    }
+}
+
+/// A reading fault, 20, 21 or 22, or the first of 31 to 37.
+#[inline]
+pub fn verdict(message: &[u8]) -> Verdict {
+    match judge(message) {
+        Ok(()) => Verdict::default(),
+        Err(fault) => fault,
+    }
+}
+
+/// The reader notes where the segments end, so that the judges behind it look for no CR.
+fn judge(message: &[u8]) -> Result<(), Verdict> {
+    let mut ends = [0; reading::MOST_SEGMENTS];
+    let mut count = 0;
+    reading::check(message, |number, end| {
+        ends[number] = end as u16;
+        count = number + 1;
+    })?;
+    let segments = reading::Segments { message, ends: &ends[..count] };
+    structure::judge(segments)?;
+    fields::judge(segments)
+}

@@ -1,0 +1,397 @@
+//! Measures the library beside the baseline on the same bytes. Both give the same answers first.
+//!
+//!     harness once SIDE ENTRY SIZE     calls one function once, for a counter of instructions
+//!     harness rows                     the names of all that is measured, a line for each
+//!     harness table [COUNTS]           times all in turns and prints the table; COUNTS is a file of
+//!                                      lines SIDE ENTRY SIZE INSTRUCTIONS
+
+mod reports;
+
+use std::collections::HashMap;
+use std::hint::black_box;
+use std::process::ExitCode;
+use std::time::Instant;
+
+/// The library as include/turrethog.h has it.
+mod library {
+    #[repr(C)]
+    #[derive(Clone, Copy, PartialEq)]
+    pub struct Answer {
+        pub number: u32,
+        pub place: usize,
+        pub length: usize,
+    }
+
+    #[repr(C)]
+    #[derive(Clone, Copy, PartialEq)]
+    pub struct Verdict {
+        pub number: u32,
+        pub could_end: bool,
+        pub place: usize,
+        pub field: usize,
+        pub repetition: usize,
+        pub names: usize,
+    }
+
+    unsafe extern "C" {
+        pub fn turrethog_read(message: *const u8, length: usize) -> Answer;
+        pub fn turrethog_verdict(message: *const u8, length: usize) -> Verdict;
+        pub fn turrethog_acknowledge(
+            message: *const u8,
+            length: usize,
+            time: *const u8,
+            time_length: usize,
+            id: *const u8,
+            id_length: usize,
+            buffer: *mut u8,
+            room: usize,
+        ) -> Answer;
+        pub fn turrethog_escape(
+            field: u8,
+            component: u8,
+            repetition: u8,
+            escape: u8,
+            subcomponent: u8,
+            text: *const u8,
+            length: usize,
+            buffer: *mut u8,
+            room: usize,
+        ) -> Answer;
+        pub fn turrethog_unescape(
+            field: u8,
+            component: u8,
+            repetition: u8,
+            escape: u8,
+            subcomponent: u8,
+            text: *const u8,
+            length: usize,
+            buffer: *mut u8,
+            room: usize,
+        ) -> Answer;
+    }
+}
+
+use library::{Answer, Verdict};
+
+// The baseline behind names of its own, so that a counter finds it and no call is taken out.
+
+#[no_mangle]
+#[inline(never)]
+fn baseline_read(message: &[u8]) -> baseline::Answer {
+    baseline::read(message)
+}
+
+#[no_mangle]
+#[inline(never)]
+fn baseline_verdict(message: &[u8]) -> baseline::Verdict {
+    baseline::verdict(message)
+}
+
+#[no_mangle]
+#[inline(never)]
+fn baseline_acknowledge(
+    message: &[u8],
+    time: &[u8],
+    id: &[u8],
+    buffer: &mut [u8],
+) -> baseline::Answer {
+    baseline::acknowledge(message, time, id, buffer)
+}
+
+#[no_mangle]
+#[inline(never)]
+fn baseline_escape(delimiters: &[u8; 5], text: &[u8], buffer: &mut [u8]) -> baseline::Answer {
+    baseline::escape(delimiters, text, buffer)
+}
+
+#[no_mangle]
+#[inline(never)]
+fn baseline_unescape(delimiters: &[u8; 5], text: &[u8], buffer: &mut [u8]) -> baseline::Answer {
+    baseline::unescape(delimiters, text, buffer)
+}
+
+const DELIMITERS: [u8; 5] = *br"|^~\&";
+const TIME: &[u8] = b"20240229093001+0000";
+const ID: &[u8] = b"ACK0001";
+
+/// Every result fits: a text that is escaped has at most five bytes for each.
+const ROOM: usize = 5 * 32_768;
+
+#[derive(Clone, Copy, PartialEq)]
+enum Side {
+    Library,
+    Baseline,
+}
+
+#[derive(Clone, Copy, PartialEq)]
+enum Entry {
+    Read,
+    Verdict,
+    Acknowledge,
+    Escape,
+    Unescape,
+}
+
+/// What is measured: an entry point on some bytes.
+struct Job {
+    entry: Entry,
+    size: &'static str,
+    bytes: Vec<u8>,
+}
+
+/// An answer of either side, with all that it tells.
+#[derive(PartialEq)]
+enum Told {
+    Answer(Answer),
+    Verdict(Verdict),
+}
+
+impl Job {
+    fn name(&self) -> &'static str {
+        match self.entry {
+            Entry::Read => "read",
+            Entry::Verdict => "verdict",
+            Entry::Acknowledge => "acknowledge",
+            Entry::Escape => "escape",
+            Entry::Unescape => "unescape",
+        }
+    }
+
+    #[inline(always)]
+    fn call(&self, side: Side, buffer: &mut [u8]) -> Told {
+        match side {
+            Side::Library => self.call_library(buffer),
+            Side::Baseline => self.call_baseline(buffer),
+        }
+    }
+
+    #[inline(always)]
+    fn call_library(&self, buffer: &mut [u8]) -> Told {
+        let bytes = black_box(&self.bytes[..]);
+        let (at, length) = (bytes.as_ptr(), bytes.len());
+        let (to, room) = (buffer.as_mut_ptr(), buffer.len());
+        let [field, component, repetition, escape, subcomponent] = DELIMITERS;
+        // Every pointer leads to as many bytes as its length says, and the buffer is our own.
+        unsafe {
+            match self.entry {
+                Entry::Read => Told::Answer(library::turrethog_read(at, length)),
+                Entry::Verdict => Told::Verdict(library::turrethog_verdict(at, length)),
+                Entry::Acknowledge => Told::Answer(library::turrethog_acknowledge(
+                    at,
+                    length,
+                    TIME.as_ptr(),
+                    TIME.len(),
+                    ID.as_ptr(),
+                    ID.len(),
+                    to,
+                    room,
+                )),
+                Entry::Escape => Told::Answer(library::turrethog_escape(
+                    field, component, repetition, escape, subcomponent, at, length, to, room,
+                )),
+                Entry::Unescape => Told::Answer(library::turrethog_unescape(
+                    field, component, repetition, escape, subcomponent, at, length, to, room,
+                )),
+            }
+        }
+    }
+
+    #[inline(always)]
+    fn call_baseline(&self, buffer: &mut [u8]) -> Told {
+        let bytes = black_box(&self.bytes[..]);
+        let told = |answer: baseline::Answer| {
+            let baseline::Answer { number, place, length } = answer;
+            Told::Answer(Answer { number, place, length })
+        };
+        match self.entry {
+            Entry::Read => told(baseline_read(bytes)),
+            Entry::Verdict => {
+                let found = baseline_verdict(bytes);
+                Told::Verdict(Verdict {
+                    number: found.number,
+                    could_end: found.could_end,
+                    place: found.place,
+                    field: found.field,
+                    repetition: found.repetition,
+                    // All that is measured is accepted, and then no names are listed.
+                    names: 0,
+                })
+            }
+            Entry::Acknowledge => told(baseline_acknowledge(bytes, TIME, ID, buffer)),
+            Entry::Escape => told(baseline_escape(&DELIMITERS, bytes, buffer)),
+            Entry::Unescape => told(baseline_unescape(&DELIMITERS, bytes, buffer)),
+        }
+    }
+}
+
+/// All that is measured, in the order of the table.
+fn jobs() -> Vec<Job> {
+    let sizes = [
+        ("small", reports::report(9, 1_024)),
+        ("usual", reports::report(40, 5_120)),
+        ("largest", reports::report(256, 32_768)),
+    ];
+    let mut jobs = Vec::new();
+    for entry in [Entry::Read, Entry::Verdict, Entry::Acknowledge] {
+        for (size, bytes) in &sizes {
+            jobs.push(Job { entry, size, bytes: bytes.clone() });
+        }
+    }
+    let text = reports::text(32_768);
+    jobs.push(Job { entry: Entry::Escape, size: "text", bytes: text });
+    jobs.push(Job { entry: Entry::Unescape, size: "text", bytes: written_text(32_768) });
+    jobs
+}
+
+/// The longest text that is at most so long when it is written, written.
+fn written_text(most: usize) -> Vec<u8> {
+    let written = |length: usize| {
+        let mut buffer = vec![0; ROOM];
+        let answer = baseline::escape(&DELIMITERS, &reports::text(length), &mut buffer);
+        buffer.truncate(answer.length);
+        buffer
+    };
+    // A longer text is longer when it is written, so the last that fits is found by halves.
+    let (mut fits, mut too_long) = (0, most + 1);
+    while too_long - fits > 1 {
+        let middle = (fits + too_long) / 2;
+        if written(middle).len() <= most {
+            fits = middle;
+        } else {
+            too_long = middle;
+        }
+    }
+    written(fits)
+}
+
+fn main() -> ExitCode {
+    let words: Vec<String> = std::env::args().skip(1).collect();
+    let words: Vec<&str> = words.iter().map(String::as_str).collect();
+    match words[..] {
+        ["rows"] => {
+            for job in jobs() {
+                println!("{} {}", job.name(), job.size);
+            }
+        }
+        ["once", side, entry, size] => {
+            let side = if side == "library" { Side::Library } else { Side::Baseline };
+            let jobs = jobs();
+            let Some(job) = jobs.iter().find(|job| job.name() == entry && job.size == size) else {
+                return ExitCode::FAILURE;
+            };
+            let mut buffer = vec![0; ROOM];
+            black_box(job.call(side, &mut buffer));
+        }
+        ["table"] => return table(&jobs(), &HashMap::new()),
+        ["table", file] => match std::fs::read_to_string(file) {
+            Ok(counts) => return table(&jobs(), &counted(&counts)),
+            Err(fault) => {
+                eprintln!("{file}: {fault}");
+                return ExitCode::FAILURE;
+            }
+        },
+        _ => {
+            eprintln!(
+                "usage: harness once SIDE ENTRY SIZE | harness rows | harness table [COUNTS]"
+            );
+            return ExitCode::from(2);
+        }
+    }
+    ExitCode::SUCCESS
+}
+
+/// Instructions, by side, entry point and size.
+fn counted(lines: &str) -> HashMap<String, u64> {
+    let pair = |line: &str| {
+        let (name, count) = line.rsplit_once(' ')?;
+        Some((name.to_string(), count.parse().ok()?))
+    };
+    lines.lines().filter_map(pair).collect()
+}
+
+/// Nothing is timed that both sides do not answer alike, to the last byte that they write.
+fn agree(job: &Job) -> bool {
+    let (mut ours, mut theirs) = (vec![0xA5; ROOM], vec![0xA5; ROOM]);
+    let told = job.call(Side::Library, &mut ours);
+    let accepted = match &told {
+        Told::Answer(answer) => answer.number == 0,
+        Told::Verdict(verdict) => verdict.number == 0,
+    };
+    accepted && told == job.call(Side::Baseline, &mut theirs) && ours == theirs
+}
+
+fn table(jobs: &[Job], counts: &HashMap<String, u64>) -> ExitCode {
+    for job in jobs {
+        if !agree(job) {
+            eprintln!("{} {}: library and baseline differ, or refuse", job.name(), job.size);
+            return ExitCode::FAILURE;
+        }
+    }
+    println!("| Entry point | Bytes | Instructions | per byte | baseline | ratio | µs | baseline | ratio |");
+    println!("|---|---|---|---|---|---|---|---|---|");
+    for job in jobs {
+        let bytes = job.bytes.len();
+        let count =
+            |side: &str| counts.get(&format!("{side} {} {}", job.name(), job.size)).copied();
+        let instructions = match (count("library"), count("baseline")) {
+            (Some(ours), Some(theirs)) => {
+                let each = ours as f64 / bytes as f64;
+                let ratio = ours as f64 / theirs as f64;
+                format!("{ours} | {each:.1} | {theirs} | {ratio:.2}")
+            }
+            _ => "- | - | - | -".to_string(),
+        };
+        let (ours, theirs) = times(job);
+        let (ratio, ours, theirs) = (ours / theirs, ours / 1000.0, theirs / 1000.0);
+        println!(
+            "| {} | {bytes} | {instructions} | {ours:.2} | {theirs:.2} | {ratio:.2} |",
+            job.name()
+        );
+    }
+    println!();
+    for entry in ["read", "verdict", "acknowledge"] {
+        let each = |side: &str, size: &str| {
+            let count = *counts.get(&format!("{side} {entry} {size}"))?;
+            let job = jobs.iter().find(|job| job.name() == entry && job.size == size)?;
+            Some(count as f64 / job.bytes.len() as f64)
+        };
+        let growth = |side| Some(each(side, "largest")? / each(side, "small")?);
+        if let (Some(ours), Some(theirs)) = (growth("library"), growth("baseline")) {
+            println!("{entry}: per byte, the largest report takes {ours:.2} times the instructions of the small one (baseline: {theirs:.2})");
+        }
+    }
+    ExitCode::SUCCESS
+}
+
+/// Nanoseconds of one call of each side, the median of many samples that are taken in turns, so that
+/// whatever slows the machine down slows both.
+fn times(job: &Job) -> (f64, f64) {
+    const SAMPLES: usize = 1_001;
+    const SAMPLE: f64 = 40_000.0;
+    let mut buffer = vec![0; ROOM];
+    // Warm first, and as many calls to a sample as make it long beside the clock's own time.
+    sample(job, Side::Library, 20, &mut buffer);
+    let calls = |side, buffer: &mut [u8]| 1 + (SAMPLE / sample(job, side, 20, buffer)) as usize;
+    let calls = [calls(Side::Library, &mut buffer), calls(Side::Baseline, &mut buffer)];
+    let mut ours = Vec::new();
+    let mut theirs = Vec::new();
+    for _ in 0..SAMPLES {
+        ours.push(sample(job, Side::Library, calls[0], &mut buffer));
+        theirs.push(sample(job, Side::Baseline, calls[1], &mut buffer));
+    }
+    (median(ours), median(theirs))
+}
+
+/// Nanoseconds of one call, by so many.
+fn sample(job: &Job, side: Side, calls: usize, buffer: &mut [u8]) -> f64 {
+    let start = Instant::now();
+    for _ in 0..calls {
+        black_box(job.call(side, buffer));
+    }
+    start.elapsed().as_nanos() as f64 / calls as f64
+}
+
+fn median(mut samples: Vec<f64>) -> f64 {
+    samples.sort_by(f64::total_cmp);
+    samples[samples.len() / 2]
+}
