@@ -17,6 +17,7 @@ use Rattle.alphabet.specs.declared.parts.Part.the-variants.{At, Absent}
 use Rattle.alphabet.proofs.ListLaws.{rest-of, piece-of-piece, first-le}
 use Rattle.alphabet.proofs.PartLaws.{split-step, split-last, split-nothing, part-bytes, past-none, none-past, walk-in, walk-more, walk-last, first-part}
 use Rattle.fields.specs.Rules.{firstState, requiredCheck, repeatedCheck, saidCheck, isSaid, saidField, kindOf, portionOf, repetitionCheck, repetitionChecks, rowCheck}
+use Rattle.fields.specs.declared.walk.Cursor.{Cursor}
 use Rattle.fields.specs.Walk.{openingCheck, partNumber, fieldBytes, saidBytes, Stands, Finds, leftOf, Goes}
 use Rattle.fields.specs.declared.table.Kind.{Kind}
 use Rattle.fields.specs.declared.table.Row.{Row}
@@ -47,9 +48,10 @@ module _ (sep : ℕ) (s : List ℕ) (index place n : ℕ) (h : Stands sep s (rec
       ∙ getD-drop index (split sep s) 0 []
       ∙ ap (λ (i : ℕ). getD (split sep s) i []) z
 
-  pub finds-here : (wanted : ℕ) → index ≡ wanted → Finds sep s wanted (record { cursor = record { index = index; place = place }; start = place; end = place + n })
-  finds-here wanted e =
-      record { stands = h; ordered = omega arith; inside = walk-in sep s place n (h .inside) found; bytes = part-here ∙ ap (λ (i : ℕ). getD (split sep s) i []) e }
+  -- it is what was sought, whatever cursor goes on from it
+  pub finds-here : (wanted : ℕ) → index ≡ wanted → (next : Cursor) → Stands sep s next → Finds sep s wanted (record { cursor = next; start = place; end = place + n })
+  finds-here wanted e next k =
+      record { stands = k; ordered = omega arith; inside = walk-in sep s place n (h .inside) found; bytes = part-here ∙ ap (λ (i : ℕ). getD (split sep s) i []) e }
 
   -- behind the last part there is none
   pub finds-none : (wanted : ℕ) → index < wanted → place + n ≡ length s → Finds sep s wanted (record { cursor = record { index = index; place = place }; start = place + n; end = place + n })

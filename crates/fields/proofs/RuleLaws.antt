@@ -14,8 +14,10 @@ use Rattle.alphabet.proofs.PartLaws.{split-some}
 use Rattle.alphabet.specs.declared.answers.Check.the-variants.{Passes}
 use Rattle.alphabet.specs.declared.answers.Refusal.the-variants.{ValueWithoutType}
 use Rattle.element.specs.States.{stateOf}
+use Rattle.element.specs.declared.states.State.{State}
+use Rattle.element.specs.declared.states.State.the-variants.{Absent, Empty, Null, Present}
 use Rattle.value.specs.Asked.{isPresent}
-use Rattle.fields.specs.Rules.{formCheck, judgedPart, partState, placed, repetitionCheck, firstState, somePresent, isSaid, saidCheck, kindSaid, kindOf, portionOf}
+use Rattle.fields.specs.Rules.{formCheck, judgedPart, partState, placed, repetitionCheck, firstState, requiredCheck, somePresent, isSaid, saidCheck, kindSaid, kindOf, portionOf}
 use Rattle.fields.specs.declared.table.Portion.{Portion}
 use Rattle.fields.specs.declared.table.Portion.the-variants.{Component}
 use Rattle.fields.specs.declared.table.Kind.{Kind}
@@ -102,3 +104,10 @@ first-state-of ds portion (r ∷ rs) h = refl
 pub first-state : (ds : List ℕ) (portion : Portion) (sep : ℕ) (field : List ℕ) → firstState ds portion (split sep field) ≡ partState ds portion (take (find sep field) field)
 first-state ds portion sep field =
     first-state-of ds portion (split sep field) (split-some sep field) ∙ ap (partState ds portion) (first-part sep field)
+
+-- what is not required may be in any state
+pub not-required : (s : State) → requiredCheck false s ≡ Passes
+not-required Absent = refl
+not-required Empty = refl
+not-required Null = refl
+not-required Present = refl

@@ -100,6 +100,19 @@ fn check_required(required: bool, state: State) -> Check
     }
 }
 
+// The same of repetition 1 of a row's field: what is not required is not looked at.
+fn check_first(delimiters: Delimiters, row: Row, repetition: &[u8]) -> Check
+    ensures { λ r. ⌜ r ≡ requiredCheck (row .required) (stateOf (delimiters .bytes) (judgedPart (delimiters .bytes) (row .portion) (now (repetition .entry)))) ⌝ }
+{
+    if !row.required {
+        return Check::Passes;
+    }
+    let portion = row.portion;
+    let part = judged_part(delimiters, portion, repetition);
+    let state = element::state_of(delimiters, part);
+    check_required(true, state)
+}
+
 // Whether some repetition of a field is present, as a whole.
 fn some_present(delimiters: Delimiters, field: &[u8]) -> bool
     ensures { λ r. ⌜ r ≡ somePresent (delimiters .bytes) (split (getD (delimiters .bytes) 2 0) (now (field .entry))) ⌝ }
@@ -215,10 +228,7 @@ pub fn check_opening(delimiters: Delimiters, row: Row, said: &[u8], field: &[u8]
 {
     let bytes = delimiters.bytes;
     let end = alphabet::find(field, bytes[2]);
-    let portion = row.portion;
-    let part = judged_part(delimiters, portion, &field[..end]);
-    let state = element::state_of(delimiters, part);
-    let required = check_required(row.required, state);
+    let required = check_first(delimiters, row, &field[..end]);
     let many = !row.repeats & (end < field.len());
     let repeated = alphabet::fails_if(many, Refusal::Repeated, 1);
     let first = alphabet::or_else(required, repeated);

@@ -13,8 +13,9 @@ use alphabet::Check;
 use alphabet::Delimiters;
 use alphabet::Part;
 ghost use mathlib.Core.Path.{_≡_};
-ghost use Prim.Native.Nat.{_≤_};
-ghost use lib.ListN.{getD};
+ghost use Prim.Native.Nat.{_+_, _≤_};
+ghost use lib.ListN.{getD, drop};
+ghost use Rattle.alphabet.specs.Lists.{find};
 ghost use Rattle.fields.specs.Walk.{partNumber, saidBytes, Stands, Finds, Begins, Goes, Steps};
 
 // Part `index` of a segment, from 0, begins at `place`.
@@ -64,6 +65,20 @@ fn rewound(segment: &[u8], separator: u8, cursor: Cursor, wanted: usize) -> Curs
     cursor
 }
 
+// The cursor behind a part that was found, from which the next is sought; at the part itself where it is the last.
+fn behind(segment: &[u8], separator: u8, cursor: Cursor, end: usize) -> Cursor
+    requires { ⌜ Stands separator (now segment) cursor × (end ≡ cursor .place + find separator (drop (cursor .place) (now segment))) ⌝ }
+    ensures { λ r. ⌜ Stands separator (now (segment .entry)) r ⌝ }
+{
+    if end < segment.len() {
+        return Cursor {
+            index: cursor.index + 1,
+            place: end + 1,
+        };
+    }
+    cursor
+}
+
 // The part of an index, from 0; where there is none, no bytes.
 fn seek(segment: &[u8], separator: u8, cursor: Cursor, wanted: usize) -> Sought
     requires { ⌜ Stands separator (now segment) cursor ⌝ }
@@ -74,22 +89,20 @@ fn seek(segment: &[u8], separator: u8, cursor: Cursor, wanted: usize) -> Sought
     let mut place = from.place;
     loop {
         let end = place + alphabet::find(&segment[place..], separator);
+        let here = Cursor {
+            index: index,
+            place: place,
+        };
         if index == wanted {
             return Sought {
-                cursor: Cursor {
-                    index: index,
-                    place: place,
-                },
+                cursor: behind(segment, separator, here, end),
                 start: place,
                 end: end,
             };
         }
         if end == segment.len() {
             return Sought {
-                cursor: Cursor {
-                    index: index,
-                    place: place,
-                },
+                cursor: here,
                 start: end,
                 end: end,
             };

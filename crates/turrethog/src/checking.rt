@@ -4,7 +4,6 @@ use crate::faults;
 use crate::parts;
 use crate::refusals;
 use crate::status;
-use crate::terminal;
 use element::Address;
 
 // The bytes of a component of the type of a message, which is the first repetition of MSH-9.

@@ -2,7 +2,6 @@
 // window around the marks, and dots stand where it goes on. No bytes are marked by one mark, at the place where they would be.
 ghost use Prim.Native.Nat.{_≤_};
 use crate::parts;
-use crate::terminal;
 
 // The most bytes that are drawn of a segment.
 const WIDTH: usize = 72;

@@ -5,7 +5,6 @@ ghost use mathlib.Core.Path.{_≡_};
 use crate::addresses;
 use crate::drawing;
 use crate::parts;
-use crate::terminal;
 use alphabet::Part;
 use element::Address;
 use element::State;

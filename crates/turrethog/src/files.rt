@@ -4,7 +4,6 @@ ghost use Prim.Native.Nat.{_+_, _≤_};
 ghost use mathlib.Core.Path.{_≡_};
 ghost use lib.ListN.{length};
 ghost use Rattle.io.specs.Counts.{Counts};
-use crate::terminal;
 use libc::STDERR_FILENO;
 
 // Whether a file could be read, and how many of its bytes stand at the front of the buffer.

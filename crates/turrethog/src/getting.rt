@@ -8,7 +8,6 @@ use crate::faults;
 use crate::parts;
 use crate::refusals;
 use crate::status;
-use crate::terminal;
 use element::Address;
 use element::State;
 use libc::STDERR_FILENO;

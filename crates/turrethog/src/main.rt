@@ -12,7 +12,6 @@ mod parts;
 mod refusals;
 mod showing;
 mod status;
-mod terminal;
 mod usage;
 
 use libc::STDOUT_FILENO;

@@ -1,5 +1,4 @@
 // The refusals in words, each with its number of document 01. Where a place is drawn under them, `this` is what is marked there.
-use crate::terminal;
 use alphabet::Refusal;
 
 // The words for 1 to 4: a fault in the message's bytes.

@@ -6,7 +6,6 @@ use crate::getting;
 use crate::parts;
 use crate::refusals;
 use crate::status;
-use crate::terminal;
 use alphabet::Delimiters;
 use element::Address;
 use element::State;

@@ -1,7 +1,6 @@
 // What the command can be asked, told to whoever asks it nothing or something that it does not know. Each way to ask has a line
 // that can be typed as it stands.
 use crate::status;
-use crate::terminal;
 use libc::STDERR_FILENO;
 
 fn say(line: &[u8]) {

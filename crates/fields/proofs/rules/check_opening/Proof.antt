@@ -29,39 +29,38 @@ within c =
     omega (arith, c .find .ensures)
 
 -- 31 or 34, by repetition 1
-required : (c : tie.After-check-required)
-    → c .check-required .result
-    ≡ requiredCheck (c .before .before .before .before .before .before .before .before .args .row .required) (firstState (c .before .before .before .before .before .before .before .before .args .delimiters .bytes) (c .before .before .before .before .before .before .before .before .args .row .portion) (split (getD (c .before .before .before .before .before .before .before .before .args .delimiters .bytes) 2 0) (now (c .before .before .before .before .before .before .before .before .args .field))))
+required : (c : tie.After-check-first)
+    → c .check-first .result
+    ≡ requiredCheck (c .before .before .before .before .before .before .args .row .required) (firstState (c .before .before .before .before .before .before .args .delimiters .bytes) (c .before .before .before .before .before .before .args .row .portion) (split (getD (c .before .before .before .before .before .before .args .delimiters .bytes) 2 0) (now (c .before .before .before .before .before .before .args .field))))
 required c =
-    let a = c .before .before .before .before .before .before .before .before .args in
+    let a = c .before .before .before .before .before .before .args in
     let ds = a .delimiters .bytes in
-    c .check-required .ensures
+    c .check-first .ensures
     ∙ ap (requiredCheck (a .row .required))
-    (c .before .state-of .ensures ∙ ap (stateOf ds) (c .before .before .judged-part .ensures)
-    ∙ ap (λ (n : ℕ). stateOf ds (judgedPart ds (a .row .portion) (take n (now (a .field))))) (c .before .before .before .before .find .ensures)
+    (ap (λ (n : ℕ). stateOf ds (judgedPart ds (a .row .portion) (take n (now (a .field))))) (c .before .before .find .ensures)
     ∙ sym (first-state ds (a .row .portion) (getD ds 2 0) (now (a .field))))
 
 -- 36, by where the first repetition ends
-repeated : (c : tie.After-fails-if) → c .fails-if .result ≡ repeatedCheck (c .before .before .before .before .before .before .before .before .before .before .args .row .repeats) (split (getD (c .before .before .before .before .before .before .before .before .before .before .args .delimiters .bytes) 2 0) (now (c .before .before .before .before .before .before .before .before .before .before .args .field)))
+repeated : (c : tie.After-fails-if) → c .fails-if .result ≡ repeatedCheck (c .before .before .before .before .before .before .before .before .args .row .repeats) (split (getD (c .before .before .before .before .before .before .before .before .args .delimiters .bytes) 2 0) (now (c .before .before .before .before .before .before .before .before .args .field)))
 repeated c =
-    let a = c .before .before .before .before .before .before .before .before .before .before .args in
+    let a = c .before .before .before .before .before .before .before .before .args in
     let ds = a .delimiters .bytes in
     c .fails-if .ensures
-    ∙ ap (λ (n : ℕ). failsIf (not (a .row .repeats) && ltb n (length (now (a .field)))) Repeated 1) (c .before .before .before .before .before .before .find .ensures)
+    ∙ ap (λ (n : ℕ). failsIf (not (a .row .repeats) && ltb n (length (now (a .field)))) Repeated 1) (c .before .before .before .before .find .ensures)
     ∙ ap (λ (t : Bool). failsIf (not (a .row .repeats) && t) Repeated 1) (sym (more-parts (getD ds 2 0) (now (a .field))))
 
 -- the one, then the other
 first : (c : tie.After-or-else)
     → c .or-else .result
-    ≡ orElse (requiredCheck (c .before .before .before .before .before .before .before .before .before .before .before .args .row .required) (firstState (c .before .before .before .before .before .before .before .before .before .before .before .args .delimiters .bytes) (c .before .before .before .before .before .before .before .before .before .before .before .args .row .portion) (split (getD (c .before .before .before .before .before .before .before .before .before .before .before .args .delimiters .bytes) 2 0) (now (c .before .before .before .before .before .before .before .before .before .before .before .args .field)))))
-    (repeatedCheck (c .before .before .before .before .before .before .before .before .before .before .before .args .row .repeats) (split (getD (c .before .before .before .before .before .before .before .before .before .before .before .args .delimiters .bytes) 2 0) (now (c .before .before .before .before .before .before .before .before .before .before .before .args .field))))
+    ≡ orElse (requiredCheck (c .before .before .before .before .before .before .before .before .before .args .row .required) (firstState (c .before .before .before .before .before .before .before .before .before .args .delimiters .bytes) (c .before .before .before .before .before .before .before .before .before .args .row .portion) (split (getD (c .before .before .before .before .before .before .before .before .before .args .delimiters .bytes) 2 0) (now (c .before .before .before .before .before .before .before .before .before .args .field)))))
+    (repeatedCheck (c .before .before .before .before .before .before .before .before .before .args .row .repeats) (split (getD (c .before .before .before .before .before .before .before .before .before .args .delimiters .bytes) 2 0) (now (c .before .before .before .before .before .before .before .before .before .args .field))))
 first c =
-    let a = c .before .before .before .before .before .before .before .before .before .before .before .args in
-    c .or-else .ensures ∙ ap (orElse (c .before .before .before .check-required .result)) (repeated (c .before))
+    let a = c .before .before .before .before .before .before .before .before .before .args in
+    c .or-else .ensures ∙ ap (orElse (c .before .before .before .check-first .result)) (repeated (c .before))
     ∙ ap (λ (k : Check). orElse k (repeatedCheck (a .row .repeats) (split (getD (a .delimiters .bytes) 2 0) (now (a .field))))) (required (c .before .before .before))
 
-slice-aggregate-judged-part : tie.Need-slice-aggregate-judged-part
-slice-aggregate-judged-part c = sym (length-take-le _ _ (within (c .before)))
+slice-aggregate-check-first : tie.Need-slice-aggregate-check-first
+slice-aggregate-check-first c = sym (length-take-le _ _ (within (c .before)))
 
 returns : tie.Need-returns
 unfolding openingCheck
@@ -77,9 +76,7 @@ check-opening-spec =
     (tie.spec
     (λ c. search needs)
     (λ c κs. search needs)
-    slice-aggregate-judged-part
-    (λ c κs. search needs)
-    (λ c κs. search needs)
+    slice-aggregate-check-first
     (λ c κs. search needs)
     (λ c κs. search needs)
     (λ c κs. search needs)

@@ -1,10 +1,13 @@
 -- Rests on the laws of a cursor, which stands at each turn.
 use borrow.Author.Needs.{needs}
-use Prim.Native.Nat.{_≤_, _-_, _+_}
+use mathlib.Core.Path.{ap, _∙_}
+use Prim.Native.Nat.{ℕ, _≤_, _-_, _+_}
 use lib.ListN.{length}
 use native.Mathlib.Omega.{arith}
 use denote.Ref.{now}
 use Rattle.fields.specs.Walk.{Stands}
+use Rattle.alphabet.specs.Lists.{find}
+use Rattle.alphabet.proofs.ListLaws.{rest-of}
 use Rattle.alphabet.proofs.PartLaws.{walk-in}
 use Rattle.fields.proofs.CursorLaws.{finds-here, finds-none, stands-on}
 use Rattle.fields.proofs.walk.seek.Statement.{statement}
@@ -22,11 +25,17 @@ inside c =
     let a = l .before .before .before .args in
     walk-in (a .separator) (now (a .segment)) (l .loop .place) (c .find .result) (l .loop .inv .0 .inside) (c .find .ensures)
 
-returns : tie.Need-returns Inv-loop μ-loop
-returns c =
+behind-requires : tie.Need-behind-requires Inv-loop μ-loop
+behind-requires c κs =
     let l = c .before .before .before in
     let a = l .before .before .before .args in
-    finds-here (a .separator) (now (a .segment)) (l .loop .index) (l .loop .place) (c .before .find .result) (l .loop .inv .0) (c .before .find .ensures) (a .wanted) (c .if1 .taken)
+    (l .loop .inv .0, ap (λ (n : ℕ). l .loop .place + n) (c .before .find .ensures ∙ ap (find (a .separator)) (rest-of (now (a .segment)) (l .loop .place))))
+
+returns : tie.Need-returns Inv-loop μ-loop
+returns c =
+    let l = c .before .before .before .before in
+    let a = l .before .before .before .args in
+    finds-here (a .separator) (now (a .segment)) (l .loop .index) (l .loop .place) (c .before .before .find .result) (l .loop .inv .0) (c .before .before .find .ensures) (a .wanted) (c .before .if1 .taken) (c .behind .result) (c .behind .ensures)
 
 returns-2 : tie.Need-returns-2 Inv-loop μ-loop
 returns-2 c =
@@ -57,6 +66,7 @@ seek-spec =
     (λ c. let i = c .loop .inv .0 .inside in search needs)
     (λ c κs. search needs)
     (λ c. let i = inside c in omega arith)
+    behind-requires
     returns
     returns-2
     (λ c. let i = inside (c .before .before) in omega arith)

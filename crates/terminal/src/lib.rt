@@ -5,7 +5,7 @@ ghost use Prim.Native.Nat.{_≤_};
 ghost use mathlib.Core.Path.{_≡_};
 ghost use lib.ListN.{length};
 ghost use Rattle.alphabet.specs.Lists.{first};
-ghost use Rattle.turrethog.specs.Terminal.{plain, notPlain, inBraces};
+ghost use Rattle.terminal.specs.Terminal.{plain, notPlain, inBraces};
 
 // Whether a byte is printed as it stands.
 pub fn is_plain(byte: u8) -> bool

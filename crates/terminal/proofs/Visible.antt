@@ -11,7 +11,7 @@ use Rattle.alphabet.specs.Bytes.{fromTo, hexDigit}
 use Rattle.alphabet.specs.Lists.{first}
 use Rattle.alphabet.proofs.BoolLaws.{and-both, from-to, false-true}
 use Rattle.alphabet.proofs.ListLaws.{first-before}
-use Rattle.turrethog.specs.Terminal.{plain, notPlain, inBraces, Visible}
+use Rattle.terminal.specs.Terminal.{plain, notPlain, inBraces, Visible}
 
 -- a byte before the first that is not plain
 pub run-visible : (l : List ℕ) (i : ℕ) → i < first notPlain l → Visible (getD l i 0)

@@ -4,12 +4,12 @@ use native.Mathlib.Omega.{arith}
 use lib.ListN.{length, drop, length-drop}
 use denote.Ref.{now}
 use Rattle.alphabet.proofs.ListLaws.{rest-of, first-le}
-use Rattle.turrethog.specs.Terminal.{notPlain}
+use Rattle.terminal.specs.Terminal.{notPlain}
 use mathlib.Core.Path.{ap, _∙_}
 use Rattle.alphabet.specs.Lists.{first}
 use Prim.Native.Nat.{_≤_, _+_}
-use Rattle.turrethog.proofs.terminal.plain_end.Statement.{statement}
-use Rattle.turrethog.proofs.terminal.plain_end.Tie as tie
+use Rattle.terminal.proofs.plain_end.Statement.{statement}
+use Rattle.terminal.proofs.plain_end.Tie as tie
 
 -- the bytes that are printed as they stand lie within those behind the start
 within : (c : tie.After-plain-run) → c .before .before .before .args .start + c .plain-run .result ≤ length (now (c .before .before .before .args .bytes))

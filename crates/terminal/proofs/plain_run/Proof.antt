@@ -7,11 +7,11 @@ use native.Mathlib.Omega.{arith}
 use native.Mathlib.Nat.{zero-add}
 use borrow.Author.Needs.{needs}
 use denote.Ref.{now}
-use Rattle.turrethog.specs.Terminal.{notPlain}
+use Rattle.terminal.specs.Terminal.{notPlain}
 use Rattle.alphabet.specs.Lists.{first}
 use Rattle.alphabet.proofs.ListLaws.{first-here, first-past, first-end}
-use Rattle.turrethog.proofs.terminal.plain_run.Statement.{statement}
-use Rattle.turrethog.proofs.terminal.plain_run.Tie as tie
+use Rattle.terminal.proofs.plain_run.Statement.{statement}
+use Rattle.terminal.proofs.plain_run.Tie as tie
 
 abbrev Inv-loop : tie.InvT-loop
 Inv-loop bytes i₀ i = (i ≤ length bytes) × (first notPlain bytes ≡ i + first notPlain (drop i bytes))

@@ -3,8 +3,8 @@ use borrow.Author.Needs.{needs}
 use native.Mathlib.Omega.{arith}
 use Prim.Native.Nat.{_≤_, _+_, _-_}
 use lib.ListN.{length}
-use Rattle.turrethog.proofs.terminal.print.Statement.{statement}
-use Rattle.turrethog.proofs.terminal.print.Tie as tie
+use Rattle.terminal.proofs.print.Statement.{statement}
+use Rattle.terminal.proofs.print.Tie as tie
 
 abbrev Inv-loop : tie.InvT-loop
 Inv-loop to bytes start₀ start = start ≤ length bytes + 1
