@@ -1,18 +1,24 @@
 -- Bytes that stand plainly, one behind another: how far they go, and that they are written as they are and say what they are. Assumes nothing.
 use mathlib.Core.Path.{_≡_, refl, sym, ap, _∙_}
-use mathlib.Core.List.{List, [], _∷_}
+use mathlib.Core.List.{List, [], _∷_, _++_}
 use mathlib.Core.Bool.{Bool, true, false, cond, not, _&&_, _||_}
-use Prim.Native.Nat.{ℕ, zero, suc, _+_, _≤_, _<_}
+use Prim.Native.Nat.{ℕ, zero, suc, _+_, _-_, _≤_, _<_}
+use native.Mathlib.Nat.{add-zero}
 use native.Mathlib.Decide.{decLt}
 use native.Mathlib.Omega.{arith}
 use lib.Dec.{leb, ltb, eqb}
-use lib.ListN.{length, getD, take, drop, length-drop}
-use lib.Seq.{length-take-le, getD-take, getD-drop}
-use borrow.Author.Tests.{le-leb, lt-leb, lt-ltb, le-ltb, leb-true}
-use Rattle.alphabet.proofs.ListLaws.{first-passes, first-before, first-least, first-le}
+use lib.ListN.{length, getD, take, drop, length-append, length-drop}
+use lib.Seq.{length-take-le, drop-drop}
+use borrow.Author.Tests.{le-leb, lt-leb, lt-ltb, le-ltb, leb-true, ltb-false, not-false}
+use Rattle.alphabet.proofs.BoolLaws.{or-neither}
+use Rattle.alphabet.proofs.ListLaws.{first-passes, first-before, first-le, find-own, rest-of}
 use Rattle.alphabet.specs.Lists.{first, find}
 use Rattle.alphabet.specs.Bytes.{printable}
+use Rattle.text.specs.Escape.{escapeOf, escapeByte, escapeBytes}
+use Rattle.text.specs.Unescape.{emit, step, before, scan}
 use Rattle.text.specs.Answers.{special}
+use Rattle.text.proofs.PieceLaws.{written-plain}
+use Rattle.text.proofs.StepLaws.{step-plain, scan-emit, before-before, before-none}
 
 -- ---- the test of a byte, against each of the five
 
@@ -114,3 +120,68 @@ module _ (test : ℕ → Bool) where
           → cond t 0 (suc (first test (take k r))) < suc (length (take k r)) → cond t 0 (suc (first test r)) ≡ cond t 0 (suc (first test (take k r)))
       at true ih h = refl
       at false ih h = ap suc (ih (omega arith))
+
+-- ---- bytes that stand plainly
+
+pub plain-is : (ds : List ℕ) (b : ℕ) → special ds b ≡ false → (printable b ≡ true) × (5 ≤ find b ds)
+unfolding special
+plain-is ds b e =
+    let p = or-neither (not (printable b)) (ltb (find b ds) 5) e in
+    (not-false (printable b) (p .0), ltb-false (find b ds) 5 (p .1))
+
+-- a run of them is written as it is
+pub bytes-run : (ds l : List ℕ) (n : ℕ) → n ≤ first (special ds) l → escapeBytes ds l ≡ take n l ++ escapeBytes ds (drop n l)
+unfolding first escapeBytes
+bytes-run ds l zero h = refl
+bytes-run ds [] (suc n) h = refl
+bytes-run ds (b ∷ r) (suc n) h = at (special ds b) refl h (bytes-run ds r n)
+  where
+    at : (t : Bool) → special ds b ≡ t → suc n ≤ cond t 0 (suc (first (special ds) r)) → (n ≤ first (special ds) r → escapeBytes ds r ≡ take n r ++ escapeBytes ds (drop n r))
+        → escapeByte ds b ++ escapeBytes ds r ≡ b ∷ (take n r ++ escapeBytes ds (drop n r))
+    at true e h ih = absurd (omega arith)
+    at false e h ih =
+        let p = plain-is ds b e in
+        ap (λ (w : List ℕ). w ++ escapeBytes ds r) (written-plain ds b (p .1) (p .0)) ∙ ap (λ (w : List ℕ). b ∷ w) (ih (omega arith))
+
+-- and says what it is
+module _ (ds : List ℕ) (five : length ds ≡ 5) where
+  step-run : (b : ℕ) (r : List ℕ) → special ds b ≡ false → step ds b r ≡ emit (b ∷ []) 0
+  step-run b r e =
+      let p = plain-is ds b e in
+      let far = p .1 in
+      step-plain ds b r (λ (q : b ≡ escapeOf ds). let o = find-own ds 3 (omega arith) in let z = ap (λ (x : ℕ). find x ds) q in omega arith) (p .0) far
+
+  pub scan-run : (at : ℕ) (l : List ℕ) (n : ℕ) → n ≤ first (special ds) l → scan ds at 0 l ≡ before (take n l) (scan ds (at + n) 0 (drop n l))
+  unfolding first scan
+  scan-run at l zero h = before-none (scan ds at 0 l) ∙ ap (λ (k : ℕ). before [] (scan ds k 0 l)) (sym (add-zero at))
+  scan-run at [] (suc n) h = refl
+  scan-run at (b ∷ r) (suc n) h = by (special ds b) refl h (scan-run (at + 1) r n)
+    where
+      by : (t : Bool) → special ds b ≡ t → suc n ≤ cond t 0 (suc (first (special ds) r))
+          → (n ≤ first (special ds) r → scan ds (at + 1) 0 r ≡ before (take n r) (scan ds ((at + 1) + n) 0 (drop n r)))
+          → scan ds at 0 (b ∷ r) ≡ before (b ∷ take n r) (scan ds (at + suc n) 0 (drop n r))
+      by true e h ih = absurd (omega arith)
+      by false e h ih =
+          let k : (at + 1) + n ≡ at + suc n = omega arith in
+          scan-emit ds at b r (b ∷ []) 0 (step-run b r e) ∙ ap (before (b ∷ [])) (ih (omega arith) ∙ ap (λ (m : ℕ). before (take n r) (scan ds m 0 (drop n r))) k)
+          ∙ before-before (b ∷ []) (take n r) (scan ds (at + suc n) 0 (drop n r))
+
+-- ---- the same from a place on, as a loop meets it
+
+-- a run that was found from i on, in the part of a text that the code lends
+pub run-from : (test : ℕ → Bool) (s : List ℕ) (i n : ℕ) → i ≤ length s → n ≡ first test (take (length s - i) (drop i s)) → (n ≤ first test (drop i s)) × (i + n ≤ length s)
+run-from test s i n h e =
+    let q = ap (first test) (rest-of s i) in
+    let m = first-le test (drop i s) in
+    let d = length-drop i s in
+    (omega arith, omega arith)
+
+module _ (ds s : List ℕ) (i n : ℕ) (h : n ≤ first (special ds) (drop i s)) where
+  pub bytes-from : escapeBytes ds (drop i s) ≡ take n (drop i s) ++ escapeBytes ds (drop (i + n) s)
+  bytes-from = bytes-run ds (drop i s) n h ∙ ap (λ (l : List ℕ). take n (drop i s) ++ escapeBytes ds l) (drop-drop n i s)
+
+  pub length-from : i + n ≤ length s → length (escapeBytes ds (drop i s)) ≡ n + length (escapeBytes ds (drop (i + n) s))
+  length-from k =
+      let d = length-drop i s in
+      let t = length-take-le n (drop i s) (omega arith) in
+      ap length bytes-from ∙ length-append (take n (drop i s)) (escapeBytes ds (drop (i + n) s)) ∙ ap (λ (m : ℕ). m + length (escapeBytes ds (drop (i + n) s))) t
