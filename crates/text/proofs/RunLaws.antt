@@ -1,5 +1,5 @@
 -- Bytes that stand plainly, one behind another: how far they go, and that they are written as they are and say what they are. Assumes nothing.
-use mathlib.Core.Path.{_≡_, refl, sym, ap, _∙_}
+use mathlib.Core.Path.{_≡_, refl, sym, ap, ap₂, _∙_}
 use mathlib.Core.List.{List, [], _∷_, _++_}
 use mathlib.Core.Bool.{Bool, true, false, cond, not, _&&_, _||_}
 use Prim.Native.Nat.{ℕ, zero, suc, _+_, _-_, _≤_, _<_}
@@ -11,14 +11,14 @@ use lib.ListN.{length, getD, take, drop, length-append, length-drop}
 use lib.Seq.{length-take-le, drop-drop}
 use borrow.Author.Tests.{le-leb, lt-leb, lt-ltb, le-ltb, leb-true, ltb-false, not-false}
 use Rattle.alphabet.proofs.BoolLaws.{or-neither}
-use Rattle.alphabet.proofs.ListLaws.{first-passes, first-before, first-le, find-own, rest-of}
+use Rattle.alphabet.proofs.ListLaws.{first-passes, first-before, first-le, first-past, find-own, rest-of}
 use Rattle.alphabet.specs.Lists.{first, find}
 use Rattle.alphabet.specs.Bytes.{printable}
 use Rattle.text.specs.Escape.{escapeOf, escapeByte, escapeBytes}
 use Rattle.text.specs.Unescape.{emit, step, before, scan}
-use Rattle.text.specs.Answers.{special}
+use Rattle.text.specs.Answers.{isText, textOf, special}
 use Rattle.text.proofs.PieceLaws.{written-plain}
-use Rattle.text.proofs.StepLaws.{step-plain, scan-emit, before-before, before-none}
+use Rattle.text.proofs.StepLaws.{step-plain, scan-emit, before-before, before-none, before-text, Scanning, text-allowed}
 
 -- ---- the test of a byte, against each of the five
 
@@ -185,3 +185,31 @@ module _ (ds s : List ℕ) (i n : ℕ) (h : n ≤ first (special ds) (drop i s))
       let d = length-drop i s in
       let t = length-take-le n (drop i s) (omega arith) in
       ap length bytes-from ∙ length-append (take n (drop i s)) (escapeBytes ds (drop (i + n) s)) ∙ ap (λ (m : ℕ). m + length (escapeBytes ds (drop (i + n) s))) t
+
+  module _ (five : length ds ≡ 5) where
+    pub scan-from : scan ds i 0 (drop i s) ≡ before (take n (drop i s)) (scan ds (i + n) 0 (drop (i + n) s))
+    scan-from = scan-run ds five i (drop i s) n h ∙ ap (λ (l : List ℕ). before (take n (drop i s)) (scan ds (i + n) 0 l)) (drop-drop n i s)
+
+    pub scanning-run : (m : ℕ) → i + n ≤ length s → Scanning ds s i m → Scanning ds s (i + n) (m + n)
+    scanning-run m k g =
+        let d = length-drop i s in
+        let t = length-take-le n (drop i s) (omega arith) in
+        record {
+          front = g .front ++ take n (drop i s);
+          whole = g .whole ∙ ap (before (g .front)) scan-from ∙ before-before (g .front) (take n (drop i s)) (scan ds (i + n) 0 (drop (i + n) s));
+          size = length-append (g .front) (take n (drop i s)) ∙ ap₂ _+_ (g .size) t;
+        }
+
+    pub text-run : isText (scan ds i 0 (drop i s)) ≡ true
+        → (isText (scan ds (i + n) 0 (drop (i + n) s)) ≡ true) × (textOf (scan ds i 0 (drop i s)) ≡ take n (drop i s) ++ textOf (scan ds (i + n) 0 (drop (i + n) s)))
+    text-run good =
+        let z = before-text (take n (drop i s)) (scan ds (i + n) 0 (drop (i + n) s)) (ap isText (sym scan-from) ∙ good) in
+        (z .0, ap textOf scan-from ∙ z .1)
+
+-- in a rest that has no fault a run begins at every byte but an escape delimiter
+pub run-begins : (ds s : List ℕ) (i : ℕ) → i < length s → isText (scan ds i 0 (drop i s)) ≡ true → (getD s i 0 ≡ escapeOf ds → ⊥) → 0 < first (special ds) (drop i s)
+unfolding special
+run-begins ds s i h good q =
+    let a = text-allowed ds s i h good q in
+    let e = first-past (special ds) s i h (rw (a .0, le-ltb (find (getD s i 0) ds) 5 (a .1))) in
+    omega arith

@@ -161,7 +161,7 @@ unfolding isText
 text-not-fault (text t) k p e f = let z : _≡_ {A = ℕ} 0 1 = cc in omega arith
 text-not-fault (fault j q) k p e f = false-true e
 
-before-text : (xs : List ℕ) (r : Outcome) → isText (before xs r) ≡ true → (isText r ≡ true) × (textOf (before xs r) ≡ xs ++ textOf r)
+pub before-text : (xs : List ℕ) (r : Outcome) → isText (before xs r) ≡ true → (isText r ≡ true) × (textOf (before xs r) ≡ xs ++ textOf r)
 unfolding isText textOf
 before-text xs (text t) e = (refl, refl)
 before-text xs (fault k p) e = false-true e

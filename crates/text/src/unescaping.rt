@@ -1,6 +1,7 @@
 // Reading a text: from the left, a sequence judged whole at its opening byte. It is judged to its end before anything is
 // written, so that a refusal writes nothing.
 use crate::pieces::place_of;
+use crate::pieces::plain_run;
 use crate::sequences::is_known;
 use crate::sequences::put_meaning;
 use alphabet::Answer;
@@ -64,7 +65,7 @@ fn step_at(delimiters: Delimiters, text: &[u8], i: usize) -> Found
     Found::Fault(Refusal::NotAllowed)
 }
 
-// The text's length, or its first fault.
+// The text's length, or its first fault: what stands at a place, and the bytes that stand plainly behind it, at each turn.
 fn judge(delimiters: Delimiters, text: &[u8]) -> Judged
     ensures { λ r. ⌜ r ≡ judged (scan (delimiters .bytes) 0 0 (now (text .entry))) ⌝ }
 {
@@ -82,13 +83,16 @@ fn judge(delimiters: Delimiters, text: &[u8]) -> Judged
             Found::Bytes { length, skip } => {
                 n += length;
                 i = i + 1 + skip;
+                let run = plain_run(delimiters, &text[i..]);
+                n += run;
+                i += run;
             }
         }
     }
     Judged::Text(n)
 }
 
-// Writes what a text with no fault says to the front of the buffer.
+// Writes what a text with no fault says to the front of the buffer: a sequence, or the bytes up to the next one, at each turn.
 fn write_text(delimiters: Delimiters, text: &[u8], buffer: &mut [u8])
     requires { ⌜ (isText (scan (delimiters .bytes) 0 0 (now text)) ≡ true) × (length (textOf (scan (delimiters .bytes) 0 0 (now text))) ≤ length (now buffer)) ⌝ }
     ensures { λ _. ⌜ now (buffer .exit) ≡ over (textOf (scan (delimiters .bytes) 0 0 (now (text .entry)))) (now (buffer .entry)) ⌝ }
@@ -106,9 +110,9 @@ fn write_text(delimiters: Delimiters, text: &[u8], buffer: &mut [u8])
             place = put_meaning(delimiters, &rest[..n], buffer, place);
             i = from + n + 1;
         } else {
-            buffer[place] = b;
-            place += 1;
-            i += 1;
+            let end = i + plain_run(delimiters, &text[i..]);
+            place = alphabet::put(buffer, place, &text[i..end]);
+            i = end;
         }
     }
 }
