@@ -74,12 +74,14 @@ fn is_special(delimiters: Delimiters, b: u8) -> bool
         | ((b == five[0]) | ((b == five[1]) | ((b == five[2]) | ((b == five[3]) | (b == five[4])))))
 }
 
-// The lesser of `least` and, where the test holds, `place`: two choices that the compiler takes for many bytes at once.
+// The lesser of `least` and, where the test holds, `place`. Where it does not hold the place is put behind the block, by a sum,
+// so that the compiler does the same for every byte and takes many at once.
 fn nearer(test: bool, place: u8, least: u8) -> u8
-    requires { ⌜ least ≤ 32 ⌝ }
+    requires { ⌜ (place ≤ 32) × (least ≤ 32) ⌝ }
     ensures { λ r. ⌜ r ≡ cond (test && ltb place least) place least ⌝ }
 {
-    let here = if test { place } else { BLOCK };
+    let further = if test { 0 } else { BLOCK };
+    let here = place + further;
     if here < least { here } else { least }
 }
 

@@ -56,7 +56,7 @@ first-of-block-spec =
     (λ c. omega arith)
     (λ c. omega arith)
     (λ c κs. search needs)
-    (λ c κs. omega arith)
+    (λ c κs. (omega arith, omega arith))
     (λ c. omega arith)
     (λ c. omega arith)
     loop-again
