@@ -24,6 +24,10 @@ use Rattle.text.proofs.SequenceLaws.{meaning-short}
 -- ---- what a step is
 
 module _ (ds : List ℕ) (b : ℕ) (r : List ℕ) where
+  pub step-opens : b ≡ escapeOf ds → step ds b r ≡ sequence ds r (find (escapeOf ds) r)
+  unfolding step
+  step-opens q = rw (eq-eqb b (escapeOf ds) q)
+
   pub step-known : (n : ℕ) → b ≡ escapeOf ds → find (escapeOf ds) r ≡ n → n < length r → known (take n r) ≡ true → step ds b r ≡ emit (meaning ds (take n r)) (n + 1)
   unfolding step sequence
   step-known n q e h k = rw (eq-eqb b (escapeOf ds) q) (rw e (rw (lt-ltb _ _ h) (rw k)))

@@ -1,4 +1,5 @@
 // Writing a text: it is measured first, so that a text that does not fit writes nothing.
+use crate::answers::refused;
 use crate::pieces::plain_run;
 use crate::pieces::put_written;
 use crate::pieces::written_length;
@@ -65,19 +66,11 @@ pub fn escape(delimiters: Delimiters, text: &[u8], buffer: &mut [u8]) -> Answer
 {
     let wrong = alphabet::wrong_delimiter(delimiters);
     if wrong < 5 {
-        return Answer {
-            kind: Refusal::Delimiter,
-            place: wrong,
-            length: 0,
-        };
+        return refused(Refusal::Delimiter, wrong);
     }
     if alphabet::is_null(text) {
         if buffer.len() < 7 {
-            return Answer {
-                kind: Refusal::TextTooLong,
-                place: 0,
-                length: 0,
-            };
+            return refused(Refusal::TextTooLong, 0);
         }
         let five = delimiters.bytes;
         let mark = five[3];
@@ -91,11 +84,7 @@ pub fn escape(delimiters: Delimiters, text: &[u8], buffer: &mut [u8]) -> Answer
     }
     let size = escaped_length(delimiters, text, buffer.len());
     match size {
-        Room::Short => Answer {
-            kind: Refusal::TextTooLong,
-            place: 0,
-            length: 0,
-        },
+        Room::Short => refused(Refusal::TextTooLong, 0),
         Room::Takes(n) => {
             write_escaped(delimiters, text, buffer);
             Answer {
