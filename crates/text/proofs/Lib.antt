@@ -2,3 +2,4 @@ pub mod PieceLaws
 pub mod SequenceLaws
 pub mod OutcomeLaws
 pub mod StepLaws
+pub mod RunLaws

@@ -24,6 +24,10 @@ use Rattle.text.proofs.SequenceLaws.{meaning-short}
 -- ---- what a step is
 
 module _ (ds : List ℕ) (b : ℕ) (r : List ℕ) where
+  pub step-opens : b ≡ escapeOf ds → step ds b r ≡ sequence ds r (find (escapeOf ds) r)
+  unfolding step
+  step-opens q = rw (eq-eqb b (escapeOf ds) q)
+
   pub step-known : (n : ℕ) → b ≡ escapeOf ds → find (escapeOf ds) r ≡ n → n < length r → known (take n r) ≡ true → step ds b r ≡ emit (meaning ds (take n r)) (n + 1)
   unfolding step sequence
   step-known n q e h k = rw (eq-eqb b (escapeOf ds) q) (rw e (rw (lt-ltb _ _ h) (rw k)))
@@ -161,7 +165,7 @@ unfolding isText
 text-not-fault (text t) k p e f = let z : _≡_ {A = ℕ} 0 1 = cc in omega arith
 text-not-fault (fault j q) k p e f = false-true e
 
-before-text : (xs : List ℕ) (r : Outcome) → isText (before xs r) ≡ true → (isText r ≡ true) × (textOf (before xs r) ≡ xs ++ textOf r)
+pub before-text : (xs : List ℕ) (r : Outcome) → isText (before xs r) ≡ true → (isText r ≡ true) × (textOf (before xs r) ≡ xs ++ textOf r)
 unfolding isText textOf
 before-text xs (text t) e = (refl, refl)
 before-text xs (fault k p) e = false-true e

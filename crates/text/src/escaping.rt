@@ -1,4 +1,6 @@
 // Writing a text: it is measured first, so that a text that does not fit writes nothing.
+use crate::answers::refused;
+use crate::pieces::plain_run;
 use crate::pieces::put_written;
 use crate::pieces::written_length;
 use alphabet::Answer;
@@ -17,8 +19,8 @@ pub enum Room {
     Short,
 }
 
-// The length of a text as it is written, byte by byte, where that is at most `room`. It is counted against the room, since
-// five times a length need not be a usize.
+// The length of a text as it is written, where that is at most `room`: one byte, and what stands plainly behind it, at each
+// turn. It is counted against the room, since five times a length need not be a usize.
 fn escaped_length(delimiters: Delimiters, text: &[u8], room: usize) -> Room
     ensures { λ r. ⌜ r ≡ roomFor room (length (escapeBytes (delimiters .bytes) (now (text .entry)))) ⌝ }
 {
@@ -31,11 +33,17 @@ fn escaped_length(delimiters: Delimiters, text: &[u8], room: usize) -> Room
         }
         n += more;
         i += 1;
+        let run = plain_run(delimiters, &text[i..]);
+        if room - n < run {
+            return Room::Short;
+        }
+        n += run;
+        i += run;
     }
     Room::Takes(n)
 }
 
-// Writes a text, byte by byte, to the front of the buffer.
+// Writes a text to the front of the buffer: one byte, and what stands plainly behind it, at each turn.
 fn write_escaped(delimiters: Delimiters, text: &[u8], buffer: &mut [u8])
     requires { ⌜ length (escapeBytes (delimiters .bytes) (now text)) ≤ length (now buffer) ⌝ }
     ensures { λ _. ⌜ now (buffer .exit) ≡ over (escapeBytes (delimiters .bytes) (now (text .entry))) (now (buffer .entry)) ⌝ }
@@ -45,6 +53,9 @@ fn write_escaped(delimiters: Delimiters, text: &[u8], buffer: &mut [u8])
     while i < text.len() {
         place = put_written(delimiters, text[i], buffer, place);
         i += 1;
+        let end = i + plain_run(delimiters, &text[i..]);
+        place = alphabet::put(buffer, place, &text[i..end]);
+        i = end;
     }
 }
 
@@ -55,19 +66,11 @@ pub fn escape(delimiters: Delimiters, text: &[u8], buffer: &mut [u8]) -> Answer
 {
     let wrong = alphabet::wrong_delimiter(delimiters);
     if wrong < 5 {
-        return Answer {
-            kind: Refusal::Delimiter,
-            place: wrong,
-            length: 0,
-        };
+        return refused(Refusal::Delimiter, wrong);
     }
     if alphabet::is_null(text) {
         if buffer.len() < 7 {
-            return Answer {
-                kind: Refusal::TextTooLong,
-                place: 0,
-                length: 0,
-            };
+            return refused(Refusal::TextTooLong, 0);
         }
         let five = delimiters.bytes;
         let mark = five[3];
@@ -81,11 +84,7 @@ pub fn escape(delimiters: Delimiters, text: &[u8], buffer: &mut [u8]) -> Answer
     }
     let size = escaped_length(delimiters, text, buffer.len());
     match size {
-        Room::Short => Answer {
-            kind: Refusal::TextTooLong,
-            place: 0,
-            length: 0,
-        },
+        Room::Short => refused(Refusal::TextTooLong, 0),
         Room::Takes(n) => {
             write_escaped(delimiters, text, buffer);
             Answer {

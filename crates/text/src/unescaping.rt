@@ -1,6 +1,8 @@
 // Reading a text: from the left, a sequence judged whole at its opening byte. It is judged to its end before anything is
 // written, so that a refusal writes nothing.
+use crate::answers::refused;
 use crate::pieces::place_of;
+use crate::pieces::plain_run;
 use crate::sequences::is_known;
 use crate::sequences::put_meaning;
 use alphabet::Answer;
@@ -10,7 +12,9 @@ ghost use mathlib.Core.Path.{_≡_};
 ghost use mathlib.Core.Bool.{true};
 ghost use Prim.Native.Nat.{_+_, _≤_, _<_};
 ghost use lib.ListN.{length, getD, drop};
-ghost use Rattle.text.specs.Unescape.{step, scan};
+ghost use Rattle.alphabet.specs.Lists.{find};
+ghost use Rattle.text.specs.Escape.{escapeOf};
+ghost use Rattle.text.specs.Unescape.{sequence, step, scan};
 ghost use Rattle.text.specs.Answers.{isText, textOf, seen, judged, unescaping, answer, filled};
 ghost use Rattle.alphabet.specs.Filling.{over};
 
@@ -26,45 +30,51 @@ pub enum Judged {
     Fault { kind: Refusal, place: usize },
 }
 
+// What an escape delimiter opens, where `rest` is what follows it.
+fn sequence_in(delimiters: Delimiters, rest: &[u8]) -> Found
+    ensures { λ r. ⌜ r ≡ seen (sequence (delimiters .bytes) (now (rest .entry)) (find (escapeOf (delimiters .bytes)) (now (rest .entry)))) ⌝ }
+{
+    let five = delimiters.bytes;
+    let n = alphabet::find(rest, five[3]);
+    if rest.len() <= n {
+        return Found::Fault(Refusal::UnclosedEscape);
+    }
+    if !is_known(&rest[..n]) {
+        return Found::Fault(Refusal::UnknownEscape);
+    }
+    if n < 3 {
+        return Found::Bytes {
+            length: 1,
+            skip: n + 1,
+        };
+    }
+    Found::Bytes {
+        length: n / 2,
+        skip: n + 1,
+    }
+}
+
 // What stands at the place i.
 fn step_at(delimiters: Delimiters, text: &[u8], i: usize) -> Found
     requires { ⌜ i < length (now text) ⌝ }
     ensures { λ r. ⌜ r ≡ seen (step (delimiters .bytes) (getD (now (text .entry)) i 0) (drop (i + 1) (now (text .entry)))) ⌝ }
 {
     let five = delimiters.bytes;
-    let mark = five[3];
     let b = text[i];
-    if b == mark {
+    if b == five[3] {
         let from = i + 1;
-        let rest = &text[from..];
-        let n = alphabet::find(rest, mark);
-        if n < rest.len() {
-            if is_known(&rest[..n]) {
-                if n < 3 {
-                    return Found::Bytes {
-                        length: 1,
-                        skip: n + 1,
-                    };
-                }
-                return Found::Bytes {
-                    length: n / 2,
-                    skip: n + 1,
-                };
-            }
-            return Found::Fault(Refusal::UnknownEscape);
-        }
-        return Found::Fault(Refusal::UnclosedEscape);
+        return sequence_in(delimiters, &text[from..]);
     }
-    if alphabet::is_printable(b) {
-        if place_of(delimiters, b) < 5 {
-            return Found::Fault(Refusal::Separator);
-        }
-        return Found::Bytes { length: 1, skip: 0 };
+    if !alphabet::is_printable(b) {
+        return Found::Fault(Refusal::NotAllowed);
     }
-    Found::Fault(Refusal::NotAllowed)
+    if place_of(delimiters, b) < 5 {
+        return Found::Fault(Refusal::Separator);
+    }
+    Found::Bytes { length: 1, skip: 0 }
 }
 
-// The text's length, or its first fault.
+// The text's length, or its first fault: what stands at a place, and the bytes that stand plainly behind it, at each turn.
 fn judge(delimiters: Delimiters, text: &[u8]) -> Judged
     ensures { λ r. ⌜ r ≡ judged (scan (delimiters .bytes) 0 0 (now (text .entry))) ⌝ }
 {
@@ -82,13 +92,16 @@ fn judge(delimiters: Delimiters, text: &[u8]) -> Judged
             Found::Bytes { length, skip } => {
                 n += length;
                 i = i + 1 + skip;
+                let run = plain_run(delimiters, &text[i..]);
+                n += run;
+                i += run;
             }
         }
     }
     Judged::Text(n)
 }
 
-// Writes what a text with no fault says to the front of the buffer.
+// Writes what a text with no fault says to the front of the buffer: a sequence, or the bytes up to the next one, at each turn.
 fn write_text(delimiters: Delimiters, text: &[u8], buffer: &mut [u8])
     requires { ⌜ (isText (scan (delimiters .bytes) 0 0 (now text)) ≡ true) × (length (textOf (scan (delimiters .bytes) 0 0 (now text))) ≤ length (now buffer)) ⌝ }
     ensures { λ _. ⌜ now (buffer .exit) ≡ over (textOf (scan (delimiters .bytes) 0 0 (now (text .entry)))) (now (buffer .entry)) ⌝ }
@@ -106,9 +119,9 @@ fn write_text(delimiters: Delimiters, text: &[u8], buffer: &mut [u8])
             place = put_meaning(delimiters, &rest[..n], buffer, place);
             i = from + n + 1;
         } else {
-            buffer[place] = b;
-            place += 1;
-            i += 1;
+            let end = i + plain_run(delimiters, &text[i..]);
+            place = alphabet::put(buffer, place, &text[i..end]);
+            i = end;
         }
     }
 }
@@ -120,33 +133,17 @@ pub fn unescape(delimiters: Delimiters, text: &[u8], buffer: &mut [u8]) -> Answe
 {
     let wrong = alphabet::wrong_delimiter(delimiters);
     if wrong < 5 {
-        return Answer {
-            kind: Refusal::Delimiter,
-            place: wrong,
-            length: 0,
-        };
+        return refused(Refusal::Delimiter, wrong);
     }
     if alphabet::is_null(text) {
-        return Answer {
-            kind: Refusal::NullText,
-            place: 0,
-            length: 0,
-        };
+        return refused(Refusal::NullText, 0);
     }
     let found = judge(delimiters, text);
     match found {
-        Judged::Fault { kind, place } => Answer {
-            kind: kind,
-            place: place,
-            length: 0,
-        },
+        Judged::Fault { kind, place } => refused(kind, place),
         Judged::Text(n) => {
             if buffer.len() < n {
-                return Answer {
-                    kind: Refusal::TextTooLong,
-                    place: 0,
-                    length: 0,
-                };
+                return refused(Refusal::TextTooLong, 0);
             }
             write_text(delimiters, text, buffer);
             Answer {

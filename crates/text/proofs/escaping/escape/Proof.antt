@@ -20,16 +20,18 @@ made n = record { kind = None; place = 0; length = n }
 returns : tie.Need-returns
 unfolding answer filled
 returns c =
-    let a = c .before .before .before .before .args in
+    let a = c .before .before .before .before .before .args in
     let e = escaping-bad (a .delimiters .bytes) (now (a .text)) (length (now (a .buffer))) (omega arith) in
-    ended _ _ (now (a .buffer)) (e ∙ ap (fault Delimiter) (sym (c .before .wrong-delimiter .ensures)))
+    let r = ended _ _ (now (a .buffer)) (e ∙ ap (fault Delimiter) (sym (c .before .before .wrong-delimiter .ensures))) in
+    (c .refused .ensures ∙ r .0, r .1)
 
 returns-2 : tie.Need-returns-2
 unfolding answer filled
 returns-2 c =
-    let a = c .before .before .before .before .before .before .before .args in
-    let z = escape-null (a .delimiters .bytes) (now (a .text)) (sym (c .before .before .is-null .ensures) ∙ c .before .if2 .taken) in
-    ended _ _ (now (a .buffer)) (escaping-long (a .delimiters .bytes) (now (a .text)) _ (length (now (a .buffer))) (omega arith) z (omega arith))
+    let a = c .before .before .before .before .before .before .before .before .args in
+    let z = escape-null (a .delimiters .bytes) (now (a .text)) (sym (c .before .before .before .is-null .ensures) ∙ c .before .before .if2 .taken) in
+    let r = ended _ _ (now (a .buffer)) (escaping-long (a .delimiters .bytes) (now (a .text)) _ (length (now (a .buffer))) (omega arith) z (omega arith)) in
+    (c .refused2 .ensures ∙ r .0, r .1)
 
 returns-3 : tie.Need-returns-3
 unfolding answer filled
@@ -49,10 +51,11 @@ write-escaped-requires c κs =
 returns-4 : tie.Need-returns-4
 unfolding answer filled
 returns-4 c =
-    let a = c .before .before .before .before .before .before .before .before .before .args in
-    let z = escape-other (a .delimiters .bytes) (now (a .text)) (sym (c .before .before .before .before .is-null .ensures) ∙ c .before .before .before .if2 .left) in
-    let l = short-is (length (now (a .buffer))) _ (sym (c .enum-told .given .1) ∙ c .before .before .escaped-length .ensures) in
-    ended _ _ (now (a .buffer)) (escaping-long (a .delimiters .bytes) (now (a .text)) _ (length (now (a .buffer))) (omega arith) z l)
+    let a = c .before .before .before .before .before .before .before .before .before .before .args in
+    let z = escape-other (a .delimiters .bytes) (now (a .text)) (sym (c .before .before .before .before .before .is-null .ensures) ∙ c .before .before .before .before .if2 .left) in
+    let l = short-is (length (now (a .buffer))) _ (sym (c .before .enum-told .given .1) ∙ c .before .before .before .escaped-length .ensures) in
+    let r = ended _ _ (now (a .buffer)) (escaping-long (a .delimiters .bytes) (now (a .text)) _ (length (now (a .buffer))) (omega arith) z l) in
+    (c .refused3 .ensures ∙ r .0, r .1)
 
 returns-5 : tie.Need-returns-5
 unfolding answer filled
@@ -70,7 +73,9 @@ escape-spec =
     tie.close
     (tie.spec
     (λ c κs. search needs)
+    (λ c κs. search needs)
     returns
+    (λ c κs. search needs)
     (λ c κs. search needs)
     returns-2
     (λ c. search needs)
@@ -80,6 +85,7 @@ escape-spec =
     returns-3
     (λ c κs. search needs)
     (λ c. search needs)
+    (λ c κs. search needs)
     (λ c. search needs)
     write-escaped-requires
     returns-4

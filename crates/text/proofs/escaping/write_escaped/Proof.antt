@@ -1,15 +1,18 @@
--- Rests on the laws of a buffer that is filled from its front: what the rest of the text is written as is left, at each turn.
+-- Rests on the laws of a buffer that is filled from its front: what the rest of the text is written as is left, at each turn; and on a run being written as it is.
 use Prim.Native.Nat.{ℕ, _≤_, _+_, _-_}
-use mathlib.Core.Path.{_≡_, sym, ap, _∙_}
+use mathlib.Core.Path.{_≡_, refl, sym, ap, _∙_}
 use mathlib.Core.List.{List, _++_}
-use lib.ListN.{length, getD, drop}
+use lib.ListN.{length, getD, take, drop, length-drop}
 use native.Mathlib.Omega.{arith}
 use borrow.Author.Needs.{needs}
 use denote.Ref.{now}
 use lib.Seq.{length-take-le}
-use Rattle.text.specs.Escape.{escapeBytes}
+use Rattle.alphabet.specs.Lists.{first}
+use Rattle.text.specs.Escape.{escapeByte, escapeBytes}
+use Rattle.text.specs.Answers.{special}
 use Rattle.text.proofs.PieceLaws.{bytes-next, bytes-end, length-next}
-use Rattle.alphabet.proofs.FillingLaws.{Filling, fill-start, fill-more, fill-room, fill-length, fill-end}
+use Rattle.text.proofs.RunLaws.{run-from, bytes-from, length-from}
+use Rattle.alphabet.proofs.FillingLaws.{Filling, fill-start, fill-more, fill-room, fill-length, fill-end, put-fits}
 use Rattle.text.proofs.escaping.write_escaped.Statement.{statement}
 use Rattle.text.proofs.escaping.write_escaped.Tie as tie
 
@@ -30,13 +33,55 @@ put-written-requires c κs =
     let n = length-next (a .delimiters .bytes) (now (a .text)) (l .loop .i) (omega arith) in
     omega (arith, fill-room f, fill-length f (l .before .before .before .pre))
 
+-- the buffer once the byte is written
+one : (c : tie.After-put-written Inv-loop μ-loop)
+    → let l = c .before .before .before .before in let a = l .before .before .before .args in
+    Filling (escapeBytes (a .delimiters .bytes) (now (a .text))) (now (a .buffer)) (escapeBytes (a .delimiters .bytes) (drop (l .loop .i + 1) (now (a .text)))) (c .put-written .last .1 .1 .0) (c .put-written .result)
+one c =
+    let l = c .before .before .before .before in
+    let a = l .before .before .before .args in
+    let p = c .put-written in
+    fill-more _ _ _ _ (l .loop .inv .1) (bytes-next (a .delimiters .bytes) (now (a .text)) (l .loop .i) (omega arith)) (p .ensures .1) (p .ensures .0)
+
+-- the run behind it, and where it ends
+run : (c : tie.After-plain-run Inv-loop μ-loop)
+    → let l = c .before .before .before .before .before .before .before .before in let a = l .before .before .before .args in
+    (c .plain-run .result ≤ first (special (a .delimiters .bytes)) (drop (l .loop .i + 1) (now (a .text)))) × (l .loop .i + 1 + c .plain-run .result ≤ length (now (a .text)))
+run c =
+    let l = c .before .before .before .before .before .before .before .before in
+    let a = l .before .before .before .args in
+    run-from (special (a .delimiters .bytes)) (now (a .text)) (l .loop .i + 1) (c .plain-run .result) (omega arith) (c .plain-run .ensures)
+
+add-end : tie.Need-add-end Inv-loop μ-loop
+add-end c = let h = run c .1 in omega arith
+
+part-put-end : tie.Need-part-put-end Inv-loop μ-loop
+part-put-end c = let h = run (c .before) .1 in omega arith
+
+loop-less : tie.Need-loop-less Inv-loop μ-loop
+loop-less c = let h = run (c .before .before .before .before .before) .1 in omega arith
+
 loop-again : tie.Need-loop-again Inv-loop μ-loop
 loop-again c =
-    let l = c .before .before .before .before .before .before in
+    let k = c .before .before .before .before .before in
+    let o = k .before .before .before .before in
+    let l = o .before .before .before .before in
     let a = l .before .before .before .args in
-    let i = l .loop .i in
-    let p = c .before .before .put-written in
-    (omega arith, fill-more _ _ _ _ (l .loop .inv .1) (bytes-next (a .delimiters .bytes) (now (a .text)) i (omega arith)) (p .ensures .1) (p .ensures .0))
+    let ds = a .delimiters .bytes in
+    let s = now (a .text) in
+    let i = l .loop .i + 1 in
+    let n = k .plain-run .result in
+    let e : i + n - i ≡ n = omega arith in
+    let r = run k in
+    let f = one o in
+    let m = length-from ds s i n (r .0) (r .1) in
+    let d = length-drop i s in
+    let h = r .1 in
+    let t = length-take-le (i + n - i) (drop i s) (omega arith) in
+    let q = fill-length f (l .before .before .before .pre) in
+    let z = fill-room f in
+    let p = put-fits (o .put-written .last .1 .1 .0) (take (i + n - i) (drop i s)) (o .put-written .result) (omega (arith, l .before .before .before .pre)) in
+    (h, fill-more _ _ _ _ f (bytes-from ds s i n (r .0) ∙ ap (λ (j : ℕ). take j (drop i s) ++ escapeBytes ds (drop (i + n) s)) (sym e)) (c .before .before .put .ensures .1 ∙ p .1) (c .before .before .put .ensures .0 ∙ p .0))
 
 same-length : tie.Need-same-length Inv-loop μ-loop
 same-length c = fill-length (c .before .loop .inv .1) (c .before .before .before .before .pre)
@@ -58,6 +103,15 @@ write-escaped-spec =
     put-written-requires
     (λ c. omega arith)
     (λ c. omega arith)
+    (λ c. omega arith)
+    (λ c. omega arith)
+    (λ c κs. search needs)
+    add-end
+    (λ c. omega arith)
+    (λ c. omega arith)
+    part-put-end
+    (λ c κs. search needs)
+    loop-less
     loop-again
     same-length
     returns)

@@ -19,33 +19,36 @@ made n = record { kind = None; place = 0; length = n }
 returns : tie.Need-returns
 unfolding answer filled
 returns c =
-    let a = c .before .before .before .before .args in
+    let a = c .before .before .before .before .before .args in
     let ds = a .delimiters .bytes in
     let s = now (a .text) in
     let d = now (a .buffer) in
     let e = unescaping-bad ds s (length d) (omega arith) in
-    ended _ _ d (e ∙ ap (fault Delimiter) (sym (c .before .wrong-delimiter .ensures)))
+    let r = ended _ _ d (e ∙ ap (fault Delimiter) (sym (c .before .before .wrong-delimiter .ensures))) in
+    (c .refused .ensures ∙ r .0, r .1)
 
 returns-2 : tie.Need-returns-2
 unfolding answer filled
 returns-2 c =
-    let a = c .before .before .before .before .before .before .args in
+    let a = c .before .before .before .before .before .before .before .args in
     let ds = a .delimiters .bytes in
     let s = now (a .text) in
     let d = now (a .buffer) in
-    ended _ _ d (unescaping-null ds s (length d) (omega arith) (sym (c .before .is-null .ensures) ∙ c .if2 .taken))
+    let r = ended _ _ d (unescaping-null ds s (length d) (omega arith) (sym (c .before .before .is-null .ensures) ∙ c .before .if2 .taken)) in
+    (c .refused2 .ensures ∙ r .0, r .1)
 
 returns-3 : tie.Need-returns-3
 unfolding answer filled
 returns-3 c =
-    let a = c .before .before .before .before .before .before .before .before .before .before .before .args in
+    let a = c .before .before .before .before .before .before .before .before .before .before .before .before .args in
     let ds = a .delimiters .bytes in
     let s = now (a .text) in
     let d = now (a .buffer) in
-    let g = c .before .before .found2 .given in
-    let y = judged-text (scan ds 0 0 s) (g .0 .0) (sym (g .1) ∙ c .before .before .before .before .judge .ensures) in
+    let g = c .before .before .before .found2 .given in
+    let y = judged-text (scan ds 0 0 s) (g .0 .0) (sym (g .1) ∙ c .before .before .before .before .before .judge .ensures) in
     let z = y .1 in
-    ended _ _ d (unescaping-long ds s (length d) (omega arith) (sym (c .before .before .before .before .before .before .is-null .ensures) ∙ c .before .before .before .before .before .if2 .left) (textOf (scan ds 0 0 s)) (y .0) (omega arith))
+    let r = ended _ _ d (unescaping-long ds s (length d) (omega arith) (sym (c .before .before .before .before .before .before .before .is-null .ensures) ∙ c .before .before .before .before .before .before .if2 .left) (textOf (scan ds 0 0 s)) (y .0) (omega arith)) in
+    (c .refused4 .ensures ∙ r .0, r .1)
 
 write-text-requires : tie.Need-write-text-requires
 write-text-requires c κs =
@@ -61,13 +64,14 @@ write-text-requires c κs =
 returns-4 : tie.Need-returns-4
 unfolding answer filled
 returns-4 c =
-    let a = c .before .before .before .before .before .before .before .before .before .before .args in
+    let a = c .before .before .before .before .before .before .before .before .before .before .before .args in
     let ds = a .delimiters .bytes in
     let s = now (a .text) in
     let d = now (a .buffer) in
-    let g = c .before .found .given in
-    let y = judged-fault (scan ds 0 0 s) (g .0 .0) (g .0 .1 .0) (sym (g .1) ∙ c .before .before .before .judge .ensures) in
-    ended _ _ d (unescaping-fault ds s (length d) (omega arith) (sym (c .before .before .before .before .before .is-null .ensures) ∙ c .before .before .before .before .if2 .left) (g .0 .0) (g .0 .1 .0) y)
+    let g = c .before .before .found .given in
+    let y = judged-fault (scan ds 0 0 s) (g .0 .0) (g .0 .1 .0) (sym (g .1) ∙ c .before .before .before .before .judge .ensures) in
+    let r = ended _ _ d (unescaping-fault ds s (length d) (omega arith) (sym (c .before .before .before .before .before .before .is-null .ensures) ∙ c .before .before .before .before .before .if2 .left) (g .0 .0) (g .0 .1 .0) y) in
+    (c .refused3 .ensures ∙ r .0, r .1)
 
 returns-5 : tie.Need-returns-5
 unfolding answer filled
@@ -87,12 +91,16 @@ unescape-spec =
     tie.close
     (tie.spec
     (λ c κs. search needs)
+    (λ c κs. search needs)
     returns
+    (λ c κs. search needs)
     (λ c κs. search needs)
     returns-2
     (λ c κs. search needs)
     (λ c. search needs)
+    (λ c κs. search needs)
     (λ c. search needs)
+    (λ c κs. search needs)
     returns-3
     write-text-requires
     returns-4

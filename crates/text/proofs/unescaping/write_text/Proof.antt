@@ -1,20 +1,22 @@
--- Rests on the laws of a rest that has no fault, and of a buffer that is filled from its front: what the rest of the text says is left, at each turn.
+-- Rests on the laws of a rest that has no fault, and of a buffer that is filled from its front: what the rest of the text says is left, at each turn;
+-- and on a run saying what it is.
 use lib.ListN.{length-append, length-drop, length, getD, take, drop}
 use lib.Seq.{length-take-le}
 use Prim.Native.Nat.{ℕ, _≤_, _<_, _+_, _-_}
-use mathlib.Core.Path.{_≡_, refl, sym, ap, subst⁻¹, _∙_}
-use mathlib.Core.List.{List, [], _∷_, _++_}
+use mathlib.Core.Path.{_≡_, sym, ap, subst⁻¹, _∙_}
+use mathlib.Core.List.{List, _++_}
 use native.Mathlib.Omega.{arith}
 use borrow.Author.Needs.{needs}
 use denote.Ref.{now}
 use mathlib.Core.Bool.{true}
 use Rattle.alphabet.proofs.ListLaws.{rest-of}
-use Rattle.alphabet.specs.Lists.{find}
+use Rattle.alphabet.specs.Lists.{first, find}
 use Rattle.text.specs.Escape.{escapeOf}
 use Rattle.text.specs.Unescape.{known, meaning, emit, step, scan}
-use Rattle.text.specs.Answers.{isText, textOf}
-use Rattle.alphabet.proofs.FillingLaws.{Filling, fill-start, fill-more, fill-room, fill-length, fill-end, set-pasted}
-use Rattle.text.proofs.StepLaws.{step-known, scan-end, text-past, text-opens, text-plain}
+use Rattle.text.specs.Answers.{isText, textOf, special}
+use Rattle.alphabet.proofs.FillingLaws.{Filling, fill-start, fill-more, fill-room, fill-length, fill-end, put-fits}
+use Rattle.text.proofs.StepLaws.{step-known, scan-end, text-past, text-opens}
+use Rattle.text.proofs.RunLaws.{run-from, run-begins, text-run}
 use Rattle.text.proofs.unescaping.write_text.Statement.{statement}
 use Rattle.text.proofs.unescaping.write_text.Tie as tie
 
@@ -77,15 +79,25 @@ short k =
     let d = length-drop (l .loop .i + 1) (S l) in
     omega arith
 
--- a plain byte
-plain : (k : tie.Else1 Inv-loop μ-loop) →
-    let l = k .before .before .before in
-    (isText (scan (Ds l) (l .loop .i + 1) 0 (drop (l .loop .i + 1) (S l))) ≡ true) × (textOf (scan (Ds l) (l .loop .i) 0 (drop (l .loop .i) (S l))) ≡ (getD (S l) (l .loop .i) 0 ∷ []) ++ textOf (scan (Ds l) (l .loop .i + 1) 0 (drop (l .loop .i + 1) (S l))))
+-- a run of plain bytes, where it ends, and the text behind it
+abbrev Runs : tie.At-loop Inv-loop μ-loop → ℕ → Type 0
+Runs l n =
+    (0 < n) × (l .loop .i + n ≤ length (S l)) × (isText (scan (Ds l) (l .loop .i + n) 0 (drop (l .loop .i + n) (S l))) ≡ true)
+    × (textOf (scan (Ds l) (l .loop .i) 0 (drop (l .loop .i) (S l))) ≡ take n (drop (l .loop .i) (S l)) ++ textOf (scan (Ds l) (l .loop .i + n) 0 (drop (l .loop .i + n) (S l))))
+
+plain : (k : tie.After-plain-run Inv-loop μ-loop) → Runs (k .before .before .before .before .before) (k .plain-run .result)
 plain k =
-    let l = k .before .before .before in
-    let h = k .before .before .loop-test .taken in
+    let l = k .before .before .before .before .before in
+    let i = l .loop .i in
+    let n = k .plain-run .result in
+    let h = k .before .before .before .before .loop-test .taken in
     let g = l .loop .inv .1 in
-    text-past (Ds l) (S l) (l .loop .i) h g (l .loop .i + 1) 0 (getD (S l) (l .loop .i) 0 ∷ []) (text-plain (Ds l) (S l) (l .loop .i) h g (k .if1 .left)) (omega arith)
+    let five : length (Ds l) ≡ 5 = search needs in
+    let e : n ≡ first (special (Ds l)) (drop i (S l)) = k .plain-run .ensures ∙ ap (first (special (Ds l))) (rest-of (S l) i) in
+    let b = run-begins (Ds l) (S l) i h g (k .before .before .if1 .left) in
+    let r = run-from (special (Ds l)) (S l) i n (omega arith) (k .plain-run .ensures) in
+    let t = text-run (Ds l) (S l) i n (r .0) five g in
+    (omega arith, r .1, t .0, t .1)
 
 loop-holds : tie.Need-loop-holds Inv-loop μ-loop
 loop-holds c = (omega arith, c .before .before .before .pre .0, fill-start _ _)
@@ -120,27 +132,39 @@ loop-again c =
     let m = behind k in
     (short k, m .0, fill-more _ _ _ _ (l .loop .inv .2) (m .1) (c .before .before .put-meaning .ensures .1) (c .before .before .put-meaning .ensures .0))
 
-slice-write-buffer : tie.Need-slice-write-buffer Inv-loop μ-loop
-slice-write-buffer c =
-    let l = c .before .before .before in
-    let t = ap length (plain c .1) in
-    let r = fill-room (l .loop .inv .2) in
-    let q = kept l in
-    omega (arith, l .before .before .before .before .pre .1)
+add-end : tie.Need-add-end Inv-loop μ-loop
+add-end c = let h = plain c .1 in omega arith
 
-add-place : tie.Need-add-place Inv-loop μ-loop
-add-place c =
-    let l = c .before .before .before in
-    let t = ap length (plain c .1) in
-    let r = fill-room (l .loop .inv .2) in
-    let q = kept l in
-    omega (arith, l .before .before .before .before .pre .1)
+part-put-end : tie.Need-part-put-end Inv-loop μ-loop
+part-put-end c = let h = plain (c .before) .1 in omega arith
+
+loop-less-2 : tie.Need-loop-less-2 Inv-loop μ-loop
+loop-less-2 c =
+    let p = plain (c .before .before .before .before .before) in
+    let b = p .0 in
+    let h = p .1 in
+    omega arith
 
 loop-again-2 : tie.Need-loop-again-2 Inv-loop μ-loop
 loop-again-2 c =
-    let l = c .before .before .before in
-    let m = plain c in
-    (omega arith, m .0, fill-more _ _ _ _ (l .loop .inv .2) (m .1) (set-pasted (l .loop .buffer) (l .loop .place) (getD (S l) (l .loop .i) 0) (slice-write-buffer c)) refl)
+    let k = c .before .before .before .before .before in
+    let l = k .before .before .before .before .before in
+    let s = S l in
+    let i = l .loop .i in
+    let n = k .plain-run .result in
+    let f = l .loop .inv .2 in
+    let m = plain k in
+    let h = m .1 in
+    let e : i + n - i ≡ n = omega arith in
+    let u = textOf (scan (Ds l) (i + n) 0 (drop (i + n) s)) in
+    let z = ap length (m .3) ∙ length-append (take n (drop i s)) u in
+    let d = length-drop i s in
+    let y = length-take-le n (drop i s) (omega arith) in
+    let t = length-take-le (i + n - i) (drop i s) (omega arith) in
+    let r = fill-room f in
+    let q = kept l in
+    let p = put-fits (l .loop .buffer) (take (i + n - i) (drop i s)) (l .loop .place) (omega (arith, l .before .before .before .before .pre .1)) in
+    (h, m .2, fill-more _ _ _ _ f (m .3 ∙ ap (λ (j : ℕ). take j (drop i s) ++ u) (sym e)) (c .before .before .put .ensures .1 ∙ p .1) (c .before .before .put .ensures .0 ∙ p .0))
 
 same-length : tie.Need-same-length Inv-loop μ-loop
 same-length c = kept (c .before)
@@ -171,10 +195,16 @@ write-text-spec =
     add-i-2
     loop-less
     loop-again
-    slice-write-buffer
-    add-place
     (λ c. omega arith)
     (λ c. omega arith)
+    (λ c. omega arith)
+    (λ c κs. search needs)
+    add-end
+    (λ c. omega arith)
+    (λ c. omega arith)
+    part-put-end
+    (λ c κs. search needs)
+    loop-less-2
     loop-again-2
     same-length
     returns)
