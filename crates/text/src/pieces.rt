@@ -7,7 +7,7 @@ ghost use mathlib.Core.Bool.{cond, _&&_};
 ghost use lib.Dec.{ltb};
 ghost use lib.ListN.{length};
 ghost use Rattle.alphabet.specs.Lists.{find, first};
-ghost use Rattle.text.specs.Escape.{escapeByte};
+ghost use Rattle.text.specs.Escape.{escapeByte, escapeBytes};
 ghost use Rattle.text.specs.Answers.{special};
 ghost use Rattle.alphabet.specs.Filling.{pasted};
 
@@ -17,7 +17,7 @@ pub const LETTERS: [u8; 5] = [70, 83, 82, 69, 84];
 // How many bytes are looked at together in a search, as a byte and as a length.
 const BLOCK: u8 = 32;
 
-const BLOCK_LENGTH: usize = 32;
+pub const BLOCK_LENGTH: usize = 32;
 
 // The place of b among the delimiters, or 5.
 pub fn place_of(delimiters: Delimiters, b: u8) -> usize
@@ -27,15 +27,38 @@ pub fn place_of(delimiters: Delimiters, b: u8) -> usize
     alphabet::find(&five, b)
 }
 
+// Whether the byte b is a delimiter. Here and below nothing branches, so that the compiler looks at many bytes at once.
+fn is_delimiter(delimiters: Delimiters, b: u8) -> bool
+    ensures { λ r. ⌜ r ≡ ltb (find b (delimiters .bytes)) 5 ⌝ }
+{
+    let five = delimiters.bytes;
+    (b == five[0]) | ((b == five[1]) | ((b == five[2]) | ((b == five[3]) | (b == five[4]))))
+}
+
 // How many bytes the byte b is written as.
-pub fn written_length(delimiters: Delimiters, b: u8) -> usize
+fn written_length(delimiters: Delimiters, b: u8) -> u8
     ensures { λ r. ⌜ r ≡ length (escapeByte (delimiters .bytes) b) ⌝ }
 {
-    if place_of(delimiters, b) < 5 {
+    let delimiter = is_delimiter(delimiters, b);
+    let plain = alphabet::is_printable(b);
+    if delimiter {
         return 3;
     }
-    let plain = alphabet::is_printable(b);
     if plain { 1 } else { 5 }
+}
+
+// How many bytes a block, or less than one, is written as: five for each at most, so that the sum is counted in bytes.
+pub fn block_length(delimiters: Delimiters, block: &[u8]) -> usize
+    requires { ⌜ length (now block) ≤ 32 ⌝ }
+    ensures { λ r. ⌜ r ≡ length (escapeBytes (delimiters .bytes) (now (block .entry))) ⌝ }
+{
+    let mut n: u8 = 0;
+    let mut i = 0;
+    while i < block.len() {
+        n += written_length(delimiters, block[i]);
+        i += 1;
+    }
+    n as usize
 }
 
 // Writes what the byte b is written as into the buffer from `at` on, and returns the place behind it.
@@ -65,13 +88,12 @@ pub fn put_written(delimiters: Delimiters, b: u8, buffer: &mut [u8], at: usize) 
     at + 5
 }
 
-// Whether the byte b may not stand plainly. Nothing branches, so that the compiler looks at many bytes at once.
+// Whether the byte b may not stand plainly.
 fn is_special(delimiters: Delimiters, b: u8) -> bool
     ensures { λ r. ⌜ r ≡ special (delimiters .bytes) b ⌝ }
 {
-    let five = delimiters.bytes;
-    !alphabet::is_printable(b)
-        | ((b == five[0]) | ((b == five[1]) | ((b == five[2]) | ((b == five[3]) | (b == five[4])))))
+    let delimiter = is_delimiter(delimiters, b);
+    !alphabet::is_printable(b) | delimiter
 }
 
 // The lesser of `least` and, where the test holds, `place`. Where it does not hold the place is put behind the block, by a sum,
