@@ -19,12 +19,26 @@ const BLOCK: u8 = 32;
 
 pub const BLOCK_LENGTH: usize = 32;
 
-// The place of b among the delimiters, or 5.
-pub fn place_of(delimiters: Delimiters, b: u8) -> usize
-    ensures { λ r. ⌜ r ≡ find b (delimiters .bytes) ⌝ }
+// The place of b among five bytes, as the delimiters or their letters, or 5.
+pub fn place_of(five: [u8; 5], b: u8) -> usize
+    ensures { λ r. ⌜ r ≡ find b five ⌝ }
 {
-    let five = delimiters.bytes;
-    alphabet::find(&five, b)
+    if b == five[0] {
+        return 0;
+    }
+    if b == five[1] {
+        return 1;
+    }
+    if b == five[2] {
+        return 2;
+    }
+    if b == five[3] {
+        return 3;
+    }
+    if b == five[4] {
+        return 4;
+    }
+    5
 }
 
 // Whether the byte b is a delimiter. Here and below nothing branches, so that the compiler looks at many bytes at once.
@@ -69,7 +83,7 @@ pub fn put_written(delimiters: Delimiters, b: u8, buffer: &mut [u8], at: usize) 
 {
     let five = delimiters.bytes;
     let mark = five[3];
-    let i = place_of(delimiters, b);
+    let i = place_of(five, b);
     if i < 5 {
         buffer[at] = mark;
         buffer[at + 1] = LETTERS[i];

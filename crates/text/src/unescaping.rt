@@ -68,7 +68,7 @@ fn step_at(delimiters: Delimiters, text: &[u8], i: usize) -> Found
     if !alphabet::is_printable(b) {
         return Found::Fault(Refusal::NotAllowed);
     }
-    if place_of(delimiters, b) < 5 {
+    if place_of(five, b) < 5 {
         return Found::Fault(Refusal::Separator);
     }
     Found::Bytes { length: 1, skip: 0 }
