@@ -1,8 +1,8 @@
 // Writing a text: it is measured first, so that a text that does not fit writes nothing.
 use crate::answers::refused;
-use crate::pieces::BLOCK_LENGTH;
-use crate::pieces::block_length;
-use crate::pieces::plain_run;
+use crate::blocks::BLOCK_LENGTH;
+use crate::blocks::block_length;
+use crate::blocks::plain_run;
 use crate::pieces::put_written;
 use alphabet::Answer;
 use alphabet::Delimiters;

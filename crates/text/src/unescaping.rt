@@ -1,8 +1,8 @@
 // Reading a text: from the left, a sequence judged whole at its opening byte. It is judged to its end before anything is
 // written, so that a refusal writes nothing.
 use crate::answers::refused;
+use crate::blocks::plain_run;
 use crate::pieces::place_of;
-use crate::pieces::plain_run;
 use crate::sequences::is_known;
 use crate::sequences::put_meaning;
 use alphabet::Answer;

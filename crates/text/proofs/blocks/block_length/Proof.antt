@@ -9,8 +9,8 @@ use denote.Ref.{now}
 use Rattle.text.specs.Escape.{escapeByte, escapeBytes}
 use Rattle.text.proofs.PieceLaws.{length-next, length-end}
 use Rattle.text.proofs.OutcomeLaws.{byte-most}
-use Rattle.text.proofs.pieces.block_length.Statement.{statement}
-use Rattle.text.proofs.pieces.block_length.Tie as tie
+use Rattle.text.proofs.blocks.block_length.Statement.{statement}
+use Rattle.text.proofs.blocks.block_length.Tie as tie
 
 abbrev Inv-loop : tie.InvT-loop
 Inv-loop delimiters block n₀ i₀ n i = (i ≤ length block) × (n ≤ 5 * i) × (length (escapeBytes (delimiters .bytes) block) ≡ n + length (escapeBytes (delimiters .bytes) (drop i block)))

@@ -3,8 +3,8 @@ use mathlib.Core.Path.{ap, ap₂}
 use mathlib.Core.Bool.{not, _||_}
 use borrow.Author.Needs.{needs}
 use Rattle.text.specs.Answers.{special}
-use Rattle.text.proofs.pieces.is_special.Statement.{statement}
-use Rattle.text.proofs.pieces.is_special.Tie as tie
+use Rattle.text.proofs.blocks.is_special.Statement.{statement}
+use Rattle.text.proofs.blocks.is_special.Tie as tie
 
 returns : tie.Need-returns
 unfolding special

@@ -4,8 +4,8 @@ use lib.ListN.{length}
 use borrow.Author.Needs.{needs}
 use borrow.Author.Tests.{ltb-true, ltb-false}
 use Rattle.text.proofs.PieceLaws.{written-letter, written-plain, written-hex}
-use Rattle.text.proofs.pieces.written_length.Statement.{statement}
-use Rattle.text.proofs.pieces.written_length.Tie as tie
+use Rattle.text.proofs.blocks.written_length.Statement.{statement}
+use Rattle.text.proofs.blocks.written_length.Tie as tie
 
 returns : tie.Need-returns
 returns c =
