@@ -1,12 +1,12 @@
 -- Rests on the laws of what is left to write: what was counted and the length of the rest, at each turn; and on five bytes being the most for one.
 use Prim.Native.Nat.{_≤_, _+_, _-_, _*_}
-use mathlib.Core.Path.{_≡_, sym, ap, _∙_}
+use mathlib.Core.Path.{_≡_, sym}
 use lib.ListN.{length, getD, drop}
 use native.Mathlib.Omega.{arith}
 use native.Mathlib.Nat.{zero-add}
 use borrow.Author.Needs.{needs}
 use denote.Ref.{now}
-use Rattle.text.specs.Escape.{escapeByte, escapeBytes}
+use Rattle.text.specs.Escape.{escapeBytes}
 use Rattle.text.proofs.PieceLaws.{length-next, length-end}
 use Rattle.text.proofs.OutcomeLaws.{byte-most}
 use Rattle.text.proofs.blocks.block_length.Statement.{statement}

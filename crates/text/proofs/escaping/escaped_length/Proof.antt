@@ -5,7 +5,6 @@ use mathlib.Core.List.{List}
 use lib.ListN.{length, drop, length-drop}
 use native.Mathlib.Omega.{arith}
 use native.Mathlib.Nat.{zero-add}
-use borrow.Author.Needs.{needs}
 use denote.Ref.{now}
 use Rattle.alphabet.proofs.ListLaws.{rest-of}
 use Rattle.text.specs.Escape.{escapeBytes}

@@ -1,7 +1,6 @@
 -- Rests on the laws of `first`: the byte stands at none of the places that were passed, and what was passed is one place more at each test.
 use Prim.Native.Nat.{ℕ, _≤_, _<_, _+_}
 use mathlib.Core.Path.{_≡_, sym}
-use mathlib.Core.List.{List}
 use lib.Dec.{eqb}
 use lib.ListN.{length, getD}
 use native.Mathlib.Omega.{arith}
