@@ -61,7 +61,7 @@ unfolding escape
 escape-other ds t e = rw e
 
 -- a byte is written as five at most
-byte-most : (ds : List ℕ) (b : ℕ) → length (escapeByte ds b) ≤ 5
+pub byte-most : (ds : List ℕ) (b : ℕ) → length (escapeByte ds b) ≤ 5
 unfolding escapeByte
 byte-most ds b = at (ltb (find b ds) 5) (printable b)
   where

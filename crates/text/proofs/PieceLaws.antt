@@ -1,9 +1,10 @@
 -- What a byte is written as, case by case, and what is left of a text from a place on. Assumes nothing.
-use mathlib.Core.Path.{_≡_, ap}
-use mathlib.Core.List.{List, [], _∷_, _++_}
+use mathlib.Core.Path.{_≡_, refl, sym, ap, _∙_}
+use mathlib.Core.List.{List, [], _∷_, _++_, append-assoc}
 use mathlib.Core.Bool.{true, false}
 use Prim.Native.Nat.{ℕ, _+_, _/_, _%_, _≤_, _<_}
-use lib.ListN.{length, getD, drop, drop-of-length-le, length-append}
+use lib.ListN.{length, getD, take, drop, take-append-drop, drop-of-length-le, length-append}
+use lib.Seq.{drop-drop}
 use borrow.Author.Tests.{lt-ltb, le-ltb}
 use Rattle.alphabet.proofs.ListLaws.{drop-next}
 use Rattle.alphabet.specs.Lists.{find}
@@ -39,3 +40,16 @@ length-next ds s i h = rw (bytes-next ds s i) (length-append (escapeByte ds (get
 
 pub length-end : (ds s : List ℕ) (i : ℕ) → length s ≤ i → length (escapeBytes ds (drop i s)) ≡ 0
 length-end ds s i h = ap length (bytes-end ds s i h)
+
+-- ---- what a text is written as, part by part
+
+bytes-append : (ds s t : List ℕ) → escapeBytes ds (s ++ t) ≡ escapeBytes ds s ++ escapeBytes ds t
+unfolding escapeBytes
+bytes-append ds [] t = refl
+bytes-append ds (b ∷ r) t = ap (λ (l : List ℕ). escapeByte ds b ++ l) (bytes-append ds r t) ∙ sym (append-assoc (escapeByte ds b) (escapeBytes ds r) (escapeBytes ds t))
+
+pub length-part : (ds s : List ℕ) (i k : ℕ) → length (escapeBytes ds (drop i s)) ≡ length (escapeBytes ds (take k (drop i s))) + length (escapeBytes ds (drop (i + k) s))
+length-part ds s i k =
+    ap (λ (l : List ℕ). length (escapeBytes ds l)) (sym (take-append-drop k (drop i s))) ∙ ap length (bytes-append ds (take k (drop i s)) (drop k (drop i s)))
+    ∙ length-append (escapeBytes ds (take k (drop i s))) (escapeBytes ds (drop k (drop i s)))
+    ∙ ap (λ (l : List ℕ). length (escapeBytes ds (take k (drop i s))) + length (escapeBytes ds l)) (drop-drop k i s)

@@ -35,18 +35,24 @@ one-of b c d e f g = at (eqb b c) (eqb b d) (eqb b e) (eqb b f) (eqb b g)
     at false false false false true = refl
     at false false false false false = refl
 
-pub special-is : (ds : List ℕ) (b : ℕ) → length ds ≡ 5
-    → (not (printable b) || (eqb b (getD ds 0 0) || (eqb b (getD ds 1 0) || (eqb b (getD ds 2 0) || (eqb b (getD ds 3 0) || eqb b (getD ds 4 0)))))) ≡ special ds b
-unfolding special
-special-is [] b h = absurd (omega arith)
-special-is (c ∷ []) b h = absurd (omega arith)
-special-is (c ∷ d ∷ []) b h = absurd (omega arith)
-special-is (c ∷ d ∷ e ∷ []) b h = absurd (omega arith)
-special-is (c ∷ d ∷ e ∷ f ∷ []) b h = absurd (omega arith)
-special-is (c ∷ d ∷ e ∷ f ∷ g ∷ []) b h = ap (λ (t : Bool). not (printable b) || t) (one-of b c d e f g)
-special-is (c ∷ d ∷ e ∷ f ∷ g ∷ x ∷ r) b h = absurd (omega arith)
+pub delimiter-is : (ds : List ℕ) (b : ℕ) → length ds ≡ 5
+    → (eqb b (getD ds 0 0) || (eqb b (getD ds 1 0) || (eqb b (getD ds 2 0) || (eqb b (getD ds 3 0) || eqb b (getD ds 4 0))))) ≡ ltb (find b ds) 5
+delimiter-is [] b h = absurd (omega arith)
+delimiter-is (c ∷ []) b h = absurd (omega arith)
+delimiter-is (c ∷ d ∷ []) b h = absurd (omega arith)
+delimiter-is (c ∷ d ∷ e ∷ []) b h = absurd (omega arith)
+delimiter-is (c ∷ d ∷ e ∷ f ∷ []) b h = absurd (omega arith)
+delimiter-is (c ∷ d ∷ e ∷ f ∷ g ∷ []) b h = one-of b c d e f g
+delimiter-is (c ∷ d ∷ e ∷ f ∷ g ∷ x ∷ r) b h = absurd (omega arith)
 
 -- ---- a search that looks at every byte of a block
+
+-- the length of a block from i on, as the code lends it
+pub block-size : (s : List ℕ) (i : ℕ) → i + 32 ≤ length s → length (take (i + 32 - i) (drop i s)) ≡ 32
+block-size s i h =
+    let d = length-drop i s in
+    let k = length-take-le (i + 32 - i) (drop i s) (omega arith) in
+    omega arith
 
 -- the first place below i, or the length where there is none
 abbrev pub leastOf : (ℕ → Bool) → List ℕ → ℕ → ℕ

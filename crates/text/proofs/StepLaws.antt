@@ -212,6 +212,3 @@ module _ (ds s : List ℕ) (i : ℕ) (h : i < length s) (good : isText (scan ds 
       at true e true f = absurd (text-step Separator (step-separator ds b r q e (ltb-true (find b ds) 5 f)))
       at true e false f = (e, ltb-false (find b ds) 5 f)
       at false e u f = absurd (text-step NotAllowed (step-forbidden ds b r q e))
-
-  pub text-plain : (getD s i 0 ≡ escapeOf ds → ⊥) → step ds (getD s i 0) (drop (i + 1) s) ≡ emit (getD s i 0 ∷ []) 0
-  text-plain q = let a = text-allowed q in step-plain ds (getD s i 0) (drop (i + 1) s) q (a .0) (a .1)

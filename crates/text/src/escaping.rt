@@ -1,8 +1,9 @@
 // Writing a text: it is measured first, so that a text that does not fit writes nothing.
 use crate::answers::refused;
-use crate::pieces::plain_run;
+use crate::blocks::BLOCK_LENGTH;
+use crate::blocks::block_length;
+use crate::blocks::plain_run;
 use crate::pieces::put_written;
-use crate::pieces::written_length;
 use alphabet::Answer;
 use alphabet::Delimiters;
 use alphabet::Refusal;
@@ -19,28 +20,26 @@ pub enum Room {
     Short,
 }
 
-// The length of a text as it is written, where that is at most `room`: one byte, and what stands plainly behind it, at each
-// turn. It is counted against the room, since five times a length need not be a usize.
+// The length of a text as it is written, block by block, where that is at most `room`. It is counted against the room, since
+// five times a length need not be a usize.
 fn escaped_length(delimiters: Delimiters, text: &[u8], room: usize) -> Room
     ensures { λ r. ⌜ r ≡ roomFor room (length (escapeBytes (delimiters .bytes) (now (text .entry)))) ⌝ }
 {
     let mut n = 0;
     let mut i = 0;
-    while i < text.len() {
-        let more = written_length(delimiters, text[i]);
+    while BLOCK_LENGTH <= text.len() - i {
+        let more = block_length(delimiters, &text[i..i + BLOCK_LENGTH]);
         if room - n < more {
             return Room::Short;
         }
         n += more;
-        i += 1;
-        let run = plain_run(delimiters, &text[i..]);
-        if room - n < run {
-            return Room::Short;
-        }
-        n += run;
-        i += run;
+        i += BLOCK_LENGTH;
     }
-    Room::Takes(n)
+    let last = block_length(delimiters, &text[i..]);
+    if room - n < last {
+        return Room::Short;
+    }
+    Room::Takes(n + last)
 }
 
 // Writes a text to the front of the buffer: one byte, and what stands plainly behind it, at each turn.

@@ -1,5 +1,6 @@
 // What may stand between two escape delimiters, and the bytes that it says: a letter of the table, or X and pairs of hex digits.
 use crate::pieces::LETTERS;
+use crate::pieces::place_of;
 use alphabet::Delimiters;
 ghost use mathlib.Core.Path.{_≡_};
 ghost use mathlib.Core.Bool.{true};
@@ -18,7 +19,7 @@ pub fn is_known(inside: &[u8]) -> bool
     }
     let letter = inside[0];
     if inside.len() == 1 {
-        return alphabet::find(&LETTERS, letter) < 5;
+        return place_of(LETTERS, letter) < 5;
     }
     if letter != 88 {
         return false;
@@ -52,7 +53,7 @@ pub fn put_meaning(delimiters: Delimiters, inside: &[u8], buffer: &mut [u8], at:
 {
     if inside.len() == 1 {
         let five = delimiters.bytes;
-        let i = alphabet::find(&LETTERS, inside[0]);
+        let i = place_of(LETTERS, inside[0]);
         buffer[at] = five[i];
         return at + 1;
     }

@@ -1,8 +1,8 @@
 // Reading a text: from the left, a sequence judged whole at its opening byte. It is judged to its end before anything is
 // written, so that a refusal writes nothing.
 use crate::answers::refused;
+use crate::blocks::plain_run;
 use crate::pieces::place_of;
-use crate::pieces::plain_run;
 use crate::sequences::is_known;
 use crate::sequences::put_meaning;
 use alphabet::Answer;
@@ -68,7 +68,7 @@ fn step_at(delimiters: Delimiters, text: &[u8], i: usize) -> Found
     if !alphabet::is_printable(b) {
         return Found::Fault(Refusal::NotAllowed);
     }
-    if place_of(delimiters, b) < 5 {
+    if place_of(five, b) < 5 {
         return Found::Fault(Refusal::Separator);
     }
     Found::Bytes { length: 1, skip: 0 }

@@ -1,17 +1,17 @@
--- Rests on the laws of what is left to write: what was counted and the length of the rest, at each turn; and on a run being as long as it is written.
-use Prim.Native.Nat.{_≤_, _+_, _-_}
+-- Rests on `length-part`: what was counted, the length of a block and the length of the rest, at each turn.
+use Prim.Native.Nat.{ℕ, _≤_, _+_, _-_}
 use mathlib.Core.Path.{_≡_, sym, ap, _∙_}
-use lib.ListN.{length, drop}
+use mathlib.Core.List.{List}
+use lib.ListN.{length, drop, length-drop}
 use native.Mathlib.Omega.{arith}
-use borrow.Author.Needs.{needs}
 use native.Mathlib.Nat.{zero-add}
 use denote.Ref.{now}
-use Rattle.alphabet.specs.Lists.{first}
+use Rattle.alphabet.proofs.ListLaws.{rest-of}
 use Rattle.text.specs.Escape.{escapeBytes}
-use Rattle.text.specs.Answers.{special, roomFor}
-use Rattle.text.proofs.PieceLaws.{length-next, length-end}
+use Rattle.text.specs.Answers.{roomFor}
+use Rattle.text.proofs.PieceLaws.{length-part}
 use Rattle.text.proofs.OutcomeLaws.{room-takes, room-short}
-use Rattle.text.proofs.RunLaws.{run-from, length-from}
+use Rattle.text.proofs.RunLaws.{block-size}
 use Rattle.text.proofs.escaping.escaped_length.Statement.{statement}
 use Rattle.text.proofs.escaping.escaped_length.Tie as tie
 
@@ -21,60 +21,62 @@ Inv-loop delimiters text room n₀ i₀ n i = (i ≤ length text) × (n ≤ room
 abbrev μ-loop : tie.MeasureT-loop
 μ-loop delimiters text room n₀ i₀ n i = length text - i
 
-loop-holds : tie.Need-loop-holds Inv-loop μ-loop
-loop-holds c = (omega arith, omega arith, sym (zero-add _))
+block-length-requires : tie.Need-block-length-requires Inv-loop μ-loop
+block-length-requires c κs =
+    let l = c .before .before in
+    let n = block-size (now (l .before .before .args .text)) (l .loop .i) (omega arith) in
+    omega arith
+
+-- the whole length, once a block more is counted
+counted : (c : tie.After-block-length Inv-loop μ-loop)
+    → let l = c .before .before .before in let a = l .before .before .args in
+    length (escapeBytes (a .delimiters .bytes) (now (a .text))) ≡ l .loop .n + c .block-length .result + length (escapeBytes (a .delimiters .bytes) (drop (l .loop .i + 32) (now (a .text))))
+counted c =
+    let l = c .before .before .before in
+    let a = l .before .before .args in
+    let i = l .loop .i in
+    let e : i + (i + 32 - i) ≡ i + 32 = omega arith in
+    let p = length-part (a .delimiters .bytes) (now (a .text)) i (i + 32 - i) in
+    let q = ap (λ (k : ℕ). length (escapeBytes (a .delimiters .bytes) (drop k (now (a .text))))) e in
+    let h = c .block-length .ensures in
+    omega arith
 
 returns : tie.Need-returns Inv-loop μ-loop
 returns c =
-    let l = c .before .before .before .before in
-    let a = l .before .before .args in
-    let n = length-next (a .delimiters .bytes) (now (a .text)) (l .loop .i) (omega arith) in
-    let p = c .before .written-length .ensures in
-    room-short (a .room) _ (omega arith)
+    let h = counted (c .before) in
+    room-short (c .before .before .before .before .before .before .args .room) _ (omega arith)
 
--- the whole length, once the byte and the run behind it are counted
-counted : (c : tie.After-plain-run Inv-loop μ-loop)
-    → let l = c .before .before .before .before .before .before in let a = l .before .before .args in
-    let i = l .loop .i + 1 + c .plain-run .result in
-    (i ≤ length (now (a .text)))
-    × (length (escapeBytes (a .delimiters .bytes) (now (a .text)))
-    ≡ l .loop .n + c .before .before .before .written-length .result + c .plain-run .result + length (escapeBytes (a .delimiters .bytes) (drop i (now (a .text)))))
-counted c =
-    let l = c .before .before .before .before .before .before in
+loop-again : tie.Need-loop-again Inv-loop μ-loop
+loop-again c = (omega arith, omega arith, counted (c .before))
+
+block-length-requires-2 : tie.Need-block-length-requires-2 Inv-loop μ-loop
+block-length-requires-2 c κs =
+    let l = c .before .before in
+    let n = ap length (rest-of (now (l .before .before .args .text)) (l .loop .i)) in
+    let d = length-drop (l .loop .i) (now (l .before .before .args .text)) in
+    omega arith
+
+-- and once the rest is
+last : (c : tie.After-block-length2 Inv-loop μ-loop)
+    → let l = c .before .before .before in let a = l .before .before .args in
+    length (escapeBytes (a .delimiters .bytes) (now (a .text))) ≡ l .loop .n + c .block-length2 .result
+last c =
+    let l = c .before .before .before in
     let a = l .before .before .args in
-    let ds = a .delimiters .bytes in
-    let s = now (a .text) in
-    let i = l .loop .i in
-    let n = length-next ds s i (omega arith) in
-    let p = c .before .before .before .written-length .ensures in
-    let r = run-from (special ds) s (i + 1) (c .plain-run .result) (omega arith) (c .plain-run .ensures) in
-    let h = r .1 in
-    let m = length-from ds s (i + 1) (c .plain-run .result) (r .0) h in
-    (h, omega arith)
+    let q = ap (λ (r : List ℕ). length (escapeBytes (a .delimiters .bytes) r)) (rest-of (now (a .text)) (l .loop .i)) in
+    let h = c .block-length2 .ensures in
+    omega arith
 
 returns-2 : tie.Need-returns-2 Inv-loop μ-loop
 returns-2 c =
-    let k = counted (c .before) in
-    let e = k .1 in
-    room-short (c .before .before .before .before .before .before .before .before .before .args .room) _ (omega arith)
-
-add-i-2 : tie.Need-add-i-2 Inv-loop μ-loop
-add-i-2 c = let k = counted (c .before) in let h = k .0 in omega arith
-
-loop-less : tie.Need-loop-less Inv-loop μ-loop
-loop-less c = let k = counted (c .before) in let h = k .0 in omega arith
-
-loop-again : tie.Need-loop-again Inv-loop μ-loop
-loop-again c = let k = counted (c .before) in (k .0, omega arith, k .1)
+    let h = last (c .before) in
+    room-short (c .before .before .before .before .before .before .args .room) _ (omega arith)
 
 returns-3 : tie.Need-returns-3 Inv-loop μ-loop
 returns-3 c =
-    let l = c .before in
-    let a = l .before .before .args in
-    let s = now (a .text) in
-    let i = l .loop .i in
-    let n = length-end (a .delimiters .bytes) s i (omega arith) in
-    room-takes (a .room) (l .loop .n) (omega arith) ∙ ap (roomFor (a .room)) (omega arith)
+    let l = c .before .before .before .before in
+    let room = l .before .before .args .room in
+    room-takes room (l .loop .n + c .before .block-length2 .result) (omega arith) ∙ ap (roomFor room) (sym (last (c .before)))
 
 pub escaped-length-spec : {M : Type 1} → statement M
 escaped-length-spec =
@@ -82,21 +84,24 @@ escaped-length-spec =
     (tie.spec
     Inv-loop
     μ-loop
-    loop-holds
+    (λ c. (omega arith, omega arith, sym (zero-add _)))
     (λ c. omega arith)
-    (λ c κs. search needs)
+    (λ c. omega arith)
+    (λ c. omega arith)
+    (λ c. omega arith)
+    (λ c. omega arith)
+    block-length-requires
     (λ c. omega arith)
     returns
     (λ c. omega arith)
     (λ c. omega arith)
     (λ c. omega arith)
+    loop-again
     (λ c. omega arith)
     (λ c. omega arith)
-    (λ c κs. search needs)
+    (λ c. omega arith)
+    block-length-requires-2
     (λ c. omega arith)
     returns-2
     (λ c. omega arith)
-    add-i-2
-    loop-less
-    loop-again
     returns-3)

@@ -1,14 +1,14 @@
 -- Rests on the laws of a buffer that is filled from its front: what the rest of the text is written as is left, at each turn; and on a run being written as it is.
 use Prim.Native.Nat.{ℕ, _≤_, _+_, _-_}
-use mathlib.Core.Path.{_≡_, refl, sym, ap, _∙_}
-use mathlib.Core.List.{List, _++_}
-use lib.ListN.{length, getD, take, drop, length-drop}
+use mathlib.Core.Path.{_≡_, sym, ap, _∙_}
+use mathlib.Core.List.{_++_}
+use lib.ListN.{length, take, drop, length-drop}
 use native.Mathlib.Omega.{arith}
 use borrow.Author.Needs.{needs}
 use denote.Ref.{now}
 use lib.Seq.{length-take-le}
 use Rattle.alphabet.specs.Lists.{first}
-use Rattle.text.specs.Escape.{escapeByte, escapeBytes}
+use Rattle.text.specs.Escape.{escapeBytes}
 use Rattle.text.specs.Answers.{special}
 use Rattle.text.proofs.PieceLaws.{bytes-next, bytes-end, length-next}
 use Rattle.text.proofs.RunLaws.{run-from, bytes-from, length-from}

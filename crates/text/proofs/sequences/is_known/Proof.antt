@@ -19,8 +19,8 @@ returns c = sym (known-none (now (c .before .before .args .inside)) (c .if1 .tak
 
 returns-2 : tie.Need-returns-2
 returns-2 c =
-    let s = now (c .before .before .before .before .before .before .args .inside) in
-    ap (λ (k : ℕ). ltb k 5) (c .find .ensures) ∙ sym (known-one s (omega arith))
+    let s = now (c .before .before .before .before .before .args .inside) in
+    ap (λ (k : ℕ). ltb k 5) (c .place-of .ensures) ∙ sym (known-one s (omega arith))
 
 returns-3 : tie.Need-returns-3
 returns-3 c =
@@ -38,7 +38,6 @@ is-known-spec =
     tie.close
     (tie.spec
     returns
-    (λ c. search needs)
     (λ c. search needs)
     (λ c κs. search needs)
     returns-2

@@ -21,29 +21,29 @@ use Rattle.text.proofs.sequences.put_meaning.Tie as tie
 
 array-read-buffer : tie.Need-array-read-buffer
 array-read-buffer c =
-    let a = c .before .before .before .before .before .before .before .args in
+    let a = c .before .before .before .before .before .before .args in
     let s = now (a .inside) in
-    let k = ltb-true (find (getD s 0 0) letters) 5 (sym (known-one s (omega arith)) ∙ c .before .before .before .before .before .before .before .pre .0) in
-    omega (arith, c .find .ensures)
+    let k = ltb-true (find (getD s 0 0) letters) 5 (sym (known-one s (omega arith)) ∙ c .before .before .before .before .before .before .pre .0) in
+    omega (arith, c .place-of .ensures)
 
 slice-write-buffer : tie.Need-slice-write-buffer
 slice-write-buffer c =
-    let a = c .before .before .before .before .before .before .before .args in
+    let a = c .before .before .before .before .before .before .args in
     let m = ap length (meaning-letter (a .delimiters .bytes) (now (a .inside)) (omega arith)) in
-    omega (arith, c .before .before .before .before .before .before .before .pre .1)
+    omega (arith, c .before .before .before .before .before .before .pre .1)
 
 returns : tie.Need-returns
 returns c =
-    let a = c .before .before .before .before .before .before .before .args in
+    let a = c .before .before .before .before .before .before .args in
     let ds = a .delimiters .bytes in
     let s = now (a .inside) in
     let d = now (a .buffer) in
     let h : length s ≡ 1 = omega arith in
     let e = meaning-letter ds s h in
     let m = ap length e in
-    let k = c .find .result in (
+    let k = c .place-of .result in (
       omega arith,
-      set-pasted d (a .at) (getD ds k 0) (slice-write-buffer c) ∙ ap (pasted d (a .at)) (ap (λ (j : ℕ). getD ds j 0 ∷ []) (c .find .ensures) ∙ sym e),
+      set-pasted d (a .at) (getD ds k 0) (slice-write-buffer c) ∙ ap (pasted d (a .at)) (ap (λ (j : ℕ). getD ds j 0 ∷ []) (c .place-of .ensures) ∙ sym e),
     )
 
 sub-put-pairs : tie.Need-sub-put-pairs
@@ -76,7 +76,6 @@ pub put-meaning-spec : {M : Type 1} → statement M
 put-meaning-spec =
     tie.close
     (tie.spec
-    (λ c. search needs)
     (λ c. search needs)
     (λ c κs. search needs)
     array-read-buffer

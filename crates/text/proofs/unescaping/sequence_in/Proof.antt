@@ -1,5 +1,5 @@
 -- Rests on the laws of a step at an escape delimiter: each return is a case of `sequence`.
-use Prim.Native.Nat.{ℕ, _≤_, _<_, _+_, _/_}
+use Prim.Native.Nat.{ℕ, _+_, _/_}
 use mathlib.Core.Path.{_≡_, refl, sym, ap, _∙_}
 use mathlib.Core.Bool.{true}
 use lib.ListN.{length, take}

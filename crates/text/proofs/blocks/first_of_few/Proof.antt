@@ -1,6 +1,6 @@
 -- Rests on the laws of `first`: no byte before i is special, at each turn.
-use Prim.Native.Nat.{ℕ, _≤_, _+_, _-_}
-use mathlib.Core.Path.{_≡_, sym, _∙_}
+use Prim.Native.Nat.{_≤_, _-_}
+use mathlib.Core.Path.{sym, _∙_}
 use lib.ListN.{length}
 use native.Mathlib.Omega.{arith}
 use borrow.Author.Needs.{needs}
@@ -8,8 +8,8 @@ use denote.Ref.{now}
 use Rattle.alphabet.specs.Lists.{first}
 use Rattle.alphabet.proofs.ListLaws.{first-le, first-reached, first-next}
 use Rattle.text.specs.Answers.{special}
-use Rattle.text.proofs.pieces.first_of_few.Statement.{statement}
-use Rattle.text.proofs.pieces.first_of_few.Tie as tie
+use Rattle.text.proofs.blocks.first_of_few.Statement.{statement}
+use Rattle.text.proofs.blocks.first_of_few.Tie as tie
 
 abbrev Inv-loop : tie.InvT-loop
 Inv-loop delimiters text i₀ i = (i ≤ length text) × (i ≤ first (special (delimiters .bytes)) text)

@@ -1,16 +1,15 @@
 -- Rests on `least-step`: the least place so far is the first special byte's, where that stands before i, and else the block's end.
 use Prim.Native.Nat.{ℕ, _≤_, _+_, _-_}
-use mathlib.Core.Path.{_≡_, sym, ap, ap₂, _∙_}
+use mathlib.Core.Path.{_≡_, sym, ap₂, _∙_}
 use mathlib.Core.Bool.{Bool, cond, _&&_}
 use lib.Dec.{ltb}
-use lib.ListN.{length, getD}
 use native.Mathlib.Omega.{arith}
 use borrow.Author.Needs.{needs}
 use denote.Ref.{now}
 use Rattle.text.specs.Answers.{special}
 use Rattle.text.proofs.RunLaws.{leastOf, least-begin, least-most, least-step, least-end}
-use Rattle.text.proofs.pieces.first_of_block.Statement.{statement}
-use Rattle.text.proofs.pieces.first_of_block.Tie as tie
+use Rattle.text.proofs.blocks.first_of_block.Statement.{statement}
+use Rattle.text.proofs.blocks.first_of_block.Tie as tie
 
 abbrev Inv-loop : tie.InvT-loop
 Inv-loop delimiters block least₀ i₀ least i = (i ≤ 32) × (least ≤ 32) × (least ≡ leastOf (special (delimiters .bytes)) block i)

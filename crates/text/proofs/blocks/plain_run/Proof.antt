@@ -1,18 +1,16 @@
 -- Rests on `first-block` and `first-inside`: a block without a special byte is passed over whole, and in another the first one is found.
-use Prim.Native.Nat.{ℕ, _≤_, _<_, _+_, _-_}
+use Prim.Native.Nat.{ℕ, _≤_, _+_, _-_}
 use mathlib.Core.Path.{_≡_, sym, ap, _∙_}
-use mathlib.Core.List.{List}
-use lib.ListN.{length, take, drop, length-drop}
-use lib.Seq.{length-take-le}
+use lib.ListN.{length, drop}
 use native.Mathlib.Omega.{arith}
 use borrow.Author.Needs.{needs}
 use denote.Ref.{now}
 use Rattle.alphabet.specs.Lists.{first}
 use Rattle.alphabet.proofs.ListLaws.{first-block, first-le, rest-of}
 use Rattle.text.specs.Answers.{special}
-use Rattle.text.proofs.RunLaws.{first-from, first-inside}
-use Rattle.text.proofs.pieces.plain_run.Statement.{statement}
-use Rattle.text.proofs.pieces.plain_run.Tie as tie
+use Rattle.text.proofs.RunLaws.{block-size, first-from, first-inside}
+use Rattle.text.proofs.blocks.plain_run.Statement.{statement}
+use Rattle.text.proofs.blocks.plain_run.Tie as tie
 
 abbrev Inv-loop : tie.InvT-loop
 Inv-loop delimiters text i₀ i = (i ≤ length text) × (i ≤ first (special (delimiters .bytes)) text)
@@ -20,17 +18,10 @@ Inv-loop delimiters text i₀ i = (i ≤ length text) × (i ≤ first (special (
 abbrev μ-loop : tie.MeasureT-loop
 μ-loop delimiters text i₀ i = length text - i
 
--- the length of a block from i on, as the code lends it
-block : (s : List ℕ) (i : ℕ) → i + 32 ≤ length s → length (take (i + 32 - i) (drop i s)) ≡ 32
-block s i h =
-    let d = length-drop i s in
-    let k = length-take-le (i + 32 - i) (drop i s) (omega arith) in
-    omega arith
-
 first-of-block-requires : tie.Need-first-of-block-requires Inv-loop μ-loop
 first-of-block-requires c κs =
     let l = c .before .before in
-    block (now (l .before .before .args .text)) (l .loop .i) (omega arith)
+    block-size (now (l .before .before .args .text)) (l .loop .i) (omega arith)
 
 returns : tie.Need-returns Inv-loop μ-loop
 returns c =
@@ -39,7 +30,7 @@ returns c =
     let s = now (a .text) in
     let i = l .loop .i in
     let test = special (a .delimiters .bytes) in
-    let n = block s i (omega arith) in
+    let n = block-size s i (omega arith) in
     let e = c .before .first-of-block .ensures in
     let f = first-from test s i (l .loop .inv .1) in
     let g = first-inside test (drop i s) (i + 32 - i) (omega arith) in
@@ -55,7 +46,7 @@ loop-again c =
     let s = now (a .text) in
     let i = l .loop .i in
     let test = special (a .delimiters .bytes) in
-    let n = block s i (omega arith) in
+    let n = block-size s i (omega arith) in
     let e = c .before .first-of-block .ensures in
     let f = first-block test s i (i + 32 - i) (omega arith) (l .loop .inv .1) (omega arith) in
     (omega arith, omega arith)
