@@ -10,7 +10,7 @@ ghost use Rattle.acknowledgement.specs.Acknowledgement.{header, sent, ty
 pub fn header_of(message: &[u8]) -> &[u8]
     ensures { λ r. ⌜ now r ≡ header (now (message .entry)) ⌝ }
 {
-    let end = alphabet::find(message, alphabet::CARRIAGE_RETURN);
+    let end = alphabet::find_far(message, alphabet::CARRIAGE_RETURN);
     if end == message.len() {
         return message;
     }
@@ -65,7 +65,7 @@ pub fn is_present(header: &[u8], bytes: &[u8]) -> bool
 pub fn is_acknowledgeable(message: &[u8]) -> bool
     ensures { λ r. ⌜ r ≡ acknowledgeable (now (message .entry)) ⌝ }
 {
-    let end = alphabet::find(message, alphabet::CARRIAGE_RETURN);
+    let end = alphabet::find_far(message, alphabet::CARRIAGE_RETURN);
     if end == message.len() {
         return false;
     }

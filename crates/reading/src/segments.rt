@@ -6,6 +6,7 @@ ghost use Prim.Native.Nat.{_+_};
 ghost use lib.ListN.{drop};
 ghost use Rattle.alphabet.specs.Bytes.{carriageReturn};
 ghost use Rattle.alphabet.specs.Lists.{find};
+ghost use Rattle.alphabet.specs.Parts.{partAt};
 ghost use Rattle.reading.specs.Segments.{delimitersOf, segmentAt};
 
 // Bytes 3 to 7; 0 stands for a byte that is not there, and 0 is no delimiter.
@@ -33,11 +34,33 @@ pub fn segment_end(message: &[u8], start: usize) -> usize
     start + alphabet::find_far(&message[start..], alphabet::CARRIAGE_RETURN)
 }
 
+// Where the part of the given index, from 0, stands at CR: as `alphabet::nth_part` tells it, but each CR is sought as what stands far off.
+fn line_at(message: &[u8], index: usize) -> Part
+    ensures { λ r. ⌜ r ≡ partAt carriageReturn (now (message .entry)) index ⌝ }
+{
+    let mut begin = 0;
+    let mut passed = 0;
+    loop {
+        let end = segment_end(message, begin);
+        if passed == index {
+            return Part::At {
+                start: begin,
+                end: end,
+            };
+        }
+        if message.len() <= end {
+            return Part::Absent;
+        }
+        begin = end + 1;
+        passed += 1;
+    }
+}
+
 // Where the segment of the given index, from 0, stands, without its CR.
 pub fn segment_at(message: &[u8], index: usize) -> Part
     ensures { λ r. ⌜ r ≡ segmentAt (now (message .entry)) index ⌝ }
 {
-    let part = alphabet::nth_part(message, alphabet::CARRIAGE_RETURN, index);
+    let part = line_at(message, index);
     match part {
         Part::At { start, end } => {
             // What stands behind the last CR is no segment.

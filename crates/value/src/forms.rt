@@ -50,6 +50,15 @@ pub fn zone_of(bytes: &[u8]) -> &[u8]
     &bytes[sign..]
 }
 
+// The same, where the body is known.
+fn zone_behind<'a>(bytes: &'a [u8], body: &[u8]) -> &'a [u8]
+    requires { ⌜ now body ≡ bodyOf (now bytes) ⌝ }
+    ensures { λ r. ⌜ now r ≡ zoneOf (now (bytes .entry)) ⌝ }
+{
+    let sign = body.len();
+    &bytes[sign..]
+}
+
 // What stands before the point and the sign.
 pub fn front_of(bytes: &[u8]) -> &[u8]
     ensures { λ r. ⌜ now r ≡ frontOf (now (bytes .entry)) ⌝ }
@@ -125,7 +134,7 @@ pub fn is_time(dated: bool, bytes: &[u8]) -> bool
     let body = body_of(bytes);
     let front = whole_of(body);
     let tail = from_point(body);
-    if !has_form(dated, front, tail, zone_of(bytes)) {
+    if !has_form(dated, front, tail, zone_behind(bytes, body)) {
         return false;
     }
     let start = if dated { 8 } else { 0 };

@@ -14,16 +14,16 @@ use Rattle.acknowledgement.proofs.sender.header_of.Statement.{statement
 use Rattle.acknowledgement.proofs.sender.header_of.Tie as tie
 
 -- there is a byte behind the place found
-inside : (c : tie.Else1) → c .before .find .result + 1 ≤ length (now (c .before .before .before .args .message))
-inside c = omega (arith, c .before .find .ensures, first-le (eqb carriageReturn) (now (c .before .before .before .args .message)), c .if1 .left)
+inside : (c : tie.Else1) → c .before .find-far .result + 1 ≤ length (now (c .before .before .before .args .message))
+inside c = omega (arith, c .before .find-far .ensures, first-le (eqb carriageReturn) (now (c .before .before .before .args .message)), c .if1 .left)
 
 returns : tie.Need-returns
-returns c = header-whole (now (c .before .before .before .args .message)) (sym (c .before .find .ensures) ∙ c .if1 .taken)
+returns c = header-whole (now (c .before .before .before .args .message)) (sym (c .before .find-far .ensures) ∙ c .if1 .taken)
 
 returns-2 : tie.Need-returns-2
 returns-2 c =
     let m = now (c .before .before .before .before .args .message) in
-    ap (λ i. take (i + 1) m) (c .before .before .find .ensures)
+    ap (λ i. take (i + 1) m) (c .before .before .find-far .ensures)
 
 pub header-of-spec : {M : Type 1} → statement M
 header-of-spec =

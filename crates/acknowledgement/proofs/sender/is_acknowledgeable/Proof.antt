@@ -21,10 +21,10 @@ use Rattle.acknowledgement.proofs.sender.is_acknowledgeable.Tie as tie
 inside : (c : tie.Else1) → let m = now (c .before .before .before .args .message) in find carriageReturn m < length m
 inside c =
     let m = now (c .before .before .before .args .message) in
-    omega (arith, c .before .find .ensures, first-le (eqb carriageReturn) m, c .if1 .left)
+    omega (arith, c .before .find-far .ensures, first-le (eqb carriageReturn) m, c .if1 .left)
 
 returns : tie.Need-returns
-returns c = sym (no-return-no (now (c .before .before .before .args .message)) (sym (c .before .find .ensures) ∙ c .if1 .taken))
+returns c = sym (no-return-no (now (c .before .before .before .args .message)) (sym (c .before .find-far .ensures) ∙ c .if1 .taken))
 
 returns-2 : tie.Need-returns-2
 returns-2 c =

@@ -10,20 +10,20 @@ returns : tie.Need-returns
 returns c =
     let a = c .before .before .before .before .before .before .args in
     let g = c .before .before .part .given in
-    let q = sym (c .before .before .before .before .nth-part .ensures) ∙ g .1 in
+    let q = sym (c .before .before .before .before .line-at .ensures) ∙ g .1 in
     sym (segment-none (now (a .message)) (a .index) (g .0 .0) (g .0 .1 .0) q (c .if1 .taken))
 
 returns-2 : tie.Need-returns-2
 returns-2 c =
     let a = c .before .before .before .before .before .before .args in
     let g = c .before .before .part .given in
-    let q = sym (c .before .before .before .before .nth-part .ensures) ∙ g .1 in
+    let q = sym (c .before .before .before .before .line-at .ensures) ∙ g .1 in
     sym (segment-some (now (a .message)) (a .index) (g .0 .0) (g .0 .1 .0) q (c .if1 .left))
 
 returns-3 : tie.Need-returns-3
 returns-3 c =
     let a = c .before .before .before .before .args in
-    sym (segment-absent (now (a .message)) (a .index) (sym (c .before .before .nth-part .ensures) ∙ c .enum-told .given .1))
+    sym (segment-absent (now (a .message)) (a .index) (sym (c .before .before .line-at .ensures) ∙ c .enum-told .given .1))
 
 pub segment-at-spec : {M : Type 1} → statement M
 segment-at-spec =

@@ -27,7 +27,7 @@ formed : (c : tie.After-has-form) → c .has-form .result ≡ timeForm (c .befor
 unfolding timeForm
 formed c =
     c .has-form .ensures
-    ∙ (λ i. partsForm (c .before .before .before .before .before .before .args .dated) (front-is (c .before .before .before) i) (tail-is (c .before .before) i) (c .before .zone-of .ensures i))
+    ∙ (λ i. partsForm (c .before .before .before .before .before .before .args .dated) (front-is (c .before .before .before) i) (tail-is (c .before .before) i) (c .before .zone-behind .ensures i))
 
 form : (c : tie.Else1) → timeForm (c .before .before .before .before .before .before .before .args .dated) (now (c .before .before .before .before .before .before .before .args .bytes)) ≡ true
 form c = sym (formed (c .before)) ∙ not-false _ (c .if1 .left)
