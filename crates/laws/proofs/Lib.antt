@@ -1,5 +1,6 @@
 pub mod EachLaws
 pub mod HeaderLaws
+pub mod HeaderFields
 pub mod ElementLaws
 pub mod RawLaws
 pub mod ValueLaws

@@ -3,12 +3,12 @@
 -- acknowledgement written reads back through our reader, fits the ACK structure and carries the sender's own control ID." Assumes nothing.
 use mathlib.Core.Path.{_≡_, refl, sym, ap, ap₂, subst, _∙_}
 use mathlib.Core.Bool.{Bool, true, false, cond, not}
-use mathlib.Core.List.{List, []}
+use mathlib.Core.List.{List, [], _∷_}
 use Prim.Native.Nat.{ℕ, _-_, _≤_}
 use native.Mathlib.Omega.{arith}
 use lib.Dec.{eqb}
 use lib.IntN.{pos}
-use lib.ListN.{length, getD, take}
+use lib.ListN.{length, getD, take, drop}
 use borrow.Author.Tests.{eqb-true, eqb-false}
 use Rattle.alphabet.specs.Answers.{numberOf, failsIf, answered}
 use Rattle.alphabet.specs.Delimiters.{wrongDelimiter}
@@ -31,7 +31,7 @@ use Rattle.element.specs.States.{stateOf}
 use Rattle.element.specs.declared.Element.{Element}
 use Rattle.element.specs.declared.Found.{Found}
 use Rattle.element.specs.declared.address.Address.{Address}
-use Rattle.element.proofs.FindingLaws.{within-element, lookup-long, found-passes, shown}
+use Rattle.element.proofs.FindingLaws.{within-element, lookup-read, lookup-long, found-passes, shown}
 use Rattle.element.proofs.LevelLaws.{within-segment, within-field, within-below}
 use Rattle.value.specs.Asked.{isPresent, numberFrom, timeFrom}
 use Rattle.value.specs.Times.{noTime}
@@ -45,9 +45,10 @@ use Rattle.acknowledgement.specs.Acknowledgement.{Acknowledges}
 use Rattle.laws.proofs.Acknowledged.{reads-back, fits-ack, carries-id, crossed, callers-id, accepts-exactly}
 use Rattle.laws.proofs.Clean.{both-ways}
 use Rattle.laws.proofs.ElementLaws.{state-means}
+use Rattle.laws.proofs.HeaderFields.{first-field, second-field, one-byte, four-bytes}
 use Rattle.laws.proofs.RawLaws.{part-in-bytes, raw-whole, raw-header, raw-other}
 use Rattle.laws.proofs.RoundTrip.{AreBytes}
-use Rattle.promises.specs.Acknowledgements.{Carries}
+use Rattle.promises.specs.Acknowledgements.{inHeader, Carries}
 use Rattle.promises.specs.Elements.{StateIs, absent, stands, level, fieldBytes, levels}
 
 -- ---- an element that is found
@@ -142,6 +143,17 @@ module _ (m : List ℕ) (a : Address) (done : found m a .answer .kind ≡ None) 
       at : (p : Part) → elementAt m a ≡ p → elementBytes m a ≡ partBytes m (elementAt m a)
       at Absent q = shown m a ∙ ap (λ (x : Element). between m (x .start) (x .end)) (element-is ∙ ap (elementIn m) q) ∙ ap (partBytes m) (sym q)
       at (At s e) q = stands-at s e q ∙ ap (partBytes m) (sym q)
+
+-- "Field 1 of MSH is the separator byte, field 2 the four encoding bytes"
+pub separator-field : (m : List ℕ) → found m (inHeader 1) .answer .kind ≡ None → elementBytes m (inHeader 1) ≡ fieldSeparator m ∷ []
+separator-field m done =
+    let n = long m (inHeader 1) done in
+    stands-at m (inHeader 1) done 3 4 (first-field m (lookup-read m (inHeader 1) (passes m (inHeader 1) done))) ∙ one-byte m (omega arith)
+
+pub encoding-field : (m : List ℕ) → found m (inHeader 2) .answer .kind ≡ None → elementBytes m (inHeader 2) ≡ drop 1 (delimitersOf m)
+encoding-field m done =
+    let n = long m (inHeader 2) done in
+    stands-at m (inHeader 2) done 4 8 (second-field m (lookup-read m (inHeader 2) (passes m (inHeader 2) done))) ∙ four-bytes m (omega arith)
 
 -- ---- "its number or its time"
 
