@@ -1,4 +1,4 @@
--- What a text says, and why and where it is refused, as a grammar: nothing of how it is found. `proofs/Grammar.antt` shows that the scan of
+-- What a text says, and why and where it is refused, as a grammar: nothing of how it is found. `Grammar` of the crate `laws` shows that the scan of
 -- `Unescape` gives a text exactly where `Reads` does, and the same text; and a fault exactly where `Refuses` does, the same and at the same place.
 use Prim.Native.Nat.{ℕ, _≤_, _<_}
 use mathlib.Core.Path.{_≡_}

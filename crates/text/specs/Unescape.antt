@@ -1,4 +1,4 @@
--- How text is read, by document 01, 'Text'. `Reads` says the same as a grammar, and `proofs/Grammar.antt` that the two agree.
+-- How text is read, by document 01, 'Text'. `Reads` says the same as a grammar, and `Grammar` of the crate `laws` that the two agree.
 use Prim.Native.Nat.{ℕ, zero, suc, _+_}
 use mathlib.Core.List.{List, [], _∷_, _++_}
 use mathlib.Core.Bool.{Bool, false, cond, _&&_}
