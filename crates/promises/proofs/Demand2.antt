@@ -41,14 +41,14 @@ use Rattle.value.specs.declared.asked.NumberFound.{NumberFound}
 use Rattle.value.proofs.AskedLaws.{number-present, number-other, time-present, time-other}
 use Rattle.text.specs.Escape.{escape}
 use Rattle.text.specs.Answers.{escaping, unescaping, answer, filled}
-use Rattle.acknowledgement.specs.Acknowledgement.{Acknowledges}
+use Rattle.acknowledgement.specs.Acknowledgement.{Acknowledges, fieldAddress as inHeader}
 use Rattle.laws.proofs.Acknowledged.{reads-back, fits-ack, carries-id, crossed, callers-id, accepts-exactly}
 use Rattle.laws.proofs.Clean.{both-ways}
 use Rattle.laws.proofs.ElementLaws.{state-means}
 use Rattle.laws.proofs.HeaderFields.{first-field, second-field, one-byte, four-bytes}
 use Rattle.laws.proofs.RawLaws.{part-in-bytes, raw-whole, raw-header, raw-other}
 use Rattle.laws.proofs.RoundTrip.{AreBytes}
-use Rattle.promises.specs.Acknowledgements.{inHeader, Carries}
+use Rattle.promises.specs.Acknowledgements.{Carries}
 use Rattle.promises.specs.Elements.{StateIs, absent, stands, level, fieldBytes, levels}
 
 -- ---- an element that is found

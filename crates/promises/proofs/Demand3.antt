@@ -36,6 +36,7 @@ exactly s ns (not-yielded place ends list r) =
       list = list;
       given = refl;
       could-stand = could-stand-is s ns place ends list r;
+      once = r .could-stand;
       could-end = r .could-end;
     })
 

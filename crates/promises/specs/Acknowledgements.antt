@@ -15,11 +15,9 @@ use Rattle.text.specs.Unescape.{text}
 use Rattle.text.specs.Answers.{unescaping}
 use Rattle.structure.specs.Judged.{plain, Answers}
 use Rattle.verdict.specs.Verdicts.{Accepts}
+use Rattle.acknowledgement.specs.Acknowledgement.{fieldAddress as inHeader}
 
--- the whole of a field of MSH, and of MSA, which stands behind it
-abbrev pub inHeader : ℕ → Address
-inHeader f = record { segment = 0; field = f; repetition = 0; component = 0; subcomponent = 0 }
-
+-- the whole of a field of MSA, which stands behind MSH; `inHeader` is that of a field of MSH
 abbrev pub inAnswer : ℕ → Address
 inAnswer f = record { segment = 1; field = f; repetition = 0; component = 0; subcomponent = 0 }
 

@@ -7,9 +7,9 @@ use mathlib.Core.List.{List, [], _∷_, _++_}
 use lib.Dec.{T, ltb}
 use lib.ListN.{length}
 use Rattle.alphabet.specs.declared.answers.Refusal.the-variants.{None, SegmentMisplaced, EndedEarly}
-use Rattle.structure.specs.Shapes.{Shape, Yields, Viable, names}
+use Rattle.structure.specs.Shapes.{Shape, Yields, Viable, Possible, names, nameAt}
 use Rattle.structure.specs.SegmentNames.{kept}
-use Rattle.structure.specs.Listed.{In}
+use Rattle.structure.specs.Listed.{In, Listed}
 use Rattle.structure.specs.Judged.{plain, front, nameList}
 use Rattle.structure.specs.declared.judging.Judgement.{Judgement}
 
@@ -26,6 +26,8 @@ pub record RefusedExactly (s : Shape) (ns : List ℕ) (j : Judgement) : Type 0 w
   pub list : List ℕ
   pub given : j .names ≡ nameList list
   pub could-stand : (n : ℕ) → In n list ↔ Viable s (front s (j .place) ns ++ (n ∷ []))
+  -- "once each, by the earliest place possible there"
+  pub once : Listed (Possible s (front s (j .place) ns)) (nameAt s) list
   -- and whether the message could have ended there
   pub could-end : T (j .«could_end») ↔ Yields s (front s (j .place) ns)
 
