@@ -12,7 +12,7 @@ use Rattle.alphabet.specs.Answers.{numberOf}
 use Rattle.alphabet.specs.Limits.{messageLimit}
 use Rattle.alphabet.specs.declared.answers.Answer.{Answer}
 use Rattle.alphabet.specs.declared.answers.Refusal.the-variants.{None, NotAcknowledgeable, AcknowledgementTooLong, CallersTime, CallersId}
-use Rattle.value.specs.Times.{isTs}
+use Rattle.times.specs.Times.{isTs}
 use Rattle.text.specs.Unescape.{Outcome, text, fault}
 use Rattle.text.specs.Answers.{answer, filled}
 use Rattle.acknowledgement.specs.Acknowledgement.{header, badId, acknowledgeable, refusing, acknowledgement, roomy, Coded, Acknowledges}

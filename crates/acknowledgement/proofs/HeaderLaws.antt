@@ -20,7 +20,7 @@ use Rattle.alphabet.proofs.BoolLaws.{false-true, and-both, or-neither}
 use Rattle.reading.specs.Reading.{opening}
 use Rattle.reading.specs.Message.{Opened}
 use Rattle.reading.proofs.Accepted.{opened-if}
-use Rattle.value.specs.Times.{isTs}
+use Rattle.times.specs.Times.{isTs}
 use Rattle.acknowledgement.specs.Acknowledgement.{header, sent, typePart, present, passes, badId, acknowledgeable, refusing}
 
 module _ (m : List ℕ) where

@@ -21,7 +21,7 @@ use Rattle.element.specs.Finding.{rawBytes}
 use Rattle.element.specs.States.{stateOf}
 use Rattle.element.specs.declared.address.Address.{Address}
 use Rattle.value.specs.Asked.{isPresent}
-use Rattle.value.specs.Times.{isTs}
+use Rattle.times.specs.Times.{isTs}
 use Rattle.text.specs.Escape.{escape}
 use Rattle.text.specs.Unescape.{Outcome, text, fault}
 use Rattle.text.specs.Answers.{answer, filled}

@@ -22,7 +22,7 @@ fn is_bad_id(id: &[u8]) -> bool
 fn refusal_of(message: &[u8], time: &[u8], id: &[u8]) -> Refusal
     ensures { λ r. ⌜ r ≡ refusing (now (message .entry)) (now (time .entry)) (now (id .entry)) ⌝ }
 {
-    if !value::is_ts(time) {
+    if !times::is_ts(time) {
         return Refusal::CallersTime;
     }
     if is_bad_id(id) {

@@ -6,12 +6,12 @@ use crate::answers;
 use crate::bytes;
 use alphabet::Answer;
 use alphabet::Refusal;
+use calendar::Clock;
+use calendar::Date;
+use calendar::Figure;
+use calendar::Offset;
+use calendar::Sign;
 use element::State;
-use value::Clock;
-use value::Date;
-use value::Figure;
-use value::Offset;
-use value::Sign;
 
 // Puts a short word.
 pub fn put_text(answer: &mut [u8], at: usize, text: &[u8], end: u8) -> usize

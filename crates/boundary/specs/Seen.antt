@@ -10,13 +10,13 @@ use Rattle.element.specs.declared.Found.{Found}
 use Rattle.element.specs.declared.address.Address.{Address}
 use Rattle.element.specs.declared.states.State.{State}
 use Rattle.element.specs.declared.states.State.the-variants.{Absent, Empty, Null, Present}
-use Rattle.value.specs.declared.figures.Date.{Date}
-use Rattle.value.specs.declared.figures.Clock.{Clock}
-use Rattle.value.specs.declared.figures.Offset.{Offset}
-use Rattle.value.specs.declared.figures.Figure.{Figure}
-use Rattle.value.specs.declared.figures.Figure as figure
-use Rattle.value.specs.declared.figures.Sign.{Sign}
-use Rattle.value.specs.declared.figures.Sign as sign
+use Rattle.calendar.specs.declared.figures.Date.{Date}
+use Rattle.calendar.specs.declared.figures.Clock.{Clock}
+use Rattle.calendar.specs.declared.figures.Offset.{Offset}
+use Rattle.calendar.specs.declared.figures.Figure.{Figure}
+use Rattle.calendar.specs.declared.figures.Figure as figure
+use Rattle.calendar.specs.declared.figures.Sign.{Sign}
+use Rattle.calendar.specs.declared.figures.Sign as sign
 use Rattle.value.specs.declared.asked.NumberFound.{NumberFound}
 use Rattle.value.specs.declared.asked.TimeFound.{TimeFound}
 use Rattle.structure.specs.Judged.{Answers}

@@ -1,14 +1,14 @@
 // An element of a message by its address, and the number or the time that it says. A state is 0 absent, 1 empty, 2 null, 3 present; an
 // element that is not present has no number: an empty box is not a zero.
+use calendar::Clock;
+use calendar::Date;
+use calendar::Figure;
+use calendar::Offset;
+use calendar::Sign;
 use element::Address;
 use element::Found;
 use element::State;
-use value::Clock;
-use value::Date;
-use value::Figure;
 use value::NumberFound;
-use value::Offset;
-use value::Sign;
 use value::TimeFound;
 ghost use mathlib.Core.Path.{_≡_};
 ghost use Rattle.element.specs.Finding.{found};

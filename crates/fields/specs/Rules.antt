@@ -17,8 +17,8 @@ use Rattle.element.specs.States.{stateOf}
 use Rattle.element.specs.declared.states.State.{State}
 use Rattle.element.specs.declared.states.State.the-variants.{Absent, Empty, Null, Present}
 use Rattle.value.specs.Asked.{isPresent}
-use Rattle.value.specs.Numbers.{nmCheck, isSi}
-use Rattle.value.specs.Times.{isDt, isTm, isTs}
+use Rattle.numbers.specs.Numbers.{nmCheck, isSi}
+use Rattle.times.specs.Times.{isDt, isTm, isTs}
 use Rattle.fields.specs.Table.{valuesOf}
 use Rattle.fields.specs.declared.table.Portion.{Portion}
 use Rattle.fields.specs.declared.table.Portion.the-variants.{Whole, Component}

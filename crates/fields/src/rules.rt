@@ -26,11 +26,11 @@ fn check_form(kind: Kind, bytes: &[u8]) -> Check
             let most = alphabet::id_limit();
             alphabet::fails_if(most < bytes.len(), Refusal::ValueTooLong, 0)
         }
-        Kind::Ts => alphabet::fails_if(!value::is_ts(bytes), Refusal::BreaksForm, 0),
-        Kind::Si => alphabet::fails_if(!value::is_si(bytes), Refusal::BreaksForm, 0),
-        Kind::Nm => value::check_nm(bytes),
-        Kind::Dt => alphabet::fails_if(!value::is_dt(bytes), Refusal::BreaksForm, 0),
-        Kind::Tm => alphabet::fails_if(!value::is_tm(bytes), Refusal::BreaksForm, 0),
+        Kind::Ts => alphabet::fails_if(!times::is_ts(bytes), Refusal::BreaksForm, 0),
+        Kind::Si => alphabet::fails_if(!numbers::is_si(bytes), Refusal::BreaksForm, 0),
+        Kind::Nm => numbers::check_nm(bytes),
+        Kind::Dt => alphabet::fails_if(!times::is_dt(bytes), Refusal::BreaksForm, 0),
+        Kind::Tm => alphabet::fails_if(!times::is_tm(bytes), Refusal::BreaksForm, 0),
         Kind::OneOf(values) => alphabet::fails_if(!is_listed(bytes, values), Refusal::NotListed, 0),
         Kind::AsField(_) => Check::Passes,
     }

@@ -31,7 +31,7 @@ use Rattle.element.specs.Finding.{rawBytes}
 use Rattle.element.specs.declared.address.Address.{Address}
 use Rattle.laws.proofs.HeaderLaws.{first-segment as begins}
 use Rattle.laws.proofs.RawLaws.{raw-header, raw-component}
-use Rattle.value.specs.Times.{isTs}
+use Rattle.times.specs.Times.{isTs}
 use Rattle.text.specs.Unescape.{text}
 use Rattle.text.specs.Answers.{fitting, unescaping}
 use Rattle.laws.proofs.RoundTrip.{AreBytes, round-trip}

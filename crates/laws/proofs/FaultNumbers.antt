@@ -19,8 +19,8 @@ use Rattle.element.specs.States.{stateOf}
 use Rattle.element.specs.declared.states.State.{State}
 use Rattle.element.specs.declared.states.State.the-variants.{Absent, Empty, Null, Present}
 use Rattle.value.specs.Asked.{isPresent}
-use Rattle.value.specs.Numbers.{nmCheck, nmForm, nmDigits, mostDigits, isSi}
-use Rattle.value.specs.Times.{isDt, isTm, isTs}
+use Rattle.numbers.specs.Numbers.{nmCheck, nmForm, nmDigits, mostDigits, isSi}
+use Rattle.times.specs.Times.{isDt, isTm, isTs}
 use Rattle.fields.specs.Table.{valuesOf}
 use Rattle.fields.specs.Rules.{member, formCheck, judgedPart, partState, placed, repetitionCheck, repetitionChecks, firstState, requiredCheck, repeatedCheck, saidCheck, isSaid, somePresent, kindOf, portionOf, rowCheck}
 use Rattle.fields.specs.Judging.{Fault, Sound, Faulty, nameAt, saidIn, repetitionsOf, located, orFault, firstFault, rowFault, segmentFault, segmentFaults, judging, faultAnswer}

@@ -15,15 +15,15 @@ use Rattle.alphabet.specs.Lists.{find}
 use Rattle.alphabet.proofs.BoolLaws.{and-both}
 use Rattle.alphabet.proofs.DigitLaws.{digits-same, digits-take, digits-drop}
 use Rattle.alphabet.proofs.ListLaws.{find-is}
-use Rattle.value.specs.Times.{isDt, dtTime, figureAt, dateOf, fractionOf, clockOf, offsetOf, dtLength, frontLength, bodyOf, zoneOf, frontOf, tailOf, isTime, timeForm, timeOf}
-use Rattle.value.specs.declared.figures.Figure.the-variants.{NotSent, Sent}
-use Rattle.value.specs.declared.figures.Date.{Date}
-use Rattle.value.specs.declared.figures.Clock.{Clock}
-use Rattle.value.specs.declared.figures.Sign.{Sign}
-use Rattle.value.specs.declared.figures.Offset.{Offset}
-use Rattle.value.specs.declared.figures.Time.{Time}
-use Rattle.value.proofs.FigureLaws.{figure-sent, figure-not, fraction-not, fraction-sent, offset-not}
-use Rattle.value.proofs.TimeLaws.{dt-digits, front-digits, front-length, tail-holds, zone-held, time-formed}
+use Rattle.times.specs.Times.{isDt, dtTime, figureAt, dateOf, fractionOf, clockOf, offsetOf, dtLength, frontLength, bodyOf, zoneOf, frontOf, tailOf, isTime, timeForm, timeOf}
+use Rattle.calendar.specs.declared.figures.Figure.the-variants.{NotSent, Sent}
+use Rattle.calendar.specs.declared.figures.Date.{Date}
+use Rattle.calendar.specs.declared.figures.Clock.{Clock}
+use Rattle.calendar.specs.declared.figures.Sign.{Sign}
+use Rattle.calendar.specs.declared.figures.Offset.{Offset}
+use Rattle.calendar.specs.declared.figures.Time.{Time}
+use Rattle.times.proofs.FigureLaws.{figure-sent, figure-not, fraction-not, fraction-sent, offset-not}
+use Rattle.times.proofs.TimeLaws.{dt-digits, front-digits, front-length, tail-holds, zone-held, time-formed}
 
 -- ---- the front, figure by figure
 

@@ -17,10 +17,10 @@ use Rattle.alphabet.specs.Lists.{find}
 use Rattle.alphabet.proofs.BoolLaws.{and-both, from-to}
 use Rattle.alphabet.proofs.ListLaws.{drop-next, find-is}
 use Rattle.laws.proofs.EachLaws.{Each, each-append, at-each}
-use Rattle.value.specs.Numbers.{someDigits, unsigned, whole, hasPoint, fraction, nmForm}
-use Rattle.value.specs.Times.{bodyOf, zoneOf, frontOf, tailOf, isTime}
+use Rattle.numbers.specs.Numbers.{someDigits, unsigned, whole, hasPoint, fraction, nmForm}
+use Rattle.times.specs.Times.{bodyOf, zoneOf, frontOf, tailOf, isTime}
 use Rattle.acknowledgement.specs.Acknowledgement.{version}
-use Rattle.value.proofs.TimeLaws.{time-formed, front-digits, tail-holds, zone-held}
+use Rattle.times.proofs.TimeLaws.{time-formed, front-digits, tail-holds, zone-held}
 
 module _ (P : ℕ → Type 0) (digits : (b : ℕ) → digit b ≡ true → P b) where
   digits-each : (l : List ℕ) → allDigits l ≡ true → Each P l

@@ -8,10 +8,10 @@ use Rattle.alphabet.specs.Bytes.{fromTo}
 use Rattle.alphabet.specs.Digits.{counted, decimal}
 use Rattle.alphabet.proofs.BoolLaws.{and-both, from-to}
 use Rattle.alphabet.proofs.DigitLaws.{counted-append}
-use Rattle.value.specs.Numbers.{signed}
-use Rattle.value.specs.Times.{inRange, numberIn, leap, daysIn, validDate}
-use Rattle.value.specs.declared.figures.Figure.the-variants.{Sent}
-use Rattle.value.specs.declared.figures.Date.{Date}
+use Rattle.numbers.specs.Numbers.{signed}
+use Rattle.calendar.specs.Calendar.{inRange, numberIn, leap, daysIn, validDate}
+use Rattle.calendar.specs.declared.figures.Figure.the-variants.{Sent}
+use Rattle.calendar.specs.declared.figures.Date.{Date}
 
 -- ---- the calendar
 

@@ -25,7 +25,7 @@ use Rattle.reading.proofs.SegmentLaws.{segments-ended}
 use Rattle.reading.proofs.Accepted.{accepting}
 use Rattle.element.specs.Finding.{rawBytes}
 use Rattle.laws.proofs.RawLaws.{raw-header, raw-other, raw-component}
-use Rattle.value.specs.Times.{isTs}
+use Rattle.times.specs.Times.{isTs}
 use Rattle.laws.proofs.ValueBytes.{time-each, digit-none}
 use Rattle.text.specs.Escape.{escape}
 use Rattle.laws.proofs.RoundTrip.{AreBytes}

@@ -26,12 +26,13 @@ use Rattle.element.specs.Addresses.{addressCheck, wellFormed}
 use Rattle.element.specs.Finding.{isAbsent, lookupCheck, found, elementBytes}
 use Rattle.element.specs.declared.Found.{Found}
 use Rattle.element.specs.declared.address.Address.{Address}
-use Rattle.value.specs.Numbers.{nmForm, nmDigits, mostDigits, nmCheck, nmValue, fraction, unsigned, nmRead, isSi, siRead, numberIf}
-use Rattle.value.specs.Times.{isDt, isTs, isTime, dtTime, timeOf, dtRead, timeRead, timeIf, noTime}
+use Rattle.numbers.specs.Numbers.{nmForm, nmDigits, mostDigits, nmCheck, nmValue, fraction, unsigned, nmRead, isSi, siRead, numberIf}
+use Rattle.calendar.specs.Calendar.{noTime}
+use Rattle.times.specs.Times.{isDt, isTs, isTime, dtTime, timeOf, dtRead, timeRead, timeIf}
 use Rattle.value.specs.Asked.{isPresent, numberFrom, timeFrom, nmFound, siFound, dtFound, tmFound, tsFound}
-use Rattle.value.specs.declared.figures.Time.{Time}
-use Rattle.value.specs.declared.numbers.ReadNumber.{ReadNumber}
-use Rattle.value.specs.declared.times.ReadTime.{ReadTime}
+use Rattle.calendar.specs.declared.figures.Time.{Time}
+use Rattle.numbers.specs.declared.numerals.ReadNumber.{ReadNumber}
+use Rattle.times.specs.declared.moments.ReadTime.{ReadTime}
 use Rattle.value.specs.declared.asked.NumberFound.{NumberFound}
 use Rattle.value.specs.declared.asked.TimeFound.{TimeFound}
 use Rattle.value.proofs.AskedLaws.{number-present, number-other, time-present, time-other}

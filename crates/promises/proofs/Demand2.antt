@@ -34,9 +34,9 @@ use Rattle.element.specs.declared.address.Address.{Address}
 use Rattle.element.proofs.FindingLaws.{within-element, lookup-read, lookup-long, found-passes, shown}
 use Rattle.element.proofs.LevelLaws.{within-segment, within-field, within-below}
 use Rattle.value.specs.Asked.{isPresent, numberFrom, timeFrom}
-use Rattle.value.specs.Times.{noTime}
-use Rattle.value.specs.declared.numbers.ReadNumber.{ReadNumber}
-use Rattle.value.specs.declared.times.ReadTime.{ReadTime}
+use Rattle.calendar.specs.Calendar.{noTime}
+use Rattle.numbers.specs.declared.numerals.ReadNumber.{ReadNumber}
+use Rattle.times.specs.declared.moments.ReadTime.{ReadTime}
 use Rattle.value.specs.declared.asked.NumberFound.{NumberFound}
 use Rattle.value.proofs.AskedLaws.{number-present, number-other, time-present, time-other}
 use Rattle.text.specs.Escape.{escape}

@@ -13,8 +13,8 @@ use Rattle.alphabet.specs.declared.answers.Refusal.the-variants.{None}
 use Rattle.element.specs.Finding.{found}
 use Rattle.element.specs.declared.states.State.{State}
 use Rattle.element.specs.declared.states.State.the-variants.{Absent, Empty}
-use Rattle.value.specs.Numbers.{nmRead}
-use Rattle.value.specs.Times.{timeRead}
+use Rattle.numbers.specs.Numbers.{nmRead}
+use Rattle.times.specs.Times.{timeRead}
 use Rattle.text.specs.Unescape.{text}
 use Rattle.text.specs.Answers.{escaping, unescaping, answer}
 use Rattle.structure.specs.SegmentNames.{name}

@@ -1,20 +1,13 @@
--- Laws of what is read and asked, case by case. Assumes nothing.
+-- Laws of what is asked, case by case. Assumes nothing.
 use mathlib.Core.Path.{_≡_}
-use mathlib.Core.Bool.{Bool, true, false}
+use mathlib.Core.Bool.{true, false}
 use lib.IntN.{ℤ, pos}
-use Rattle.alphabet.specs.declared.answers.Refusal.the-variants.{None, BreaksForm}
 use Rattle.element.specs.declared.Found.{Found}
-use Rattle.value.specs.Times.{noTime, timeIf}
+use Rattle.calendar.specs.Calendar.{noTime}
+use Rattle.calendar.specs.declared.figures.Time.{Time}
 use Rattle.value.specs.Asked.{isPresent, numberFrom, timeFrom}
-use Rattle.value.specs.declared.figures.Time.{Time}
-use Rattle.value.specs.declared.numbers.ReadNumber.{ReadNumber}
-use Rattle.value.specs.declared.times.ReadTime.{ReadTime}
-
-pub read-time : (t : Bool) (x time : Time) → t ≡ true → x ≡ time → record { kind = None; time = x } ≡ timeIf t time
-read-time t x time e q = rw (e, q)
-
-pub read-none : (t : Bool) (x time : Time) → t ≡ false → x ≡ noTime → record { kind = BreaksForm; time = x } ≡ timeIf t time
-read-none t x time e q = rw (e, q)
+use Rattle.numbers.specs.declared.numerals.ReadNumber.{ReadNumber}
+use Rattle.times.specs.declared.moments.ReadTime.{ReadTime}
 
 module _ (f : Found) where
   pub number-present : (r : ReadNumber) (z : ℤ) → isPresent (f .element .state) ≡ true → z ≡ r .value

@@ -1,4 +1,1 @@
-pub mod NumberLaws
-pub mod FigureLaws
-pub mod TimeLaws
 pub mod AskedLaws

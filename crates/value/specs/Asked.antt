@@ -9,10 +9,11 @@ use Rattle.element.specs.declared.Found.{Found}
 use Rattle.element.specs.declared.address.Address.{Address}
 use Rattle.element.specs.declared.states.State.{State}
 use Rattle.element.specs.declared.states.State.the-variants.{Absent, Empty, Null, Present}
-use Rattle.value.specs.Numbers.{nmRead, siRead}
-use Rattle.value.specs.Times.{noTime, dtRead, timeRead}
-use Rattle.value.specs.declared.numbers.ReadNumber.{ReadNumber}
-use Rattle.value.specs.declared.times.ReadTime.{ReadTime}
+use Rattle.numbers.specs.Numbers.{nmRead, siRead}
+use Rattle.calendar.specs.Calendar.{noTime}
+use Rattle.times.specs.Times.{dtRead, timeRead}
+use Rattle.numbers.specs.declared.numerals.ReadNumber.{ReadNumber}
+use Rattle.times.specs.declared.moments.ReadTime.{ReadTime}
 use Rattle.value.specs.declared.asked.NumberFound.{NumberFound}
 use Rattle.value.specs.declared.asked.TimeFound.{TimeFound}
 

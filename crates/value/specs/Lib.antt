@@ -1,3 +1,1 @@
-pub mod Numbers
-pub mod Times
 pub mod Asked

@@ -1,18 +1,12 @@
 // A number or a time asked of an element of a message. An element that is not present gives its state alone: an empty
 // box is not a zero.
-use crate::figures::Time;
-use crate::numbers::ReadNumber;
-use crate::numbers::read_nm;
-use crate::numbers::read_si;
-use crate::times::ReadTime;
-use crate::times::no_time;
-use crate::times::read_dt;
-use crate::times::read_tm;
-use crate::times::read_ts;
 use alphabet::Answer;
+use calendar::Time;
 use element::Address;
 use element::Found;
 use element::State;
+use numbers::ReadNumber;
+use times::ReadTime;
 ghost use mathlib.Core.Path.{_≡_};
 ghost use Rattle.value.specs.Asked.{isPresent, numberFrom, timeFrom, nmFound, siFound, dtFound, tmFound, tsFound};
 
@@ -91,7 +85,7 @@ fn time_from(found: Found, read: ReadTime) -> TimeFound
         };
     }
     let answer = found.answer;
-    let none = no_time();
+    let none = calendar::no_time();
     TimeFound {
         answer: answer,
         state: state,
@@ -104,7 +98,7 @@ pub fn nm(message: &[u8], address: Address) -> NumberFound
 {
     let found = element::find(message, address);
     let element = found.element;
-    let read = read_nm(element::bytes_at(message, element));
+    let read = numbers::read_nm(element::bytes_at(message, element));
     number_from(found, read)
 }
 
@@ -113,7 +107,7 @@ pub fn si(message: &[u8], address: Address) -> NumberFound
 {
     let found = element::find(message, address);
     let element = found.element;
-    let read = read_si(element::bytes_at(message, element));
+    let read = numbers::read_si(element::bytes_at(message, element));
     number_from(found, read)
 }
 
@@ -122,7 +116,7 @@ pub fn dt(message: &[u8], address: Address) -> TimeFound
 {
     let found = element::find(message, address);
     let element = found.element;
-    let read = read_dt(element::bytes_at(message, element));
+    let read = times::read_dt(element::bytes_at(message, element));
     time_from(found, read)
 }
 
@@ -131,7 +125,7 @@ pub fn tm(message: &[u8], address: Address) -> TimeFound
 {
     let found = element::find(message, address);
     let element = found.element;
-    let read = read_tm(element::bytes_at(message, element));
+    let read = times::read_tm(element::bytes_at(message, element));
     time_from(found, read)
 }
 
@@ -140,6 +134,6 @@ pub fn ts(message: &[u8], address: Address) -> TimeFound
 {
     let found = element::find(message, address);
     let element = found.element;
-    let read = read_ts(element::bytes_at(message, element));
+    let read = times::read_ts(element::bytes_at(message, element));
     time_from(found, read)
 }

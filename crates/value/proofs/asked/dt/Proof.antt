@@ -4,7 +4,7 @@ use borrow.Author.Needs.{needs}
 use denote.Ref.{now}
 use Rattle.element.specs.Finding.{bytesAt}
 use Rattle.element.specs.declared.Found.{Found}
-use Rattle.value.specs.Times.{dtRead}
+use Rattle.times.specs.Times.{dtRead}
 use Rattle.value.specs.Asked.{timeFrom}
 use Rattle.value.proofs.asked.dt.Statement.{statement}
 use Rattle.value.proofs.asked.dt.Tie as tie

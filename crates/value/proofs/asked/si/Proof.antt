@@ -4,7 +4,7 @@ use borrow.Author.Needs.{needs}
 use denote.Ref.{now}
 use Rattle.element.specs.Finding.{bytesAt}
 use Rattle.element.specs.declared.Found.{Found}
-use Rattle.value.specs.Numbers.{siRead}
+use Rattle.numbers.specs.Numbers.{siRead}
 use Rattle.value.specs.Asked.{numberFrom}
 use Rattle.value.proofs.asked.si.Statement.{statement}
 use Rattle.value.proofs.asked.si.Tie as tie

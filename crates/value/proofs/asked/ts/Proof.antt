@@ -5,7 +5,7 @@ use borrow.Author.Needs.{needs}
 use denote.Ref.{now}
 use Rattle.element.specs.Finding.{bytesAt}
 use Rattle.element.specs.declared.Found.{Found}
-use Rattle.value.specs.Times.{timeRead}
+use Rattle.times.specs.Times.{timeRead}
 use Rattle.value.specs.Asked.{timeFrom}
 use Rattle.value.proofs.asked.ts.Statement.{statement}
 use Rattle.value.proofs.asked.ts.Tie as tie

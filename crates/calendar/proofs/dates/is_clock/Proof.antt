@@ -1,0 +1,18 @@
+-- Rests on what `in_range` gives.
+use borrow.Author.Needs.{needs}
+use Rattle.calendar.specs.Calendar.{validClock}
+use Rattle.calendar.proofs.dates.is_clock.Statement.{statement}
+use Rattle.calendar.proofs.dates.is_clock.Tie as tie
+
+returns : tie.Need-returns
+unfolding validClock
+returns c = cc
+
+pub is-clock-spec : {M : Type 1} → statement M
+is-clock-spec =
+    tie.close
+    (tie.spec
+    (λ c κs. search needs)
+    (λ c κs. search needs)
+    (λ c κs. search needs)
+    returns)

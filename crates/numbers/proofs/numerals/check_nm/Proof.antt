@@ -1,0 +1,30 @@
+-- Rests on what the parts, `fails_if` and `or_else` give; before the point stand as many bytes as its place says.
+use borrow.Author.Needs.{needs}
+use lib.ListN.{length-append}
+use Rattle.alphabet.proofs.CheckLaws.{ends}
+use Rattle.numbers.specs.Numbers.{nmForm, nmCheck, unsigned, whole, fraction}
+use Rattle.numbers.proofs.NumberLaws.{whole-length}
+use denote.Ref.{now}
+use Rattle.numbers.proofs.numerals.check_nm.Statement.{statement}
+use Rattle.numbers.proofs.numerals.check_nm.Tie as tie
+
+returns : tie.Need-returns
+unfolding nmCheck nmForm
+returns c =
+    let u = unsigned (now (c .before .before .before .before .before .before .before .before .before .args .bytes)) in
+    cc (whole-length u, length-append (whole u) (fraction u), ends (c .before .fails-if2 .ensures))
+
+pub check-nm-spec : {M : Type 1} → statement M
+check-nm-spec =
+    tie.close
+    (tie.spec
+    (λ c κs. search needs)
+    (λ c κs. search needs)
+    (λ c κs. search needs)
+    (λ c κs. search needs)
+    (λ c κs. search needs)
+    (λ c. search needs)
+    (λ c κs. search needs)
+    (λ c κs. search needs)
+    (λ c κs. search needs)
+    returns)

@@ -1,0 +1,23 @@
+-- Rests on what `find` gives.
+use borrow.Author.Needs.{needs}
+use mathlib.Core.Path.{sym, ap}
+use Prim.Native.Nat.{ℕ, _≤_}
+use lib.Dec.{eqb}
+use lib.ListN.{length, take}
+use lib.Seq.{length-take-le}
+use Rattle.alphabet.proofs.ListLaws.{first-le}
+use native.Mathlib.Omega.{arith}
+use denote.Ref.{now}
+use Rattle.numbers.proofs.numerals.whole_of.Statement.{statement}
+use Rattle.numbers.proofs.numerals.whole_of.Tie as tie
+
+within : (c : tie.After-find) → c .find .result ≤ length (now (c .before .before .args .bytes))
+within c = let u = first-le (eqb 46) (now (c .before .before .args .bytes)) in omega (arith, c .find .ensures)
+
+pub whole-of-spec : {M : Type 1} → statement M
+whole-of-spec =
+    tie.close
+    (tie.spec
+    (λ c κs. search needs)
+    (λ c. sym (length-take-le _ _ (within (c .before))))
+    (λ c. ap (λ (n : ℕ). take n (now (c .before .before .before .args .bytes))) (c .before .find .ensures)))

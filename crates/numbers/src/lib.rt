@@ -1,0 +1,12 @@
+// From bytes to a number: NM and SI, and the digits that they are written with. Raw bytes are judged, with no unescaping.
+mod digits;
+mod numerals;
+
+pub use digits::is_digits;
+pub use numerals::ReadNumber;
+pub use numerals::check_nm;
+pub use numerals::is_si;
+pub use numerals::read_nm;
+pub use numerals::read_si;
+pub use numerals::si_value;
+pub use numerals::whole_of;

@@ -1,0 +1,158 @@
+// NM, a signed whole number and a count of decimals, and SI, one to four digits.
+use crate::digits::count_on;
+use crate::digits::is_digits;
+use alphabet::Check;
+use alphabet::Refusal;
+ghost use mathlib.Core.Path.{_≡_};
+ghost use Prim.Native.Nat.{_<_, _^_};
+ghost use Rattle.alphabet.specs.declared.answers.Check.the-variants.{Passes};
+ghost use Rattle.numbers.specs.Numbers.{someDigits, unsigned, whole, fraction, signed, nmCheck, nmValue, nmRead, isSi, siValue, siRead};
+
+// The most digits of an NM that we read.
+const MOST_DIGITS: usize = 18;
+
+// What bytes say as a number: the refusal, or the number. A whole number has no decimals.
+pub struct ReadNumber {
+    pub kind: Refusal,
+    pub value: i64,
+    pub decimals: usize,
+}
+
+// One or more digits.
+fn is_some_digits(bytes: &[u8]) -> bool
+    ensures { λ r. ⌜ r ≡ someDigits (now (bytes .entry)) ⌝ }
+{
+    (1 <= bytes.len()) & is_digits(bytes)
+}
+
+// The bytes without their sign, where there is one.
+fn without_sign(bytes: &[u8]) -> &[u8]
+    ensures { λ r. ⌜ now r ≡ unsigned (now (bytes .entry)) ⌝ }
+{
+    if bytes.len() == 0 {
+        return bytes;
+    }
+    let first = bytes[0];
+    let sign = (first == 43) | (first == 45);
+    if sign {
+        return &bytes[1..];
+    }
+    bytes
+}
+
+// What stands before the point, or all where there is none.
+pub fn whole_of(bytes: &[u8]) -> &[u8]
+    ensures { λ r. ⌜ now r ≡ whole (now (bytes .entry)) ⌝ }
+{
+    let point = alphabet::find(bytes, b'.');
+    &bytes[..point]
+}
+
+// What stands behind the point, or nothing where there is none.
+fn fraction_of(bytes: &[u8]) -> &[u8]
+    ensures { λ r. ⌜ now r ≡ fraction (now (bytes .entry)) ⌝ }
+{
+    let point = alphabet::find(bytes, b'.');
+    if point == bytes.len() {
+        return &bytes[point..];
+    }
+    let behind = point + 1;
+    &bytes[behind..]
+}
+
+// Number 32 for bytes that are no NM, 37 for one of more digits than we read.
+pub fn check_nm(bytes: &[u8]) -> Check
+    ensures { λ r. ⌜ r ≡ nmCheck (now (bytes .entry)) ⌝ }
+{
+    let body = without_sign(bytes);
+    let whole = whole_of(body);
+    let fraction = fraction_of(body);
+    let point = whole.len() < body.len();
+    let form = is_some_digits(whole) & (!point | is_some_digits(fraction));
+    let digits = whole.len() + fraction.len();
+    alphabet::or_else(
+        alphabet::fails_if(!form, Refusal::BreaksForm, 0),
+        alphabet::fails_if(MOST_DIGITS < digits, Refusal::ValueTooLong, 0),
+    )
+}
+
+// A number with its sign applied; minus zero is zero.
+fn signed_number(negative: bool, number: u64) -> i64
+    requires { ⌜ number < 10 ^ 18 ⌝ }
+    ensures { λ r. ⌜ r ≡ signed negative number ⌝ }
+{
+    let plain = number as i64;
+    if negative { -plain } else { plain }
+}
+
+// The number of an NM that was checked.
+fn nm_value(bytes: &[u8]) -> i64
+    requires { ⌜ nmCheck (now bytes) ≡ Passes ⌝ }
+    ensures { λ r. ⌜ r ≡ nmValue (now (bytes .entry)) ⌝ }
+{
+    let body = without_sign(bytes);
+    let whole = count_on(0, whole_of(body));
+    let number = count_on(whole, fraction_of(body));
+    let negative = alphabet::byte_at(bytes, 0) == 45;
+    signed_number(negative, number)
+}
+
+// The number that bytes say as an NM, or why they say none.
+pub fn read_nm(bytes: &[u8]) -> ReadNumber
+    ensures { λ r. ⌜ r ≡ nmRead (now (bytes .entry)) ⌝ }
+{
+    let check = check_nm(bytes);
+    match check {
+        Check::Passes => {
+            let value = nm_value(bytes);
+            let body = without_sign(bytes);
+            let fraction = fraction_of(body);
+            ReadNumber {
+                kind: Refusal::None,
+                value: value,
+                decimals: fraction.len(),
+            }
+        }
+        Check::Fails { kind, place: _ } => ReadNumber {
+            kind: kind,
+            value: 0,
+            decimals: 0,
+        },
+    }
+}
+
+// One to four digits.
+pub fn is_si(bytes: &[u8]) -> bool
+    ensures { λ r. ⌜ r ≡ isSi (now (bytes .entry)) ⌝ }
+{
+    is_some_digits(bytes) & (bytes.len() <= 4)
+}
+
+// The number that one to four digits say. Any other bytes say none, and 0 stands for it.
+pub fn si_value(bytes: &[u8]) -> u64
+    ensures { λ r. ⌜ r ≡ siValue (now (bytes .entry)) ⌝ }
+{
+    if !is_si(bytes) {
+        return 0;
+    }
+    count_on(0, bytes)
+}
+
+// The number that bytes say as an SI, or why they say none.
+pub fn read_si(bytes: &[u8]) -> ReadNumber
+    ensures { λ r. ⌜ r ≡ siRead (now (bytes .entry)) ⌝ }
+{
+    if !is_si(bytes) {
+        return ReadNumber {
+            kind: Refusal::BreaksForm,
+            value: 0,
+            decimals: 0,
+        };
+    }
+    let number = count_on(0, bytes);
+    ReadNumber {
+        kind: Refusal::None,
+        value: signed_number(false, number),
+        decimals: 0,
+    }
+}
