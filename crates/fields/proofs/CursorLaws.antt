@@ -16,11 +16,12 @@ use Rattle.alphabet.specs.declared.answers.Check.the-variants.{Passes, Fails}
 use Rattle.alphabet.specs.declared.parts.Part.the-variants.{At, Absent}
 use Rattle.alphabet.proofs.ListLaws.{rest-of, piece-of-piece, first-le}
 use Rattle.alphabet.proofs.PartLaws.{split-step, split-last, split-nothing, part-bytes, past-none, none-past, walk-in, walk-more, walk-last, first-part}
-use Rattle.fields.specs.Rules.{firstState, requiredCheck, repeatedCheck, saidCheck, isSaid, saidField, kindOf, portionOf, repetitionCheck, repetitionChecks, rowCheck}
+use Rattle.rules.specs.Rules.{firstState, requiredCheck, repeatedCheck, saidCheck, isSaid, saidField, kindOf, portionOf, repetitionCheck, repetitionChecks, rowCheck}
 use Rattle.fields.specs.declared.walk.Cursor.{Cursor}
-use Rattle.fields.specs.Walk.{openingCheck, partNumber, fieldBytes, saidBytes, Stands, Finds, leftOf, Goes}
-use Rattle.fields.specs.declared.table.Kind.{Kind}
-use Rattle.fields.specs.declared.table.Row.{Row}
+use Rattle.rules.specs.Rules.{openingCheck}
+use Rattle.fields.specs.Walk.{partNumber, fieldBytes, saidBytes, Stands, Finds, leftOf, Goes}
+use Rattle.rules.specs.declared.table.Kind.{Kind}
+use Rattle.rules.specs.declared.table.Row.{Row}
 use Rattle.fields.specs.declared.walk.Turn.{Turn}
 
 -- ---- which part a field is

@@ -23,14 +23,14 @@ use Rattle.element.specs.States.{stateOf}
 use Rattle.element.specs.declared.states.State.the-variants.{Absent, Empty}
 use Rattle.element.specs.Levels.{between, partIn, fieldIn}
 use Rattle.element.proofs.LevelLaws.{between-length, in-at, in-none, field-other, field-header}
-use Rattle.fields.specs.Table.{nameOf, rows, noRow}
-use Rattle.fields.specs.Rules.{judgedPart, partState, repetitionCheck, repetitionChecks, requiredCheck, somePresent, isSaid, saidField, kindOf, portionOf, rowCheck}
+use Rattle.rules.specs.Table.{nameOf, rows, noRow}
+use Rattle.rules.specs.Rules.{judgedPart, partState, repetitionCheck, repetitionChecks, requiredCheck, somePresent, isSaid, saidField, kindOf, portionOf, rowCheck}
 use Rattle.fields.specs.Judging.{repetitionsIn, repetitionsOf, saidIn}
 use Rattle.fields.specs.Walk.{partNumber, fieldBytes, saidBytes}
-use Rattle.fields.specs.declared.table.Portion.{Portion}
-use Rattle.fields.specs.declared.table.Portion.the-variants.{Whole, Component}
-use Rattle.fields.specs.declared.table.Kind.{Kind}
-use Rattle.fields.specs.declared.table.Row.{Row}
+use Rattle.rules.specs.declared.table.Portion.{Portion}
+use Rattle.rules.specs.declared.table.Portion.the-variants.{Whole, Component}
+use Rattle.rules.specs.declared.table.Kind.{Kind}
+use Rattle.rules.specs.declared.table.Row.{Row}
 use Rattle.fields.proofs.CursorLaws.{part-other, part-header}
 
 -- ---- an absent field is judged as one with no bytes

@@ -1,5 +1,3 @@
-pub mod TableLaws
-pub mod RuleLaws
 pub mod CursorLaws
 pub mod FieldLaws
 pub mod JudgeLaws

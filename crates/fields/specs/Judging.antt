@@ -15,10 +15,10 @@ use Rattle.alphabet.specs.declared.parts.Part.{Part}
 use Rattle.alphabet.specs.declared.parts.Part.the-variants.{At, Absent}
 use Rattle.reading.specs.Segments.{delimitersOf, segments}
 use Rattle.element.specs.Levels.{between, fieldIn}
-use Rattle.fields.specs.Table.{nameOf}
-use Rattle.fields.specs.Rules.{isSaid, saidField, rowCheck}
-use Rattle.fields.specs.declared.table.Kind.{Kind}
-use Rattle.fields.specs.declared.table.Row.{Row}
+use Rattle.rules.specs.Table.{nameOf}
+use Rattle.rules.specs.Rules.{isSaid, saidField, rowCheck}
+use Rattle.rules.specs.declared.table.Kind.{Kind}
+use Rattle.rules.specs.declared.table.Row.{Row}
 use Rattle.fields.specs.declared.FieldFault.{FieldFault}
 
 -- ---- what a row is held against: a segment of the message, by its number, from 0, and where it stands

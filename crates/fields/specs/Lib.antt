@@ -1,4 +1,2 @@
-pub mod Table
-pub mod Rules
 pub mod Judging
 pub mod Walk

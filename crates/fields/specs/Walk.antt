@@ -9,19 +9,12 @@ use Rattle.alphabet.specs.Answers.{orElse, inOrder}
 use Rattle.alphabet.specs.Parts.{split}
 use Rattle.alphabet.specs.declared.answers.Check.{Check}
 use Rattle.alphabet.specs.declared.answers.Check.the-variants.{Passes}
-use Rattle.fields.specs.Rules.{firstState, requiredCheck, repeatedCheck, saidCheck, isSaid, saidField, repetitionChecks, rowCheck}
-use Rattle.fields.specs.declared.table.Kind.{Kind}
-use Rattle.fields.specs.declared.table.Row.{Row}
+use Rattle.rules.specs.Rules.{firstState, requiredCheck, repeatedCheck, saidCheck, isSaid, saidField, repetitionChecks, rowCheck}
+use Rattle.rules.specs.declared.table.Kind.{Kind}
+use Rattle.rules.specs.declared.table.Row.{Row}
 use Rattle.fields.specs.declared.walk.Cursor.{Cursor}
 use Rattle.fields.specs.declared.walk.Sought.{Sought}
 use Rattle.fields.specs.declared.walk.Turn.{Turn}
-
--- the checks of a row before its repetitions are judged in turn
-unfoldable pub openingCheck : List ℕ → Row → List ℕ → List (List ℕ) → Check
-openingCheck ds row said repetitions =
-    orElse
-    (orElse (requiredCheck (row .required) (firstState ds (row .portion) repetitions)) (repeatedCheck (row .repeats) repetitions))
-    (saidCheck ds (row .kind) said repetitions)
 
 -- which part of a segment a field is: MSH has its fields counted from the separator
 abbrev pub partNumber : ℕ → ℕ → ℕ

@@ -1,22 +1,16 @@
 // The fields of a message judged by the table of document 01, 'Fields judged': numbers 31 to 37.
 // The judge takes any bytes, and looks for no fault of reading: whoever asks it has read the message.
-mod rules;
-mod table;
 mod walk;
 
 use alphabet::Check;
 use alphabet::Refusal;
-use table::all_rows;
+use rules::all_rows;
 use walk::Cursor;
 use walk::begin_row;
 use walk::next_repetition;
 ghost use mathlib.Core.Path.{_≡_};
-ghost use Rattle.fields.specs.Table.{rows};
+ghost use Rattle.rules.specs.Table.{rows};
 ghost use Rattle.fields.specs.Judging.{nameAt, located, faultAnswer, judging};
-pub use table::Kind;
-pub use table::Portion;
-pub use table::Row;
-pub use table::Values;
 
 // The first fault: its kind, and the segment, from 0, the field and the repetition where it stands. Where nothing is wrong
 // the kind is `None` and the rest 0.
@@ -52,7 +46,7 @@ fn name_of(number: usize, segment: &[u8]) -> u32
     ensures { λ r. ⌜ r ≡ nameAt number (now (segment .entry)) ⌝ }
 {
     if number == 0 {
-        return table::MSH;
+        return rules::MSH;
     }
     let first = alphabet::byte_at(segment, 0) as u32;
     let second = alphabet::byte_at(segment, 1) as u32;
@@ -76,7 +70,7 @@ pub fn judge_fields(message: &[u8]) -> FieldFault
         let name = name_of(number, segment);
         let mut cursor = Cursor { index: 0, place: 0 };
         let mut index = 0;
-        while index < table::COUNT {
+        while index < rules::COUNT {
             let row = table[index];
             index += 1;
             if row.segment != name {

@@ -37,7 +37,7 @@ use Rattle.text.specs.Answers.{fitting, unescaping}
 use Rattle.laws.proofs.RoundTrip.{AreBytes, round-trip}
 use Rattle.element.specs.States.{stateOf}
 use Rattle.element.specs.declared.states.State.the-variants.{Present}
-use Rattle.fields.specs.Table.{rows}
+use Rattle.rules.specs.Table.{rows}
 use Rattle.laws.proofs.FaultNumbers.{none-sound}
 use Rattle.laws.proofs.ControlId.{control-id}
 use Rattle.structure.specs.Judged.{plain, Answers}

@@ -14,10 +14,10 @@ use Rattle.element.specs.Levels.{Within, partIn, fieldIn, fixed, below, repetit
 use Rattle.element.specs.Finding.{partBytes}
 use Rattle.element.proofs.LevelLaws.{below-whole, below-split, within-field, within-in, within-segment}
 use Rattle.laws.proofs.RawLaws.{part-in-bytes}
-use Rattle.fields.specs.Rules.{judgedPart}
+use Rattle.rules.specs.Rules.{judgedPart}
 use Rattle.fields.specs.Judging.{repetitionsIn, repetitionsOf}
-use Rattle.fields.specs.declared.table.Portion.{Portion}
-use Rattle.fields.specs.declared.table.Portion.the-variants.{Whole, Component}
+use Rattle.rules.specs.declared.table.Portion.{Portion}
+use Rattle.rules.specs.declared.table.Portion.the-variants.{Whole, Component}
 
 -- which component an address asks for: 0 is the whole
 abbrev pub componentOf : Portion → ℕ

@@ -25,12 +25,12 @@ use Rattle.element.specs.declared.states.State.{State}
 use Rattle.element.specs.declared.states.State.the-variants.{Absent as no-part, Empty, Null, Present}
 use Rattle.laws.proofs.RawLaws.{raw-whole}
 use Rattle.value.specs.Asked.{isPresent}
-use Rattle.fields.specs.Table.{row, rows, noRow, R, no}
-use Rattle.fields.specs.Rules.{formCheck, judgedPart, placed, repetitionCheck, repetitionChecks, firstState, requiredCheck, repeatedCheck, saidCheck, rowCheck}
+use Rattle.rules.specs.Table.{row, rows, noRow, R, no}
+use Rattle.rules.specs.Rules.{formCheck, judgedPart, placed, repetitionCheck, repetitionChecks, firstState, requiredCheck, repeatedCheck, saidCheck, rowCheck}
 use Rattle.fields.specs.Judging.{Fault, Sound, Faulty, repetitionsIn, repetitionsOf, located, orFault, firstFault, rowFault, segmentFault, segmentFaults, judging}
-use Rattle.fields.specs.declared.table.Portion.the-variants.{Whole}
-use Rattle.fields.specs.declared.table.Kind.the-variants.{Identifier}
-use Rattle.fields.specs.declared.table.Row.{Row}
+use Rattle.rules.specs.declared.table.Portion.the-variants.{Whole}
+use Rattle.rules.specs.declared.table.Kind.the-variants.{Identifier}
+use Rattle.rules.specs.declared.table.Row.{Row}
 
 -- where nothing is found in all, nothing is found in each
 or-sound : (f g : Fault) → orFault f g ≡ Sound → (f ≡ Sound) × (g ≡ Sound)

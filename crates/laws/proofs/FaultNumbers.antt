@@ -21,13 +21,13 @@ use Rattle.element.specs.declared.states.State.the-variants.{Absent, Empty, Nul
 use Rattle.value.specs.Asked.{isPresent}
 use Rattle.numbers.specs.Numbers.{nmCheck, nmForm, nmDigits, mostDigits, isSi}
 use Rattle.times.specs.Times.{isDt, isTm, isTs}
-use Rattle.fields.specs.Table.{valuesOf}
-use Rattle.fields.specs.Rules.{member, formCheck, judgedPart, partState, placed, repetitionCheck, repetitionChecks, firstState, requiredCheck, repeatedCheck, saidCheck, isSaid, somePresent, kindOf, portionOf, rowCheck}
+use Rattle.rules.specs.Table.{valuesOf}
+use Rattle.rules.specs.Rules.{member, formCheck, judgedPart, partState, placed, repetitionCheck, repetitionChecks, firstState, requiredCheck, repeatedCheck, saidCheck, isSaid, somePresent, kindOf, portionOf, rowCheck}
 use Rattle.fields.specs.Judging.{Fault, Sound, Faulty, nameAt, saidIn, repetitionsOf, located, orFault, firstFault, rowFault, segmentFault, segmentFaults, judging, faultAnswer}
-use Rattle.fields.specs.declared.table.Portion.{Portion}
-use Rattle.fields.specs.declared.table.Kind.{Kind}
-use Rattle.fields.specs.declared.table.Kind.the-variants.{Any, Identifier, Ts, Si, Nm, Dt, Tm, OneOf, AsField}
-use Rattle.fields.specs.declared.table.Row.{Row}
+use Rattle.rules.specs.declared.table.Portion.{Portion}
+use Rattle.rules.specs.declared.table.Kind.{Kind}
+use Rattle.rules.specs.declared.table.Kind.the-variants.{Any, Identifier, Ts, Si, Nm, Dt, Tm, OneOf, AsField}
+use Rattle.rules.specs.declared.table.Row.{Row}
 
 -- a check that fails with a number of the field judge's, if it fails
 abbrev Told : Check → Type 0

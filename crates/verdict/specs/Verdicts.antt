@@ -11,7 +11,7 @@ use Rattle.structure.specs.SegmentNames.{segmentNames, kept}
 use Rattle.structure.specs.Structures.{listed, structureOf, grammarOf}
 use Rattle.structure.specs.Judged.{nameList, Answers}
 use Rattle.structure.specs.declared.judging.Judgement.{Judgement}
-use Rattle.fields.specs.Table.{rows}
+use Rattle.rules.specs.Table.{rows}
 use Rattle.fields.specs.Judging.{faultAnswer, judging}
 use Rattle.fields.specs.declared.FieldFault.{FieldFault}
 use Rattle.verdict.specs.declared.FaultRecord.{FaultRecord}

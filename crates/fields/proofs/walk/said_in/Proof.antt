@@ -11,7 +11,7 @@ use borrow.Author.Tests.{not-true, not-false}
 use denote.Ref.{now}
 use Rattle.alphabet.proofs.ListLaws.{first-le}
 use Rattle.alphabet.proofs.PartLaws.{part-bytes}
-use Rattle.fields.specs.Rules.{isSaid, saidField}
+use Rattle.rules.specs.Rules.{isSaid, saidField}
 use Rattle.fields.specs.Walk.{partNumber}
 use Rattle.fields.proofs.CursorLaws.{said-none, said-absent, said-at}
 use Rattle.fields.proofs.walk.said_in.Statement.{statement}

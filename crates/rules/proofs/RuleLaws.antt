@@ -1,0 +1,113 @@
+-- Laws of what a row asks: what each definition is in each of its cases. Assumes nothing.
+use mathlib.Core.Path.{_≡_, refl, sym, ap, _∙_}
+use mathlib.Core.List.{List, [], _∷_}
+use mathlib.Core.Bool.{Bool, true, false, not, _&&_}
+use Prim.Native.Nat.{ℕ, _≤_}
+use native.Mathlib.Omega.{arith}
+use borrow.Author.Tests.{not-true, not-false}
+use lib.ListN.{length, getD, take}
+use Rattle.alphabet.specs.Bytes.{ascii}
+use Rattle.alphabet.specs.Lists.{find, same}
+use Rattle.alphabet.specs.Answers.{failsIf}
+use Rattle.alphabet.specs.Parts.{split}
+use Rattle.alphabet.proofs.PartLaws.{split-some}
+use Rattle.alphabet.specs.declared.answers.Check.the-variants.{Passes}
+use Rattle.alphabet.specs.declared.answers.Refusal.the-variants.{ValueWithoutType}
+use Rattle.element.specs.States.{stateOf}
+use Rattle.element.specs.declared.states.State.{State}
+use Rattle.element.specs.declared.states.State.the-variants.{Absent, Empty, Null, Present}
+use Rattle.value.specs.Asked.{isPresent}
+use Rattle.rules.specs.Rules.{formCheck, judgedPart, partState, placed, repetitionCheck, firstState, requiredCheck, somePresent, isSaid, saidCheck, kindSaid, kindOf, portionOf}
+use Rattle.rules.specs.declared.table.Portion.{Portion}
+use Rattle.rules.specs.declared.table.Portion.the-variants.{Component}
+use Rattle.rules.specs.declared.table.Kind.{Kind}
+use Rattle.rules.specs.declared.table.Kind.the-variants.{Any, Ts, Nm, Dt, Tm}
+use Rattle.rules.specs.declared.table.Row.{Row}
+use Rattle.alphabet.proofs.PartLaws.{first-part}
+
+-- ---- one repetition
+
+module _ (ds : List ℕ) (portion : Portion) (kind : Kind) (number : ℕ) (r part : List ℕ) (judged : part ≡ judgedPart ds portion r) where
+  pub repetition-other : isPresent (stateOf ds part) ≡ false → repetitionCheck ds portion kind number r ≡ Passes
+  unfolding repetitionCheck
+  repetition-other e = rw (sym judged, e)
+
+  pub repetition-present : isPresent (stateOf ds part) ≡ true → repetitionCheck ds portion kind number r ≡ placed number (formCheck kind part)
+  unfolding repetitionCheck
+  repetition-present e = rw (sym judged, e)
+
+-- ---- 35
+
+module _ (ds r : List ℕ) (rest : List (List ℕ)) where
+  pub present-here : isPresent (stateOf ds r) ≡ true → somePresent ds (r ∷ rest) ≡ true
+  unfolding somePresent
+  present-here e = rw e
+
+  pub present-past : isPresent (stateOf ds r) ≡ false → somePresent ds (r ∷ rest) ≡ somePresent ds rest
+  unfolding somePresent
+  present-past e = rw e
+
+pub present-none : (ds : List ℕ) → somePresent ds [] ≡ false
+unfolding somePresent
+present-none ds = refl
+
+module _ (ds : List ℕ) (kind : Kind) (said : List ℕ) (rs : List (List ℕ)) (s p : Bool) (is-said : s ≡ isSaid kind) (present : p ≡ isPresent (stateOf ds said)) where
+  pub said-typed : not (s && not p) ≡ true → saidCheck ds kind said rs ≡ Passes
+  said-typed e = rw (sym is-said, sym present, not-true (s && not p) e)
+
+  pub said-untyped : not (s && not p) ≡ false → saidCheck ds kind said rs ≡ failsIf (somePresent ds rs) ValueWithoutType 1
+  said-untyped e = rw (sym is-said, sym present, not-false (s && not p) e)
+
+-- ---- the type that another field says
+
+module _ (said : List ℕ) where
+  pub said-nm : same said (ascii "NM") ≡ true → kindSaid said ≡ Nm
+  unfolding kindSaid
+  said-nm e = rw e
+
+  pub said-dt : same said (ascii "NM") ≡ false → same said (ascii "DT") ≡ true → kindSaid said ≡ Dt
+  unfolding kindSaid
+  said-dt e f = rw (e, f)
+
+  pub said-tm : same said (ascii "NM") ≡ false → same said (ascii "DT") ≡ false → same said (ascii "TM") ≡ true → kindSaid said ≡ Tm
+  unfolding kindSaid
+  said-tm e f g = rw (e, f, g)
+
+  pub said-ts : same said (ascii "NM") ≡ false → same said (ascii "DT") ≡ false → same said (ascii "TM") ≡ false → same said (ascii "TS") ≡ true → kindSaid said ≡ Ts
+  unfolding kindSaid
+  said-ts e f g h = rw (e, f, g, h)
+
+  pub said-other : same said (ascii "NM") ≡ false → same said (ascii "DT") ≡ false → same said (ascii "TM") ≡ false → same said (ascii "TS") ≡ false → kindSaid said ≡ Any
+  unfolding kindSaid
+  said-other e f g h = rw (e, f, g, h)
+
+  pub kind-said : (kind : Kind) → isSaid kind ≡ true → kindOf kind said ≡ kindSaid said
+  kind-said kind e = rw e
+
+  pub kind-own : (kind : Kind) → isSaid kind ≡ false → kindOf kind said ≡ kind
+  kind-own kind e = rw e
+
+  module _ (row : Row) (s t : Bool) (is-said : s ≡ isSaid (row .kind)) (is-ts : t ≡ same said (ascii "TS")) where
+    pub portion-said : (s && t) ≡ true → portionOf row said ≡ Component
+    portion-said e = rw (sym is-said, sym is-ts, e)
+
+    pub portion-own : (s && t) ≡ false → portionOf row said ≡ row .portion
+    portion-own e = rw (sym is-said, sym is-ts, e)
+
+-- ---- the opening
+
+first-state-of : (ds : List ℕ) (portion : Portion) (rs : List (List ℕ)) → 1 ≤ length rs → firstState ds portion rs ≡ partState ds portion (getD rs 0 [])
+first-state-of ds portion [] h = absurd (omega arith)
+first-state-of ds portion (r ∷ rs) h = refl
+
+-- the first of the repetitions of a field that is there
+pub first-state : (ds : List ℕ) (portion : Portion) (sep : ℕ) (field : List ℕ) → firstState ds portion (split sep field) ≡ partState ds portion (take (find sep field) field)
+first-state ds portion sep field =
+    first-state-of ds portion (split sep field) (split-some sep field) ∙ ap (partState ds portion) (first-part sep field)
+
+-- what is not required may be in any state
+pub not-required : (s : State) → requiredCheck false s ≡ Passes
+not-required Absent = refl
+not-required Empty = refl
+not-required Null = refl
+not-required Present = refl

@@ -1,0 +1,157 @@
+-- What a row asks of the repetitions of its field, by document 01, 'Fields judged': "House cut, judged on raw bytes. 'Whole' is one repetition."
+-- `ds` are the five delimiters. Checks give the number and, as their place, the repetition: "31, 34, 35, 36: repetition 1".
+use Prim.Native.Nat.{ℕ, _+_}
+use mathlib.Core.List.{List, [], _∷_}
+use mathlib.Core.Bool.{Bool, true, false, cond, not, _&&_, _||_}
+use lib.ListN.{length, getD}
+use lib.Dec.{ltb}
+use Rattle.alphabet.specs.Bytes.{ascii}
+use Rattle.alphabet.specs.Answers.{failsIf, inOrder, orElse}
+use Rattle.alphabet.specs.Limits.{idLimit}
+use Rattle.alphabet.specs.Lists.{same}
+use Rattle.alphabet.specs.Parts.{split}
+use Rattle.alphabet.specs.declared.answers.Check.{Check}
+use Rattle.alphabet.specs.declared.answers.Check.the-variants.{Passes, Fails}
+use Rattle.alphabet.specs.declared.answers.Refusal.the-variants.{RequiredMissing, RequiredNull, BreaksForm, NotListed, ValueWithoutType, Repeated, ValueTooLong}
+use Rattle.element.specs.States.{stateOf}
+use Rattle.element.specs.declared.states.State.{State}
+use Rattle.element.specs.declared.states.State.the-variants.{Absent, Empty, Null, Present}
+use Rattle.value.specs.Asked.{isPresent}
+use Rattle.numbers.specs.Numbers.{nmCheck, isSi}
+use Rattle.times.specs.Times.{isDt, isTm, isTs}
+use Rattle.rules.specs.Table.{valuesOf}
+use Rattle.rules.specs.declared.table.Portion.{Portion}
+use Rattle.rules.specs.declared.table.Portion.the-variants.{Whole, Component}
+use Rattle.rules.specs.declared.table.Kind.{Kind}
+use Rattle.rules.specs.declared.table.Kind.the-variants.{Any, Identifier, Ts, Si, Nm, Dt, Tm, OneOf, AsField}
+use Rattle.rules.specs.declared.table.Row.{Row}
+
+-- ---- one part, which is present, against its type
+
+unfoldable pub member : List ℕ → List (List ℕ) → Bool
+member bytes [] = false
+member bytes (value ∷ others) = same bytes value || member bytes others
+
+-- 32: "breaks its type's form"; 33: "not in its list"; 37: "over 20 bytes; well formed, but over 18 digits"
+unfoldable pub formCheck : Kind → List ℕ → Check
+formCheck Any bytes = Passes
+formCheck Identifier bytes = failsIf (ltb idLimit (length bytes)) ValueTooLong 0
+formCheck Ts bytes = failsIf (not (isTs bytes)) BreaksForm 0
+formCheck Si bytes = failsIf (not (isSi bytes)) BreaksForm 0
+formCheck Nm bytes = nmCheck bytes
+formCheck Dt bytes = failsIf (not (isDt bytes)) BreaksForm 0
+formCheck Tm bytes = failsIf (not (isTm bytes)) BreaksForm 0
+formCheck (OneOf values) bytes = failsIf (not (member bytes (valuesOf values))) NotListed 0
+formCheck (AsField f) bytes = Passes
+
+-- ---- one repetition
+
+-- "part judged": the repetition, or its component 1
+unfoldable pub judgedPart : List ℕ → Portion → List ℕ → List ℕ
+judgedPart ds Whole repetition = repetition
+judgedPart ds Component repetition = getD (split (getD ds 1 0) repetition) 0 []
+
+abbrev pub partState : List ℕ → Portion → List ℕ → State
+partState ds portion repetition = stateOf ds (judgedPart ds portion repetition)
+
+-- a fault in the repetition of a number
+abbrev pub placed : ℕ → Check → Check
+placed number Passes = Passes
+placed number (Fails kind place) = Fails kind number
+
+-- "Empty and null pass where not R"; where R, repetition 1 is present before it comes to this
+unfoldable pub repetitionCheck : List ℕ → Portion → Kind → ℕ → List ℕ → Check
+repetitionCheck ds portion kind number repetition =
+    cond (isPresent (partState ds portion repetition)) (placed number (formCheck kind (judgedPart ds portion repetition))) Passes
+
+-- "the repetitions in turn"
+unfoldable pub repetitionChecks : List ℕ → Portion → Kind → ℕ → List (List ℕ) → List Check
+repetitionChecks ds portion kind number [] = []
+repetitionChecks ds portion kind number (r ∷ rest) =
+    repetitionCheck ds portion kind number r ∷ repetitionChecks ds portion kind (number + 1) rest
+
+-- ---- a row
+
+-- "R asks that the part in repetition 1 is present."
+abbrev pub firstState : List ℕ → Portion → List (List ℕ) → State
+firstState ds portion [] = Absent
+firstState ds portion (r ∷ rest) = partState ds portion r
+
+-- 31, 34: "required part absent or empty; null"
+abbrev pub requiredCheck : Bool → State → Check
+requiredCheck required Absent = failsIf required RequiredMissing 1
+requiredCheck required Empty = failsIf required RequiredMissing 1
+requiredCheck required Null = failsIf required RequiredNull 1
+requiredCheck required Present = Passes
+
+-- 36: "more than one repetition, empty ones counted, where no Y"
+abbrev pub repeatedCheck : Bool → List (List ℕ) → Check
+repeatedCheck repeats repetitions = failsIf (not repeats && ltb 1 (length repetitions)) Repeated 1
+
+-- whole repetitions
+unfoldable pub somePresent : List ℕ → List (List ℕ) → Bool
+somePresent ds [] = false
+somePresent ds (r ∷ rest) = isPresent (stateOf ds r) || somePresent ds rest
+
+-- "as OBX-2 says": the row's type is in another field
+abbrev pub isSaid : Kind → Bool
+isSaid Any = false
+isSaid Identifier = false
+isSaid Ts = false
+isSaid Si = false
+isSaid Nm = false
+isSaid Dt = false
+isSaid Tm = false
+isSaid (OneOf values) = false
+isSaid (AsField f) = true
+
+-- which field; 0 where none does
+abbrev pub saidField : Kind → ℕ
+saidField Any = 0
+saidField Identifier = 0
+saidField Ts = 0
+saidField Si = 0
+saidField Nm = 0
+saidField Dt = 0
+saidField Tm = 0
+saidField (OneOf values) = 0
+saidField (AsField f) = f
+
+-- 35: "some repetition of OBX-5 present, OBX-2 repetition 1 not"; `said` is OBX-2's repetition 1, and where it is absent no bytes
+abbrev pub saidCheck : List ℕ → Kind → List ℕ → List (List ℕ) → Check
+saidCheck ds kind said repetitions =
+    failsIf ((isSaid kind && not (isPresent (stateOf ds said))) && somePresent ds repetitions) ValueWithoutType 1
+
+-- "only NM, DT, TM, TS are judged"
+unfoldable pub kindSaid : List ℕ → Kind
+kindSaid said =
+    cond (same said (ascii "NM")) Nm
+    (cond (same said (ascii "DT")) Dt
+    (cond (same said (ascii "TM")) Tm
+    (cond (same said (ascii "TS")) Ts Any)))
+
+-- the type that a row asks for
+abbrev pub kindOf : Kind → List ℕ → Kind
+kindOf kind said = cond (isSaid kind) (kindSaid said) kind
+
+-- "whole; component 1 for TS"
+abbrev pub portionOf : Row → List ℕ → Portion
+portionOf row said = cond (isSaid (row .kind) && same said (ascii "TS")) Component (row .portion)
+
+-- "in a row 31 or 34, then 36, then 35, then the repetitions in turn"
+unfoldable pub rowCheck : List ℕ → Row → List ℕ → List (List ℕ) → Check
+rowCheck ds row said repetitions =
+    inOrder
+    (requiredCheck (row .required) (firstState ds (row .portion) repetitions)
+    ∷ repeatedCheck (row .repeats) repetitions
+    ∷ saidCheck ds (row .kind) said repetitions
+    ∷ repetitionChecks ds (portionOf row said) (kindOf (row .kind) said) 1 repetitions)
+
+-- ---- what a private contract says; nobody has to believe it
+
+-- the checks of a row before its repetitions are judged in turn
+unfoldable pub openingCheck : List ℕ → Row → List ℕ → List (List ℕ) → Check
+openingCheck ds row said repetitions =
+    orElse
+    (orElse (requiredCheck (row .required) (firstState ds (row .portion) repetitions)) (repeatedCheck (row .repeats) repetitions))
+    (saidCheck ds (row .kind) said repetitions)

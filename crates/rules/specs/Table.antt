@@ -1,0 +1,71 @@
+-- The table of document 01, 'Fields judged', as data. "Columns: part judged; type; R required; Y may repeat."
+use Prim.Native.Nat.{ℕ, _+_, _*_}
+use Prim.Native.String.{String}
+use mathlib.Core.List.{List, [], _∷_}
+use mathlib.Core.Bool.{Bool, true, false}
+use lib.ListN.{getD}
+use Rattle.alphabet.specs.Bytes.{ascii}
+use Rattle.alphabet.specs.Parts.{split}
+use Rattle.rules.specs.declared.table.Values.{Values}
+use Rattle.rules.specs.declared.table.Values.the-variants.{Processing, Version, Sex, ValueTypes, Statuses, Codes}
+use Rattle.rules.specs.declared.table.Portion.{Portion}
+use Rattle.rules.specs.declared.table.Portion.the-variants.{Whole, Component}
+use Rattle.rules.specs.declared.table.Kind.{Kind}
+use Rattle.rules.specs.declared.table.Kind.the-variants.{Any, Identifier, Ts, Si, OneOf, AsField}
+use Rattle.rules.specs.declared.table.Row.{Row}
+
+-- the words of a text, which stand between its spaces
+abbrev pub words : String → List (List ℕ)
+words text = split 32 (ascii text)
+
+-- three bytes as one number, the first highest; a byte that is not there counts as 0
+abbrev pub nameOf : List ℕ → ℕ
+nameOf s = getD s 0 0 * 65536 + (getD s 1 0 * 256 + getD s 2 0)
+
+-- the lists: "D, P, T"; "`2.4`"; "M, F, O, U"; "house cut of table 0125"; "table 0085"; "AA AE AR"
+unfoldable pub valuesOf : Values → List (List ℕ)
+valuesOf Processing = words "D P T"
+valuesOf Version = words "2.4"
+valuesOf Sex = words "M F O U"
+valuesOf ValueTypes = words "CE DT ED FT NM RP SN ST TM TS TX"
+valuesOf Statuses = words "C D F I N O P R S U W X"
+valuesOf Codes = words "AA AE AR"
+
+-- a row: segment, field, part judged, type, whether R, whether Y
+abbrev pub row : String → ℕ → Portion → Kind → Bool → Bool → Row
+row segment field portion kind required repeats =
+    record { segment = nameOf (ascii segment); field = field; portion = portion; kind = kind; required = required; repeats = repeats }
+
+abbrev pub R : Bool
+R = true
+
+abbrev pub Y : Bool
+Y = true
+
+-- neither
+abbrev pub no : Bool
+no = false
+
+unfoldable pub rows : List Row
+rows =
+    row "MSH" 7 Component Ts R no
+    ∷ row "MSH" 10 Whole Identifier R no
+    ∷ row "MSH" 11 Component (OneOf Processing) R no
+    ∷ row "MSH" 12 Component (OneOf Version) R no
+    ∷ row "PID" 3 Whole Any R Y
+    ∷ row "PID" 5 Whole Any R Y
+    ∷ row "PID" 7 Component Ts no no
+    ∷ row "PID" 8 Whole (OneOf Sex) no no
+    ∷ row "OBR" 1 Whole Si no no
+    ∷ row "OBX" 1 Whole Si no no
+    ∷ row "OBX" 2 Whole (OneOf ValueTypes) no no
+    ∷ row "OBX" 3 Whole Any R no
+    ∷ row "OBX" 5 Whole (AsField 2) no Y
+    ∷ row "OBX" 11 Whole (OneOf Statuses) R no
+    ∷ row "OBX" 14 Component Ts no no
+    ∷ row "MSA" 1 Whole (OneOf Codes) R no
+    ∷ []
+
+-- what stands past the last row: no segment has the name 0
+abbrev pub noRow : Row
+noRow = record { segment = 0; field = 0; portion = Whole; kind = Any; required = false; repeats = false }

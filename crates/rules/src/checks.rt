@@ -1,0 +1,239 @@
+// What a row asks of the repetitions of its field. A check gives the number and, as its place, the repetition.
+// A field that is absent is judged as one with no bytes: to the judge they are the same.
+use crate::table::Kind;
+use crate::table::Portion;
+use crate::table::Row;
+use crate::table::is_listed;
+use alphabet::Check;
+use alphabet::Delimiters;
+use alphabet::Refusal;
+use element::State;
+ghost use mathlib.Core.Path.{_≡_};
+ghost use lib.ListN.{getD};
+ghost use Rattle.alphabet.specs.Parts.{split};
+ghost use Rattle.element.specs.States.{stateOf};
+ghost use Rattle.value.specs.Asked.{isPresent};
+ghost use Rattle.rules.specs.Rules.{formCheck, openingCheck, judgedPart, repetitionCheck, requiredCheck, somePresent, isSaid, saidField, saidCheck, kindSaid, kindOf, portionOf};
+
+// The bytes of a part that is present, against a type.
+fn check_form(kind: Kind, bytes: &[u8]) -> Check
+    ensures { λ r. ⌜ r ≡ formCheck kind (now (bytes .entry)) ⌝ }
+{
+    match kind {
+        Kind::Any => Check::Passes,
+        Kind::Identifier => {
+            let most = alphabet::id_limit();
+            alphabet::fails_if(most < bytes.len(), Refusal::ValueTooLong, 0)
+        }
+        Kind::Ts => alphabet::fails_if(!times::is_ts(bytes), Refusal::BreaksForm, 0),
+        Kind::Si => alphabet::fails_if(!numbers::is_si(bytes), Refusal::BreaksForm, 0),
+        Kind::Nm => numbers::check_nm(bytes),
+        Kind::Dt => alphabet::fails_if(!times::is_dt(bytes), Refusal::BreaksForm, 0),
+        Kind::Tm => alphabet::fails_if(!times::is_tm(bytes), Refusal::BreaksForm, 0),
+        Kind::OneOf(values) => alphabet::fails_if(!is_listed(bytes, values), Refusal::NotListed, 0),
+        Kind::AsField(_) => Check::Passes,
+    }
+}
+
+// The part of a repetition that is judged: the whole, or what stands before its first component separator.
+fn judged_part(delimiters: Delimiters, portion: Portion, repetition: &[u8]) -> &[u8]
+    ensures { λ r. ⌜ now r ≡ judgedPart (delimiters .bytes) portion (now (repetition .entry)) ⌝ }
+{
+    let Portion::Component = portion else {
+        return repetition;
+    };
+    let bytes = delimiters.bytes;
+    let end = alphabet::find(repetition, bytes[1]);
+    &repetition[..end]
+}
+
+// Whether a part that is there is present, and neither empty nor null.
+fn is_present(delimiters: Delimiters, bytes: &[u8]) -> bool
+    ensures { λ r. ⌜ r ≡ isPresent (stateOf (delimiters .bytes) (now (bytes .entry))) ⌝ }
+{
+    let state = element::state_of(delimiters, bytes);
+    match state {
+        State::Absent => false,
+        State::Empty => false,
+        State::Null => false,
+        State::Present => true,
+    }
+}
+
+// One repetition, of the given number, against a type: what is empty or null passes.
+pub fn check_repetition(
+    delimiters: Delimiters,
+    portion: Portion,
+    kind: Kind,
+    number: usize,
+    repetition: &[u8],
+) -> Check
+    ensures { λ r. ⌜ r ≡ repetitionCheck (delimiters .bytes) portion kind number (now (repetition .entry)) ⌝ }
+{
+    let part = judged_part(delimiters, portion, repetition);
+    if !is_present(delimiters, part) {
+        return Check::Passes;
+    }
+    let form = check_form(kind, part);
+    match form {
+        Check::Passes => Check::Passes,
+        Check::Fails {
+            kind: fault,
+            place: _,
+        } => Check::Fails {
+            kind: fault,
+            place: number,
+        },
+    }
+}
+
+// Numbers 31 and 34, where a part is required.
+fn check_required(required: bool, state: State) -> Check
+    ensures { λ r. ⌜ r ≡ requiredCheck required state ⌝ }
+{
+    match state {
+        State::Absent => alphabet::fails_if(required, Refusal::RequiredMissing, 1),
+        State::Empty => alphabet::fails_if(required, Refusal::RequiredMissing, 1),
+        State::Null => alphabet::fails_if(required, Refusal::RequiredNull, 1),
+        State::Present => Check::Passes,
+    }
+}
+
+// The same of repetition 1 of a row's field: what is not required is not looked at.
+fn check_first(delimiters: Delimiters, row: Row, repetition: &[u8]) -> Check
+    ensures { λ r. ⌜ r ≡ requiredCheck (row .required) (stateOf (delimiters .bytes) (judgedPart (delimiters .bytes) (row .portion) (now (repetition .entry)))) ⌝ }
+{
+    if !row.required {
+        return Check::Passes;
+    }
+    let portion = row.portion;
+    let part = judged_part(delimiters, portion, repetition);
+    let state = element::state_of(delimiters, part);
+    check_required(true, state)
+}
+
+// Whether some repetition of a field is present, as a whole.
+fn some_present(delimiters: Delimiters, field: &[u8]) -> bool
+    ensures { λ r. ⌜ r ≡ somePresent (delimiters .bytes) (split (getD (delimiters .bytes) 2 0) (now (field .entry))) ⌝ }
+{
+    let bytes = delimiters.bytes;
+    let separator = bytes[2];
+    let mut start = 0;
+    loop {
+        let end = start + alphabet::find(&field[start..], separator);
+        if is_present(delimiters, &field[start..end]) {
+            return true;
+        }
+        if end == field.len() {
+            return false;
+        }
+        start = end + 1;
+    }
+}
+
+// The type that the bytes of a field such as OBX-2 name, if it is one that is judged.
+fn kind_said(said: &[u8]) -> Kind
+    ensures { λ r. ⌜ r ≡ kindSaid (now (said .entry)) ⌝ }
+{
+    if alphabet::same(said, b"NM") {
+        return Kind::Nm;
+    }
+    if alphabet::same(said, b"DT") {
+        return Kind::Dt;
+    }
+    if alphabet::same(said, b"TM") {
+        return Kind::Tm;
+    }
+    if alphabet::same(said, b"TS") {
+        return Kind::Ts;
+    }
+    Kind::Any
+}
+
+// Whether another field says what a row judges by.
+pub fn is_said(kind: Kind) -> bool
+    ensures { λ r. ⌜ r ≡ isSaid kind ⌝ }
+{
+    match kind {
+        Kind::Any => false,
+        Kind::Identifier => false,
+        Kind::Ts => false,
+        Kind::Si => false,
+        Kind::Nm => false,
+        Kind::Dt => false,
+        Kind::Tm => false,
+        Kind::OneOf(_) => false,
+        Kind::AsField(_) => true,
+    }
+}
+
+// Which field says it, or 0 where none does.
+pub fn said_field(kind: Kind) -> usize
+    ensures { λ r. ⌜ r ≡ saidField kind ⌝ }
+{
+    match kind {
+        Kind::Any => 0,
+        Kind::Identifier => 0,
+        Kind::Ts => 0,
+        Kind::Si => 0,
+        Kind::Nm => 0,
+        Kind::Dt => 0,
+        Kind::Tm => 0,
+        Kind::OneOf(_) => 0,
+        Kind::AsField(field) => field,
+    }
+}
+
+// What a row judges by, once the field that may say it is known.
+pub fn kind_of(kind: Kind, said: &[u8]) -> Kind
+    ensures { λ r. ⌜ r ≡ kindOf kind (now (said .entry)) ⌝ }
+{
+    if is_said(kind) {
+        return kind_said(said);
+    }
+    kind
+}
+
+// What of a repetition a row judges: of a type that is said, component 1 for TS.
+pub fn portion_of(row: Row, said: &[u8]) -> Portion
+    ensures { λ r. ⌜ r ≡ portionOf row (now (said .entry)) ⌝ }
+{
+    let portion = row.portion;
+    let kind = row.kind;
+    if is_said(kind) & alphabet::same(said, b"TS") {
+        return Portion::Component;
+    }
+    portion
+}
+
+// Number 35: a field whose type is said has some repetition present, and what says it is not.
+fn check_said(delimiters: Delimiters, kind: Kind, said: &[u8], field: &[u8]) -> Check
+    ensures { λ r. ⌜ r ≡ saidCheck (delimiters .bytes) kind (now (said .entry)) (split (getD (delimiters .bytes) 2 0) (now (field .entry))) ⌝ }
+{
+    let untyped = is_said(kind) & !is_present(delimiters, said);
+    if !untyped {
+        return Check::Passes;
+    }
+    alphabet::fails_if(
+        some_present(delimiters, field),
+        Refusal::ValueWithoutType,
+        1,
+    )
+}
+
+// The checks of a row before its repetitions are judged in turn: 31 or 34, then 36, then 35.
+pub fn check_opening(delimiters: Delimiters, row: Row, said: &[u8], field: &[u8]) -> Check
+    ensures { λ r. ⌜ r ≡ openingCheck (delimiters .bytes) row (now (said .entry)) (split (getD (delimiters .bytes) 2 0) (now (field .entry))) ⌝ }
+{
+    let bytes = delimiters.bytes;
+    let end = alphabet::find(field, bytes[2]);
+    let required = check_first(delimiters, row, &field[..end]);
+    let many = !row.repeats & (end < field.len());
+    let repeated = alphabet::fails_if(many, Refusal::Repeated, 1);
+    let first = alphabet::or_else(required, repeated);
+    let Check::Passes = first else {
+        return first;
+    };
+    let kind = row.kind;
+    check_said(delimiters, kind, said, field)
+}
