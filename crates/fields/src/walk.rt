@@ -1,17 +1,17 @@
 // A walk along the bytes of one segment: a cursor goes forward from field to field, so that the rows of a segment, whose fields
 // rise, pass over its bytes once. A row that asks for a field behind the cursor is answered from the segment's start.
+use alphabet::Check;
+use alphabet::Delimiters;
+use alphabet::Part;
+use rules::Kind;
+use rules::Portion;
+use rules::Row;
 use rules::check_opening;
 use rules::check_repetition;
 use rules::is_said;
 use rules::kind_of;
 use rules::portion_of;
 use rules::said_field;
-use rules::Kind;
-use rules::Portion;
-use rules::Row;
-use alphabet::Check;
-use alphabet::Delimiters;
-use alphabet::Part;
 ghost use mathlib.Core.Path.{_≡_};
 ghost use Prim.Native.Nat.{_+_, _≤_};
 ghost use lib.ListN.{getD, drop};

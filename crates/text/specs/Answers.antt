@@ -2,11 +2,10 @@
 -- The last part says of each private function what it gives.
 use Prim.Native.Nat.{ℕ}
 use mathlib.Core.List.{List, []}
-use mathlib.Core.Bool.{Bool, true, false, cond, not, _||_}
+use mathlib.Core.Bool.{Bool, true, false, cond}
 use lib.ListN.{length}
 use lib.Dec.{leb, ltb}
-use Rattle.alphabet.specs.Lists.{find}
-use Rattle.alphabet.specs.Bytes.{printable, isNull}
+use Rattle.alphabet.specs.Bytes.{isNull}
 use Rattle.alphabet.specs.Filling.{over}
 use Rattle.alphabet.specs.Delimiters.{wrongDelimiter}
 use Rattle.alphabet.specs.declared.answers.Refusal.the-variants.{None, Delimiter, TextTooLong, NullText}
@@ -54,10 +53,6 @@ textOf (text t) = t
 textOf (fault k p) = []
 
 -- ---- what the private functions give
-
--- whether a byte is none of "the rest", which are written "plainly"
-unfoldable pub special : List ℕ → ℕ → Bool
-special ds b = not (printable b) || ltb (find b ds) 5
 
 -- whether n bytes go into `room`
 unfoldable pub roomFor : ℕ → ℕ → Room

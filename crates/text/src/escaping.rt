@@ -1,12 +1,12 @@
 // Writing a text: it is measured first, so that a text that does not fit writes nothing.
 use crate::answers::refused;
-use crate::blocks::BLOCK_LENGTH;
 use crate::blocks::block_length;
-use crate::blocks::plain_run;
 use crate::pieces::put_written;
 use alphabet::Answer;
 use alphabet::Delimiters;
 use alphabet::Refusal;
+use plain::BLOCK_LENGTH;
+use plain::plain_run;
 ghost use mathlib.Core.Path.{_≡_};
 ghost use Prim.Native.Nat.{_≤_};
 ghost use lib.ListN.{length};

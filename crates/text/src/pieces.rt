@@ -4,34 +4,11 @@ use alphabet::Delimiters;
 ghost use mathlib.Core.Path.{_≡_};
 ghost use Prim.Native.Nat.{_+_, _≤_};
 ghost use lib.ListN.{length};
-ghost use Rattle.alphabet.specs.Lists.{find};
 ghost use Rattle.text.specs.Escape.{escapeByte};
 ghost use Rattle.alphabet.specs.Filling.{pasted};
 
 // The letter of each delimiter, in the delimiters' order: F S R E T.
 pub const LETTERS: [u8; 5] = [70, 83, 82, 69, 84];
-
-// The place of b among five bytes, as the delimiters or their letters, or 5.
-pub fn place_of(five: [u8; 5], b: u8) -> usize
-    ensures { λ r. ⌜ r ≡ find b five ⌝ }
-{
-    if b == five[0] {
-        return 0;
-    }
-    if b == five[1] {
-        return 1;
-    }
-    if b == five[2] {
-        return 2;
-    }
-    if b == five[3] {
-        return 3;
-    }
-    if b == five[4] {
-        return 4;
-    }
-    5
-}
 
 // Writes what the byte b is written as into the buffer from `at` on, and returns the place behind it.
 pub fn put_written(delimiters: Delimiters, b: u8, buffer: &mut [u8], at: usize) -> usize
@@ -41,7 +18,7 @@ pub fn put_written(delimiters: Delimiters, b: u8, buffer: &mut [u8], at: usize) 
 {
     let five = delimiters.bytes;
     let mark = five[3];
-    let i = place_of(five, b);
+    let i = plain::place_of(five, b);
     if i < 5 {
         buffer[at] = mark;
         buffer[at + 1] = LETTERS[i];

@@ -1,7 +1,7 @@
 // What may stand between two escape delimiters, and the bytes that it says: a letter of the table, or X and pairs of hex digits.
 use crate::pieces::LETTERS;
-use crate::pieces::place_of;
 use alphabet::Delimiters;
+use plain::place_of;
 ghost use mathlib.Core.Path.{_≡_};
 ghost use mathlib.Core.Bool.{true};
 ghost use Prim.Native.Nat.{_+_, _≤_};

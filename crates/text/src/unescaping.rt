@@ -1,13 +1,13 @@
 // Reading a text: from the left, a sequence judged whole at its opening byte. It is judged to its end before anything is
 // written, so that a refusal writes nothing.
 use crate::answers::refused;
-use crate::blocks::plain_run;
-use crate::pieces::place_of;
 use crate::sequences::is_known;
 use crate::sequences::put_meaning;
 use alphabet::Answer;
 use alphabet::Delimiters;
 use alphabet::Refusal;
+use plain::place_of;
+use plain::plain_run;
 ghost use mathlib.Core.Path.{_≡_};
 ghost use mathlib.Core.Bool.{true};
 ghost use Prim.Native.Nat.{_+_, _≤_, _<_};

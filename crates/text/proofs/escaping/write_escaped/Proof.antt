@@ -9,7 +9,7 @@ use denote.Ref.{now}
 use lib.Seq.{length-take-le}
 use Rattle.alphabet.specs.Lists.{first}
 use Rattle.text.specs.Escape.{escapeBytes}
-use Rattle.text.specs.Answers.{special}
+use Rattle.plain.specs.Plain.{special}
 use Rattle.text.proofs.PieceLaws.{bytes-next, bytes-end, length-next}
 use Rattle.text.proofs.RunLaws.{run-from, bytes-from, length-from}
 use Rattle.alphabet.proofs.FillingLaws.{Filling, fill-start, fill-more, fill-room, fill-length, fill-end, put-fits}

@@ -6,7 +6,8 @@ use native.Mathlib.Omega.{arith}
 use borrow.Author.Needs.{needs}
 use denote.Ref.{now}
 use Rattle.text.specs.Unescape.{step}
-use Rattle.text.specs.Answers.{special, judged}
+use Rattle.plain.specs.Plain.{special}
+use Rattle.text.specs.Answers.{judged}
 use Rattle.text.specs.declared.unescaping.Judged.{Judged}
 use Rattle.text.proofs.StepLaws.{step-bounds, seen-fault, seen-bytes, Scanning, scanning-start, scanning-more, scanning-stop, scanning-end}
 use Rattle.text.proofs.RunLaws.{run-from, scanning-run}

@@ -8,8 +8,8 @@ use borrow.Author.Needs.{needs}
 use borrow.Author.Tests.{eq-eqb, ne-eqb}
 use Rattle.alphabet.specs.Lists.{find}
 use Rattle.alphabet.proofs.ListLaws.{first-le, first-reached, first-next}
-use Rattle.text.proofs.pieces.place_of.Statement.{statement}
-use Rattle.text.proofs.pieces.place_of.Tie as tie
+use Rattle.plain.proofs.runs.place_of.Statement.{statement}
+use Rattle.plain.proofs.runs.place_of.Tie as tie
 
 size : (c : tie.Start) → length (c .args .t1) ≡ 5
 size c = search needs

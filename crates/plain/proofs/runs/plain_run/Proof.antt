@@ -7,10 +7,10 @@ use borrow.Author.Needs.{needs}
 use denote.Ref.{now}
 use Rattle.alphabet.specs.Lists.{first}
 use Rattle.alphabet.proofs.ListLaws.{first-block, first-le, rest-of}
-use Rattle.text.specs.Answers.{special}
-use Rattle.text.proofs.RunLaws.{block-size, first-from, first-inside}
-use Rattle.text.proofs.blocks.plain_run.Statement.{statement}
-use Rattle.text.proofs.blocks.plain_run.Tie as tie
+use Rattle.plain.specs.Plain.{special}
+use Rattle.plain.proofs.PlainLaws.{block-size, first-from, first-inside}
+use Rattle.plain.proofs.runs.plain_run.Statement.{statement}
+use Rattle.plain.proofs.runs.plain_run.Tie as tie
 
 abbrev Inv-loop : tie.InvT-loop
 Inv-loop delimiters text i₀ i = (i ≤ length text) × (i ≤ first (special (delimiters .bytes)) text)

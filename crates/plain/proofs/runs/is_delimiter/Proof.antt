@@ -2,9 +2,9 @@
 use mathlib.Core.Path.{_≡_}
 use lib.ListN.{length}
 use borrow.Author.Needs.{needs}
-use Rattle.text.proofs.RunLaws.{delimiter-is}
-use Rattle.text.proofs.blocks.is_delimiter.Statement.{statement}
-use Rattle.text.proofs.blocks.is_delimiter.Tie as tie
+use Rattle.plain.proofs.PlainLaws.{delimiter-is}
+use Rattle.plain.proofs.runs.is_delimiter.Statement.{statement}
+use Rattle.plain.proofs.runs.is_delimiter.Tie as tie
 
 returns : tie.Need-returns
 returns c =

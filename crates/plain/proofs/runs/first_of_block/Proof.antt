@@ -6,10 +6,10 @@ use lib.Dec.{ltb}
 use native.Mathlib.Omega.{arith}
 use borrow.Author.Needs.{needs}
 use denote.Ref.{now}
-use Rattle.text.specs.Answers.{special}
-use Rattle.text.proofs.RunLaws.{leastOf, least-begin, least-most, least-step, least-end}
-use Rattle.text.proofs.blocks.first_of_block.Statement.{statement}
-use Rattle.text.proofs.blocks.first_of_block.Tie as tie
+use Rattle.plain.specs.Plain.{special}
+use Rattle.plain.proofs.PlainLaws.{leastOf, least-begin, least-most, least-step, least-end}
+use Rattle.plain.proofs.runs.first_of_block.Statement.{statement}
+use Rattle.plain.proofs.runs.first_of_block.Tie as tie
 
 abbrev Inv-loop : tie.InvT-loop
 Inv-loop delimiters block least₀ i₀ least i = (i ≤ 32) × (least ≤ 32) × (least ≡ leastOf (special (delimiters .bytes)) block i)

@@ -7,9 +7,9 @@ use borrow.Author.Needs.{needs}
 use denote.Ref.{now}
 use Rattle.alphabet.specs.Lists.{first}
 use Rattle.alphabet.proofs.ListLaws.{first-le, first-reached, first-next}
-use Rattle.text.specs.Answers.{special}
-use Rattle.text.proofs.blocks.first_of_few.Statement.{statement}
-use Rattle.text.proofs.blocks.first_of_few.Tie as tie
+use Rattle.plain.specs.Plain.{special}
+use Rattle.plain.proofs.runs.first_of_few.Statement.{statement}
+use Rattle.plain.proofs.runs.first_of_few.Tie as tie
 
 abbrev Inv-loop : tie.InvT-loop
 Inv-loop delimiters text i₀ i = (i ≤ length text) × (i ≤ first (special (delimiters .bytes)) text)
