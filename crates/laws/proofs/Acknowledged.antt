@@ -2,8 +2,8 @@
 -- caller's ID and the verdict's code. All of it is looked up in the bytes that were written and in the message that was sent. Assumes nothing.
 use mathlib.Core.Path.{_≡_, refl, sym, ap, ap₂, _∙_, subst}
 use mathlib.Core.Logic.{_↔_}
-use mathlib.Core.Bool.{Bool, true, false, _&&_, _||_}
-use mathlib.Core.List.{List, [], _∷_}
+use mathlib.Core.Bool.{Bool, true, false, cond, _&&_, _||_}
+use mathlib.Core.List.{List, [], _∷_, _++_}
 use Prim.Native.Nat.{ℕ, _+_, _-_, _≤_, _<_}
 use native.Mathlib.Nat.{zero-add, sub-zero}
 use native.Mathlib.Omega.{arith}
@@ -21,7 +21,7 @@ use Rattle.alphabet.specs.Parts.{split}
 use Rattle.alphabet.specs.declared.answers.Answer.{Answer}
 use Rattle.alphabet.specs.declared.answers.Check.the-variants.{Passes}
 use Rattle.alphabet.specs.declared.answers.Refusal.the-variants.{None, NotAcknowledgeable}
-use Rattle.reading.specs.Segments.{segments, delimitersOf}
+use Rattle.reading.specs.Segments.{segments, delimitersOf, fieldSeparator}
 use Rattle.reading.specs.Reading.{reading}
 use Rattle.reading.specs.Message.{Opened, Message}
 use Rattle.reading.proofs.Accepted.{opening-if}
@@ -32,17 +32,23 @@ use Rattle.element.specs.declared.address.Address.{Address}
 use Rattle.laws.proofs.HeaderLaws.{first-segment as begins}
 use Rattle.laws.proofs.RawLaws.{raw-header, raw-component}
 use Rattle.times.specs.Times.{isTs}
+use Rattle.text.specs.Escape.{escape}
 use Rattle.text.specs.Unescape.{text}
 use Rattle.text.specs.Answers.{fitting, unescaping}
 use Rattle.laws.proofs.RoundTrip.{AreBytes, round-trip}
 use Rattle.element.specs.States.{stateOf}
-use Rattle.element.specs.declared.states.State.the-variants.{Present}
+use Rattle.element.specs.declared.states.State.{State}
+use Rattle.element.specs.declared.states.State.the-variants.{Absent, Empty, Null, Present}
+use Rattle.value.specs.Asked.{isPresent}
 use Rattle.rules.specs.Table.{rows}
 use Rattle.laws.proofs.FaultNumbers.{none-sound}
 use Rattle.laws.proofs.ControlId.{control-id}
-use Rattle.structure.specs.Judged.{plain, Answers}
+use Rattle.structure.specs.SegmentNames.{name, segmentNames}
+use Rattle.structure.specs.Structures.{ack, structureOf}
+use Rattle.structure.specs.Judged.{plain, Judged, Answers}
+use Rattle.structure.specs.declared.structures.Structure.the-variants.{Acknowledgement}
 use Rattle.verdict.specs.Verdicts.{Accepts}
-use Rattle.acknowledgement.specs.Acknowledgement.{header, fieldAddress, sent, typePart, lettersOf, acknowledgement, badId, acknowledgeable, Coded, Acknowledges}
+use Rattle.acknowledgement.specs.Acknowledgement.{header, fieldAddress, sent, typePart, typeSent, lettersOf, acknowledgement, badId, acknowledgeable, Coded, Acknowledges}
 use Rattle.acknowledgement.specs.Acknowledgement.Coded.{accepted, refused}
 use Rattle.acknowledgement.specs.declared.letters.Code.{Code}
 use Rattle.acknowledgement.proofs.HeaderLaws.{nothing-against, return-inside, header-find, header-ends, sound-header}
@@ -84,11 +90,17 @@ module _ (m : List ℕ) (inside : find carriageReturn m < length m) (opened : Op
       ∙ sym (raw-header m (let q = long in omega arith) f n)
 
   -- so is a component of the type
-  pub type-whole : typePart (header m) 1 ≡ typePart m 1
-  type-whole =
-      raw-component (header m) (let q = opened .nine-bytes in omega arith) 9 1 (omega arith) (omega arith)
-      ∙ ap₂ (λ (ds l : List ℕ). getD (split (getD ds 1 0) (getD (split (getD ds 2 0) l) 0 [])) 0 []) same-delimiters (sent-whole 9 (λ e. omega arith))
-      ∙ sym (raw-component m (let q = long in omega arith) 9 1 (omega arith) (omega arith))
+  pub type-whole : (k : ℕ) → 1 ≤ k → typePart (header m) k ≡ typePart m k
+  type-whole k least =
+      raw-component (header m) (let q = opened .nine-bytes in omega arith) 9 k (omega arith) least
+      ∙ ap₂ (λ (ds l : List ℕ). getD (split (getD ds 1 0) (getD (split (getD ds 2 0) l) 0 [])) (k - 1) []) same-delimiters (sent-whole 9 (λ e. omega arith))
+      ∙ sym (raw-component m (let q = long in omega arith) 9 k (omega arith) least)
+
+  -- and the type that is sent back
+  pub type-sent : typeSent (header m) ≡ typeSent m
+  unfolding typeSent
+  type-sent =
+      ap₂ (λ (ds event : List ℕ). ascii "ACK" ++ cond (isPresent (stateOf ds event)) (getD ds 1 0 ∷ event) []) same-delimiters (type-whole 2 (omega arith))
 
 -- ---- what is written
 
@@ -141,6 +153,69 @@ module _ (m time id lent : List ℕ) (small : AreBytes id) {r : Answer} {x : Lis
       let c = W.crossed h (sound .0) (sound .1) time id (against .0) small (writes .code) in
       (crossing 3 5 (λ e. omega arith) (c .0), crossing 4 6 (λ e. omega arith) (c .1), crossing 5 3 (λ e. omega arith) (c .2), crossing 6 4 (λ e. omega arith) (c .3))
 
+  -- its delimiters are the sender's
+  pub own-delimiters : delimitersOf w ≡ delimitersOf m
+  own-delimiters =
+      ap delimitersOf (writes .bytes) ∙ W.same-delimiters h (sound .0) (sound .1) time id (against .0) small (writes .code)
+      ∙ same-delimiters m (return-inside m (against .2)) (sound .0)
+
+  -- its type is ACK's, and its segments are MSH and MSA, in so many parts
+  pub of-type : structureOf w ≡ Acknowledgement
+  of-type = ap structureOf (writes .bytes) ∙ W.structure-written h (sound .0) (sound .1) time id (against .0) small (writes .code)
+
+  pub named-so : segmentNames w ≡ name "MSH" ∷ name "MSA" ∷ []
+  named-so = ap segmentNames (writes .bytes) ∙ W.names-written h (sound .0) (sound .1) time id (against .0) small (writes .code)
+
+  pub yields-ack : Judged ack (segmentNames w) (plain None 0)
+  yields-ack =
+      subst (λ (b : List ℕ). Judged ack (segmentNames b) (plain None 0)) (sym (writes .bytes))
+      (W.fits-ack h (sound .0) (sound .1) time id (against .0) small (writes .code))
+
+  pub counted : (length (split (fieldSeparator w) (getD (segments w) 0 [])) ≡ 12) × (length (split (fieldSeparator w) (getD (segments w) 1 [])) ≡ 3)
+  counted =
+      let c = W.parts-counted h (sound .0) (sound .1) time id (against .0) small (writes .code) in
+      (
+        ap (λ (b : List ℕ). length (split (fieldSeparator b) (getD (segments b) 0 []))) (writes .bytes) ∙ c .0,
+        ap (λ (b : List ℕ). length (split (fieldSeparator b) (getD (segments b) 1 []))) (writes .bytes) ∙ c .1,
+      )
+
+  written-field : (f : ℕ) (l : List ℕ) → rawBytes (acknowledgement h time id (writes .code)) (fieldAddress f) ≡ l → rawBytes w (fieldAddress f) ≡ l
+  written-field f l e = ap (λ (b : List ℕ). rawBytes b (fieldAddress f)) (writes .bytes) ∙ e
+
+  -- its MSH-7, 8, 9, 11 and 12
+  pub stamped : (rawBytes w (fieldAddress 7) ≡ time) × (rawBytes w (fieldAddress 8) ≡ []) × (rawBytes w (fieldAddress 9) ≡ typeSent m)
+      × (rawBytes w (fieldAddress 11) ≡ rawBytes m (fieldAddress 11)) × (rawBytes w (fieldAddress 12) ≡ ascii "2.4")
+  stamped =
+      let c = W.stamped h (sound .0) (sound .1) time id (against .0) small (writes .code) in
+      (
+        written-field 7 time (c .0),
+        written-field 8 [] (c .1),
+        written-field 9 (typeSent m) (c .2 ∙ type-sent m (return-inside m (against .2)) (sound .0)),
+        written-field 11 (rawBytes m (fieldAddress 11)) (c .3 ∙ of-message 11 (λ e. omega arith)),
+        written-field 12 (ascii "2.4") (c .4),
+      )
+
+  -- the type and, where it is present, the event
+  pub with-event : stateOf (delimitersOf m) (typePart m 2) ≡ Present → rawBytes w (fieldAddress 9) ≡ ascii "ACK" ++ (getD (delimitersOf m) 1 0 ∷ typePart m 2)
+  unfolding typeSent
+  with-event there = stamped .2 ∙ ap (λ (t : Bool). ascii "ACK" ++ cond t (getD (delimitersOf m) 1 0 ∷ typePart m 2) []) (ap (λ (x : State). isPresent x) there)
+
+  pub without-event : (stateOf (delimitersOf m) (typePart m 2) ≡ Present → ⊥) → rawBytes w (fieldAddress 9) ≡ ascii "ACK"
+  unfolding typeSent
+  without-event none = stamped .2 ∙ ap (λ (t : Bool). ascii "ACK" ++ cond t (getD (delimitersOf m) 1 0 ∷ typePart m 2) []) (absent (stateOf (delimitersOf m) (typePart m 2)) none)
+    where
+      absent : (x : State) → (x ≡ Present → ⊥) → isPresent x ≡ false
+      absent Absent n = refl
+      absent Empty n = refl
+      absent Null n = refl
+      absent Present n = absurd (n refl)
+
+  -- its MSH-10 is the caller's ID, escaped
+  pub own-id : rawBytes w (fieldAddress 10) ≡ escape (delimitersOf m) id
+  own-id =
+      written-field 10 _ (W.own-id h (sound .0) (sound .1) time id (against .0) small (writes .code))
+      ∙ ap (λ (ds : List ℕ). escape ds id) (ap delimitersOf (sym (writes .bytes)) ∙ own-delimiters)
+
   -- its MSH-10, unescaped, is the caller's ID
   pub callers-id : (room : ℕ) → length id ≤ room → unescaping (delimitersOf w) (rawBytes w (fieldAddress 10)) room ≡ text id
   unfolding fitting
@@ -164,6 +239,20 @@ module _ (m time id lent : List ℕ) (small : AreBytes id) {r : Answer} {x : Lis
       accepts-coded : {c : Code} → Coded m c → Accepts m → lettersOf c ≡ ascii "AA"
       accepts-coded (accepted b) q = refl
       accepts-coded (refused n) q = absurd (n q)
+
+  -- "else AE"
+  pub refuses-exactly : (rawBytes w (answerAddress 1) ≡ ascii "AE") ↔ (Accepts m → ⊥)
+  refuses-exactly =
+      let e = ap (λ (b : List ℕ). rawBytes b (answerAddress 1)) (writes .bytes) ∙ W.carries-code h (sound .0) (sound .1) time id (against .0) small (writes .code) in
+      (λ q. coded-refuses (writes .coded) (sym e ∙ q), λ n. e ∙ refuses-coded (writes .coded) n)
+    where
+      coded-refuses : {c : Code} → Coded m c → lettersOf c ≡ ascii "AE" → Accepts m → ⊥
+      coded-refuses (accepted b) q = absurd (let z : _≡_ {A = ℕ} 65 69 = ap (λ (l : List ℕ). getD l 1 0) q in omega arith)
+      coded-refuses (refused n) q = n
+
+      refuses-coded : {c : Code} → Coded m c → (Accepts m → ⊥) → lettersOf c ≡ ascii "AE"
+      refuses-coded (accepted b) n = absurd (n b)
+      refuses-coded (refused n) q = refl
 
 -- ---- 9 for an accepted message
 
@@ -223,7 +312,7 @@ module _ (m : List ℕ) (accepts : Accepts m) where
       rw (
         lt-ltb (find carriageReturn m) (length m) return-there,
         opening-if (header m) header-sound,
-        type-whole m return-there header-sound,
+        type-whole m return-there header-sound 1 (omega arith),
         unlike,
         ds,
         id,

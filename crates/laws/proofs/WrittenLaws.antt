@@ -38,7 +38,7 @@ use Rattle.structure.specs.Structures.{ack, typeAddress, structureOf, grammarOf
 use Rattle.structure.specs.Judged.{plain, Judged, accepted, by, Answers, read}
 use Rattle.structure.specs.declared.structures.Structure.the-variants.{Acknowledgement}
 use Rattle.structure.proofs.NameLaws.{is-acknowledgement}
-use Rattle.acknowledgement.specs.Acknowledgement.{fieldAddress, sent, typePart, present, encoding, typeSent, headerParts, lettersOf, answerParts, acknowledgement}
+use Rattle.acknowledgement.specs.Acknowledgement.{fieldAddress, sent, typePart, present, encoding, typeSent, headerParts, lettersOf, answerParts, acknowledgement, version}
 use Rattle.acknowledgement.specs.declared.letters.Code.{Code}
 use Rattle.acknowledgement.specs.declared.letters.Code.the-variants.{Accept, Error}
 use Rattle.laws.proofs.SenderLaws.{Printable, Not, Clean, field-clean, event-clean, delimiter-printable, delimiters-apart, no-delimiter, sign-clean}
@@ -214,7 +214,7 @@ module _ (h : List ℕ) (o : Opened h) (one : find carriageReturn h + 1 ≡ leng
 
     -- ---- it begins as the sender's does
 
-    same-delimiters : delimitersOf written ≡ ds
+    pub same-delimiters : delimitersOf written ≡ ds
     unfolding acknowledgement headerParts ended join
     same-delimiters = refl
 
@@ -335,6 +335,28 @@ module _ (h : List ℕ) (o : Opened h) (one : find carriageReturn h + 1 ≡ leng
     unfolding headerParts
     own-id = header-field 10 (λ e. omega arith) ∙ ap (λ (d : List ℕ). escape d id) (sym same-delimiters)
 
+    -- its MSH-7, 8, 11 and 12: the caller's time, nothing, the sender's, and the version; 9 is the type
+    pub stamped : (rawBytes written (fieldAddress 7) ≡ time) × (rawBytes written (fieldAddress 8) ≡ []) × (rawBytes written (fieldAddress 9) ≡ typeSent h)
+        × (rawBytes written (fieldAddress 11) ≡ sent h 11) × (rawBytes written (fieldAddress 12) ≡ version)
+    unfolding headerParts
+    stamped = (
+      header-field 7 (λ e. omega arith),
+      header-field 8 (λ e. omega arith),
+      header-field 9 (λ e. omega arith),
+      header-field 11 (λ e. omega arith),
+      header-field 12 (λ e. omega arith),
+    )
+
+    -- how many parts its segments have: the name of MSH and 11 fields behind its separator, the name of MSA and two fields
+    pub parts-counted : (length (split (fieldSeparator written) (getD (segments written) 0 [])) ≡ 12) × (length (split (fieldSeparator written) (getD (segments written) 1 [])) ≡ 3)
+    unfolding headerParts answerParts
+    parts-counted =
+        let same = ap (λ (l : List ℕ). getD l 0 0) same-delimiters in
+        (
+          ap₂ (λ (x : ℕ) (ss : List (List ℕ)). length (split x (getD ss 0 []))) same segments-written ∙ ap length first-parts,
+          ap₂ (λ (x : ℕ) (ss : List (List ℕ)). length (split x (getD ss 1 []))) same segments-written ∙ ap length second-parts,
+        )
+
     -- ---- it fits ACK
 
     type-free : find (getD ds 2 0) (typeSent h) ≡ length (typeSent h)
@@ -362,11 +384,11 @@ module _ (h : List ℕ) (o : Opened h) (one : find carriageReturn h + 1 ≡ leng
         ∙ ap₂ (λ (d x : List ℕ). getD (split (getD d 1 0) (getD (split (getD d 2 0) x) 0 [])) 0 []) same-delimiters (header-field 9 (λ e. omega arith))
         ∙ ap (λ (ps : List (List ℕ)). getD (split (getD ds 1 0) (getD ps 0 [])) 0 []) (split-last (getD ds 2 0) (typeSent h) (omega arith)) ∙ first-component
 
-    structure-written : structureOf written ≡ Acknowledgement
+    pub structure-written : structureOf written ≡ Acknowledgement
     unfolding structureOf same
     structure-written = is-acknowledgement (rawBytes written (typeAddress 2)) (rawBytes written (typeAddress 1)) (ap (λ (x : List ℕ). same x (ascii "ACK")) type-written)
 
-    names-written : segmentNames written ≡ name "MSH" ∷ name "MSA" ∷ []
+    pub names-written : segmentNames written ≡ name "MSH" ∷ name "MSA" ∷ []
     unfolding segmentNames nameOf headerParts answerParts join
     names-written = ap (map nameOf) segments-written
 

@@ -42,7 +42,7 @@ use Rattle.value.proofs.AskedLaws.{number-present, number-other, time-present, 
 use Rattle.text.specs.Escape.{escape}
 use Rattle.text.specs.Answers.{escaping, unescaping, answer, filled}
 use Rattle.acknowledgement.specs.Acknowledgement.{Acknowledges, fieldAddress as inHeader}
-use Rattle.laws.proofs.Acknowledged.{reads-back, fits-ack, carries-id, crossed, callers-id, accepts-exactly}
+use Rattle.laws.proofs.Acknowledged.{reads-back, of-type, yields-ack, fits-ack, named-so, counted, carries-id, own-delimiters, crossed, stamped, with-event, without-event, own-id, callers-id, accepts-exactly, refuses-exactly}
 use Rattle.laws.proofs.Clean.{both-ways}
 use Rattle.laws.proofs.ElementLaws.{state-means}
 use Rattle.laws.proofs.HeaderFields.{first-field, second-field, one-byte, four-bytes}
@@ -197,17 +197,33 @@ text-comes-back ds five fine t d e small h k = both-ways ds five fine t d e smal
 -- ---- the acknowledgement
 
 -- every acknowledgement that was written, which is the front of the buffer as long as the answer says
-pub acknowledgement-carries : (m time id lent : List ℕ) → AreBytes id → {r : Answer} {x : List ℕ} → Acknowledges m time id lent r x → r .kind ≡ None → Carries m id (take (r .length) x)
+pub acknowledgement-carries : (m time id lent : List ℕ) → AreBytes id → {r : Answer} {x : List ℕ} → Acknowledges m time id lent r x → r .kind ≡ None → Carries m time id (take (r .length) x)
 acknowledgement-carries m time id lent small a done =
     let c = crossed m time id lent small a done in
+    let s = stamped m time id lent small a done in
+    let n = counted m time id lent small a done in
     record {
       reads-back = reads-back m time id lent small a done;
+      is-ack = of-type m time id lent small a done;
+      yields-ack = yields-ack m time id lent small a done;
       fits-ack = fits-ack m time id lent small a done;
+      two-segments = named-so m time id lent small a done;
+      header-parts = n .0;
+      answer-parts = n .1;
       control-id = carries-id m time id lent small a done;
+      senders-delimiters = own-delimiters m time id lent small a done;
       application = c .0;
       facility = c .1;
       senders-application = c .2;
       senders-facility = c .3;
+      callers-time = s .0;
+      no-security = s .1;
+      with-event = with-event m time id lent small a done;
+      without-event = without-event m time id lent small a done;
+      escaped-id = own-id m time id lent small a done;
       callers-id = callers-id m time id lent small a done;
+      processing = s .3;
+      version = s .4;
       accepted-exactly = accepts-exactly m time id lent small a done;
+      refused-exactly = refuses-exactly m time id lent small a done;
     }

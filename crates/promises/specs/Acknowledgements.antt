@@ -2,38 +2,65 @@
 use Prim.Native.Nat.{ℕ, _≤_}
 use mathlib.Core.Path.{_≡_}
 use mathlib.Core.Logic.{_↔_}
-use mathlib.Core.List.{List}
-use lib.ListN.{length}
+use mathlib.Core.List.{List, [], _∷_, _++_}
+use lib.ListN.{length, getD}
 use Rattle.alphabet.specs.Bytes.{ascii}
+use Rattle.alphabet.specs.Parts.{split}
 use Rattle.alphabet.specs.declared.answers.Check.the-variants.{Passes}
 use Rattle.alphabet.specs.declared.answers.Refusal.the-variants.{None}
 use Rattle.reading.specs.Reading.{reading}
-use Rattle.reading.specs.Segments.{delimitersOf}
+use Rattle.reading.specs.Segments.{delimitersOf, fieldSeparator, segments}
 use Rattle.element.specs.Finding.{rawBytes}
+use Rattle.element.specs.States.{stateOf}
 use Rattle.element.specs.declared.address.Address.{Address}
+use Rattle.element.specs.declared.states.State.the-variants.{Present}
+use Rattle.text.specs.Escape.{escape}
 use Rattle.text.specs.Unescape.{text}
 use Rattle.text.specs.Answers.{unescaping}
-use Rattle.structure.specs.Judged.{plain, Answers}
+use Rattle.structure.specs.SegmentNames.{name, segmentNames}
+use Rattle.structure.specs.Structures.{ack, typeAddress, structureOf}
+use Rattle.structure.specs.Judged.{plain, Judged, Answers}
+use Rattle.structure.specs.declared.structures.Structure.the-variants.{Acknowledgement}
 use Rattle.verdict.specs.Verdicts.{Accepts}
 use Rattle.acknowledgement.specs.Acknowledgement.{fieldAddress as inHeader}
 
--- the whole of a field of MSA, which stands behind MSH; `inHeader` is that of a field of MSH
+-- the whole of a field of the second segment, which is MSA; `inHeader` is that of a field of MSH
 abbrev pub inAnswer : ℕ → Address
 inAnswer f = record { segment = 1; field = f; repetition = 0; component = 0; subcomponent = 0 }
 
-pub record Carries (m id w : List ℕ) : Type 0 where
+pub record Carries (m time id w : List ℕ) : Type 0 where
   -- "reads back through our reader"
   pub reads-back : reading w ≡ Passes
-  -- "fits the ACK structure"
+  -- "fits the ACK structure": its type is ACK's, that structure yields its names, and the structure judge accepts it
+  pub is-ack : structureOf w ≡ Acknowledgement
+  pub yields-ack : Judged ack (segmentNames w) (plain None 0)
   pub fits-ack : Answers w (plain None 0)
+  -- "MSH", "Then MSA": these two segments, of twelve parts and of three
+  pub two-segments : segmentNames w ≡ name "MSH" ∷ name "MSA" ∷ []
+  pub header-parts : length (split (fieldSeparator w) (getD (segments w) 0 [])) ≡ 12
+  pub answer-parts : length (split (fieldSeparator w) (getD (segments w) 1 [])) ≡ 3
   -- "and carries the sender's own control ID": MSA-2 is the sender's MSH-10
   pub control-id : rawBytes w (inAnswer 2) ≡ rawBytes m (inHeader 10)
-  -- it goes back to where it came from: MSH-3 to 6 are the sender's 5, 6, 3, 4
+  -- "It uses the sender's delimiters"
+  pub senders-delimiters : delimitersOf w ≡ delimitersOf m
+  -- "fields 3, 4, 5, 6 are the sender's 5, 6, 3, 4": it goes back to where it came from
   pub application : rawBytes w (inHeader 3) ≡ rawBytes m (inHeader 5)
   pub facility : rawBytes w (inHeader 4) ≡ rawBytes m (inHeader 6)
   pub senders-application : rawBytes w (inHeader 5) ≡ rawBytes m (inHeader 3)
   pub senders-facility : rawBytes w (inHeader 6) ≡ rawBytes m (inHeader 4)
-  -- its own control ID, unescaped, is the caller's
+  -- "7 the caller's time; 8 empty"
+  pub callers-time : rawBytes w (inHeader 7) ≡ time
+  pub no-security : rawBytes w (inHeader 8) ≡ []
+  -- "9 `ACK`, and a component separator and raw component 2 of the sender's MSH-9, repetition 1, after it where that is present"
+  pub with-event : stateOf (delimitersOf m) (rawBytes m (typeAddress 2)) ≡ Present
+      → rawBytes w (inHeader 9) ≡ ascii "ACK" ++ (getD (delimitersOf m) 1 0 ∷ rawBytes m (typeAddress 2))
+  pub without-event : (stateOf (delimitersOf m) (rawBytes m (typeAddress 2)) ≡ Present → ⊥) → rawBytes w (inHeader 9) ≡ ascii "ACK"
+  -- "10 the caller's ID, escaped": and unescaped it is his ID again
+  pub escaped-id : rawBytes w (inHeader 10) ≡ escape (delimitersOf m) id
   pub callers-id : (room : ℕ) → length id ≤ room → unescaping (delimitersOf w) (rawBytes w (inHeader 10)) room ≡ text id
-  -- the sender is told AA exactly where reading, structure and fields all accept
+  -- "11 copied raw; 12 `2.4`"
+  pub processing : rawBytes w (inHeader 11) ≡ rawBytes m (inHeader 11)
+  pub version : rawBytes w (inHeader 12) ≡ ascii "2.4"
+  -- "Code AA exactly when reading, structure and fields all accept; else AE."
   pub accepted-exactly : (rawBytes w (inAnswer 1) ≡ ascii "AA") ↔ Accepts m
+  pub refused-exactly : (rawBytes w (inAnswer 1) ≡ ascii "AE") ↔ (Accepts m → ⊥)
