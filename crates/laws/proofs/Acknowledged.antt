@@ -173,8 +173,7 @@ module _ (m time id lent : List ℕ) (small : AreBytes id) {r : Answer} {x : Lis
 
   pub counted : (length (split (fieldSeparator w) (getD (segments w) 0 [])) ≡ 12) × (length (split (fieldSeparator w) (getD (segments w) 1 [])) ≡ 3)
   counted =
-      let c = W.parts-counted h (sound .0) (sound .1) time id (against .0) small (writes .code) in
-      (
+      let c = W.parts-counted h (sound .0) (sound .1) time id (against .0) small (writes .code) in (
         ap (λ (b : List ℕ). length (split (fieldSeparator b) (getD (segments b) 0 []))) (writes .bytes) ∙ c .0,
         ap (λ (b : List ℕ). length (split (fieldSeparator b) (getD (segments b) 1 []))) (writes .bytes) ∙ c .1,
       )
@@ -186,8 +185,7 @@ module _ (m time id lent : List ℕ) (small : AreBytes id) {r : Answer} {x : Lis
   pub stamped : (rawBytes w (fieldAddress 7) ≡ time) × (rawBytes w (fieldAddress 8) ≡ []) × (rawBytes w (fieldAddress 9) ≡ typeSent m)
       × (rawBytes w (fieldAddress 11) ≡ rawBytes m (fieldAddress 11)) × (rawBytes w (fieldAddress 12) ≡ ascii "2.4")
   stamped =
-      let c = W.stamped h (sound .0) (sound .1) time id (against .0) small (writes .code) in
-      (
+      let c = W.stamped h (sound .0) (sound .1) time id (against .0) small (writes .code) in (
         written-field 7 time (c .0),
         written-field 8 [] (c .1),
         written-field 9 (typeSent m) (c .2 ∙ type-sent m (return-inside m (against .2)) (sound .0)),

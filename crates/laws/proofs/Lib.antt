@@ -17,3 +17,4 @@ pub mod ControlId
 pub mod SenderLaws
 pub mod WrittenLaws
 pub mod Acknowledged
+pub mod SpeltLaws

@@ -351,8 +351,7 @@ module _ (h : List ℕ) (o : Opened h) (one : find carriageReturn h + 1 ≡ leng
     pub parts-counted : (length (split (fieldSeparator written) (getD (segments written) 0 [])) ≡ 12) × (length (split (fieldSeparator written) (getD (segments written) 1 [])) ≡ 3)
     unfolding headerParts answerParts
     parts-counted =
-        let same = ap (λ (l : List ℕ). getD l 0 0) same-delimiters in
-        (
+        let same = ap (λ (l : List ℕ). getD l 0 0) same-delimiters in (
           ap₂ (λ (x : ℕ) (ss : List (List ℕ)). length (split x (getD ss 0 []))) same segments-written ∙ ap length first-parts,
           ap₂ (λ (x : ℕ) (ss : List (List ℕ)). length (split x (getD ss 1 []))) same segments-written ∙ ap length second-parts,
         )
