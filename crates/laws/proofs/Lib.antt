@@ -18,3 +18,4 @@ pub mod SenderLaws
 pub mod WrittenLaws
 pub mod Acknowledged
 pub mod SpeltLaws
+pub mod SpeltNumbersLaws
