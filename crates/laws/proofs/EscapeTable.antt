@@ -16,11 +16,11 @@ use Rattle.text.specs.Escape.{letters, escapeOf}
 
 -- ---- a test of every number below n, computed
 
-every : ℕ → (ℕ → Bool) → Bool
+unfoldable pub every : ℕ → (ℕ → Bool) → Bool
 every zero P = true
 every (suc n) P = P n && every n P
 
-every-at : (n : ℕ) (P : ℕ → Bool) → every n P ≡ true → (k : ℕ) → k < n → P k ≡ true
+pub every-at : (n : ℕ) (P : ℕ → Bool) → every n P ≡ true → (k : ℕ) → k < n → P k ≡ true
 unfolding every
 every-at zero P e k h = absurd (omega arith)
 every-at (suc n) P e k h = at (eqb k n) refl (every-at n P (and-both (P n) (every n P) e .1) k)

@@ -19,3 +19,4 @@ pub mod WrittenLaws
 pub mod Acknowledged
 pub mod SpeltLaws
 pub mod SpeltNumbersLaws
+pub mod TableLaws

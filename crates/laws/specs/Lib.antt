@@ -1,3 +1,4 @@
 pub mod Means
+pub mod Tables
 pub mod Spelt
 pub mod SpeltNumbers
