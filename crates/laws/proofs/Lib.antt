@@ -20,3 +20,4 @@ pub mod Acknowledged
 pub mod SpeltLaws
 pub mod SpeltNumbersLaws
 pub mod TableLaws
+pub mod EscapeRows

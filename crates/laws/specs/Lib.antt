@@ -1,4 +1,5 @@
 pub mod Means
 pub mod Tables
+pub mod Escapes
 pub mod Spelt
 pub mod SpeltNumbers

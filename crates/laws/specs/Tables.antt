@@ -59,12 +59,3 @@ smallHexDigits = ascii "0123456789abcdef"
 
 abbrev pub hexNumber : ℕ → ℕ
 hexNumber b = min (find b hexDigits) (find b smallHexDigits)
-
--- "`\F\` field, `\S\` component, `\T\` subcomponent, `\R\` repetition, `\E\` escape": each letter beside the byte of the header that it means, for the
--- delimiters in the header's order: field, component, repetition, escape, subcomponent
-pub data Means (field component repetition escape subcomponent : ℕ) : String → ℕ → Type 0 where
-  F : Means field component repetition escape subcomponent "F" field
-  S : Means field component repetition escape subcomponent "S" component
-  T : Means field component repetition escape subcomponent "T" subcomponent
-  R : Means field component repetition escape subcomponent "R" repetition
-  E : Means field component repetition escape subcomponent "E" escape
