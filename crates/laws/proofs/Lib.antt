@@ -21,3 +21,4 @@ pub mod SpeltLaws
 pub mod SpeltNumbersLaws
 pub mod TableLaws
 pub mod EscapeRows
+pub mod FaultyLaws
