@@ -19,7 +19,8 @@ use Rattle.alphabet.specs.declared.answers.Check.the-variants.{Passes, Fails}
 use Rattle.alphabet.specs.declared.answers.Refusal.{Refusal}
 use Rattle.alphabet.specs.declared.answers.Refusal.the-variants.{Length, Header, Delimiter, NotAllowed, NotEnded, SegmentName, SecondHeader, TooManySegments}
 use Rattle.alphabet.proofs.BoolLaws.{and-both, both-and, or-neither, false-true}
-use Rattle.alphabet.proofs.CheckLaws.{both-pass, passes-not}
+use Rattle.alphabet.proofs.CheckLaws.{both-pass, fails-if, passes-if, passes-not}
+use Rattle.alphabet.proofs.DelimiterLaws.{wrong-most}
 use Rattle.alphabet.proofs.ListLaws.{first-passes, first-before, first-le, find-is, first-least}
 use Rattle.reading.specs.Segments.{segments, delimitersOf, fieldSeparator, named, isHeader}
 use Rattle.reading.specs.Reading.{lengthCheck, headed, headerCheck, delimiterCheck, byteCheck, opening, endCheck, segmentCheck, segmentChecks, segmentsCheck, reading}
@@ -195,6 +196,26 @@ segment-sound m k at e other bad =
     against n g f (BadSegment.name z w) = false-true (sym w ∙ g)
     against n g f (second z w l h) = false-true (sym f ∙ both-and (lt-ltb 0 k l) h)
 
+-- one segment on: its number, and where its first byte stands
+shift : (sep k at : ℕ) (s : List ℕ) (ss : List (List ℕ)) (j : ℕ) (c : Check)
+    → segmentCheck sep (k + 1 + j) (at + length s + 1 + length (ended (take j ss))) (getD ss j []) ≡ c
+    → segmentCheck sep (k + suc j) (at + length (ended (take (suc j) (s ∷ ss)))) (getD ss j []) ≡ c
+unfolding ended
+shift sep k at s ss j c q =
+    let l = length-append s (carriageReturn ∷ ended (take j ss)) in
+    let n : k + suc j ≡ k + 1 + j = omega arith in
+    let further : at + length (s ++ carriageReturn ∷ ended (take j ss)) ≡ at + length s + 1 + length (ended (take j ss)) = omega arith in
+    ap₂ (λ (x y : ℕ). segmentCheck sep x y (getD ss j [])) n further ∙ q
+
+-- where all checks pass, each does
+all-pass : (m : List ℕ) (ss : List (List ℕ)) (k at : ℕ) → inOrder (segmentChecks (fieldSeparator m) k at ss) ≡ Passes → (j : ℕ) → j < length ss
+    → segmentCheck (fieldSeparator m) (k + j) (at + length (ended (take j ss))) (getD ss j []) ≡ Passes
+unfolding segmentChecks ended
+all-pass m [] k at e j h = absurd (omega arith)
+all-pass m (s ∷ ss) k at e zero h = ap₂ (λ (x y : ℕ). segmentCheck (fieldSeparator m) x y s) (add-zero k) (add-zero at) ∙ both-pass (segmentCheck (fieldSeparator m) k at s) _ e .0
+all-pass m (s ∷ ss) k at e (suc j) h =
+    shift (fieldSeparator m) k at s ss j Passes (all-pass m ss (k + 1) (at + length s + 1) (both-pass (segmentCheck (fieldSeparator m) k at s) _ e .1) j (omega arith))
+
 -- the first segment whose check fails: those before it pass, and its place is that of its first byte
 pub record Failing (m : List ℕ) (ss : List (List ℕ)) (k at : ℕ) (kind : Refusal) (place : ℕ) : Type 0 where
   pub number : ℕ
@@ -209,13 +230,6 @@ first-failing m (s ∷ ss) k at kind place e = by (either (segmentCheck (fieldSe
   where
     sep : ℕ
     sep = fieldSeparator m
-
-    further : (j : ℕ) → at + length s + 1 + length (ended (take j ss)) ≡ at + length (s ++ carriageReturn ∷ ended (take j ss))
-    further j = let n = length-append s (carriageReturn ∷ ended (take j ss)) in omega arith
-
-    shift : (j : ℕ) (c : Check) → segmentCheck sep (k + 1 + j) (at + length s + 1 + length (ended (take j ss))) (getD ss j []) ≡ c
-        → segmentCheck sep (k + suc j) (at + length (s ++ carriageReturn ∷ ended (take j ss))) (getD ss j []) ≡ c
-    shift j c q = let n : k + suc j ≡ k + 1 + j = omega arith in ap₂ (λ (x y : ℕ). segmentCheck sep x y (getD ss j [])) n (sym (further j)) ∙ q
 
     by : (segmentCheck sep k at s ≡ Fails kind place) ⊎ ((segmentCheck sep k at s ≡ Passes) × (inOrder (segmentChecks sep (k + 1) (at + length s + 1) ss) ≡ Fails kind place))
         → (inOrder (segmentChecks sep (k + 1) (at + length s + 1) ss) ≡ Fails kind place → Failing m ss (k + 1) (at + length s + 1) kind place)
@@ -233,13 +247,13 @@ first-failing m (s ∷ ss) k at kind place e = by (either (segmentCheck (fieldSe
           number = suc (r .number);
           inside = omega arith;
           passed = λ j. before j r;
-          fails = shift (r .number) (Fails kind place) (r .fails);
+          fails = shift sep k at s ss (r .number) (Fails kind place) (r .fails);
         }
       where
         before : (j : ℕ) (r : Failing m ss (k + 1) (at + length s + 1) kind place) → j < suc (r .number)
             → segmentCheck sep (k + j) (at + length (ended (take j (s ∷ ss)))) (getD (s ∷ ss) j []) ≡ Passes
         before zero r h = ap₂ (λ (x y : ℕ). segmentCheck sep x y s) (add-zero k) (add-zero at) ∙ f .0
-        before (suc j) r h = shift j Passes (r .passed j (omega arith))
+        before (suc j) r h = shift sep k at s ss j Passes (r .passed j (omega arith))
 
 -- ---- the reader's refusal
 
@@ -334,3 +348,93 @@ module _ (m : List ℕ) (kind : Refusal) (place : ℕ) where
       one : (opening m ≡ Fails kind place) ⊎ ((opening m ≡ Passes) × (inOrder (endCheck m ∷ segmentsCheck m ∷ []) ≡ Fails kind place)) → Faulty m kind place
       one (inl f) = in-opening f
       one (inr f) = two (opening-sound (f .0)) (either (endCheck m) _ kind place (f .1))
+
+-- ---- and back: the first fault is what the reader refuses by
+
+bad-once : {m : List ℕ} {k : ℕ} {kind other : Refusal} → BadSegment m k kind → BadSegment m k other → kind ≡ other
+bad-once (one-too-many e) (one-too-many f) = refl
+bad-once (one-too-many e) (BadSegment.name n w) = absurd (n e)
+bad-once (one-too-many e) (second n w l h) = absurd (n e)
+bad-once (BadSegment.name n w) (one-too-many f) = absurd (n f)
+bad-once (BadSegment.name n w) (BadSegment.name o x) = refl
+bad-once (BadSegment.name n w) (second o x l h) = absurd (false-true (sym w ∙ x))
+bad-once (second n w l h) (one-too-many f) = absurd (n f)
+bad-once (second n w l h) (BadSegment.name o x) = absurd (false-true (sym x ∙ w))
+bad-once (second n w l h) (second o x k j) = refl
+
+-- a test whose one answer cannot be
+is-true : (t : Bool) → (t ≡ false → ⊥) → t ≡ true
+is-true true n = refl
+is-true false n = absurd (n refl)
+
+is-false : (t : Bool) → (t ≡ true → ⊥) → t ≡ false
+is-false true n = absurd (n refl)
+is-false false n = refl
+
+-- two numbers of which neither is less
+same-place : (p q : ℕ) → (p < q → ⊥) → (q < p → ⊥) → p ≡ q
+same-place p q n o = at (leb (p + 1) q) refl (leb (q + 1) p) refl
+  where
+    at : (s : Bool) → leb (p + 1) q ≡ s → (t : Bool) → leb (q + 1) p ≡ t → p ≡ q
+    at true e t f = let l = leb-true (p + 1) q e in absurd (n (omega arith))
+    at false e true f = let l = leb-true (q + 1) p f in absurd (o (omega arith))
+    at false e false f = let l = leb-false (p + 1) q e in let k = leb-false (q + 1) p f in omega arith
+
+module _ (m : List ℕ) where
+  sized-passes : Sized m → lengthCheck m ≡ Passes
+  sized-passes s = passes-if (is-false _ (λ e. not-sized m e s)) Length 0
+
+  headed-passes : Headed m → headerCheck m ≡ Passes
+  headed-passes h = passes-if (ap not (is-headed m h)) Header 0
+
+  right-passes : ((q : ℕ) → 3 ≤ q → q < 8 → Wrong m q → ⊥) → delimiterCheck m ≡ Passes
+  right-passes n = passes-if (is-false _ (λ e. let l = ltb-true (wrongDelimiter (delimitersOf m)) 5 e in n _ (omega arith) (omega arith) (wrong-here m l))) Delimiter _
+
+  clean-passes : ((q : ℕ) → q < length m → allowed (getD m q 0) ≡ true) → byteCheck m ≡ Passes
+  clean-passes n =
+      passes-if (is-false _ (λ e. let l = ltb-true (first forbidden m) (length m) e in false-true (sym (not-true _ (first-passes forbidden m l)) ∙ n _ l))) NotAllowed _
+
+  opened : Sized m → Headed m → ((q : ℕ) → 3 ≤ q → q < 8 → Wrong m q → ⊥) → ((q : ℕ) → q < length m → allowed (getD m q 0) ≡ true) → opening m ≡ Passes
+  unfolding opening
+  opened s h d b = rw (sized-passes s, headed-passes h, right-passes d, clean-passes b)
+
+  abbrev start : ℕ → ℕ
+  start j = 0 + length (ended (take j (segments m)))
+
+  segments-fail : {kind : Refusal} (k : ℕ) → k < length (segments m) → BadSegment m k kind → ((j : ℕ) → j < k → (other : Refusal) → BadSegment m j other → ⊥)
+      → segmentsCheck m ≡ Fails kind (length (ended (take k (segments m))))
+  unfolding segmentsCheck
+  segments-fail {kind} k inside bad n = at (inOrder (segmentChecks (fieldSeparator m) 0 0 (segments m))) refl
+    where
+      own : (j : ℕ) (c : Check) → segmentCheck (fieldSeparator m) (0 + j) (start j) (getD (segments m) j []) ≡ c → segmentCheck (fieldSeparator m) j (start j) (getD (segments m) j []) ≡ c
+      own j c q = ap (λ (x : ℕ). segmentCheck (fieldSeparator m) x (start j) (getD (segments m) j [])) (sym (zero-add j)) ∙ q
+
+      at : (c : Check) → inOrder (segmentChecks (fieldSeparator m) 0 0 (segments m)) ≡ c → c ≡ Fails kind (length (ended (take k (segments m))))
+      at Passes e = absurd (segment-sound m k (start k) (own k Passes (all-pass m (segments m) 0 0 e k inside)) kind bad)
+      at (Fails other place) e =
+          let f = first-failing m (segments m) 0 0 other place e in
+          let b = segment-failed m (f .number) (start (f .number)) other place (own (f .number) (Fails other place) (f .fails)) in
+          let same : f .number ≡ k = same-place (f .number) k (λ l. n (f .number) l other (b .1)) (λ l. segment-sound m k (start k) (own k Passes (f .passed k l)) kind bad) in
+          let kinds = bad-once (subst (λ (x : ℕ). BadSegment m x other) same (b .1)) bad in
+          let places = b .0 ∙ zero-add (length (ended (take (f .number) (segments m)))) ∙ ap (λ (x : ℕ). length (ended (take x (segments m)))) same in
+          ap₂ Fails kinds places
+
+  pub faulty-so : {kind : Refusal} {place : ℕ} → Faulty m kind place → reading m ≡ Fails kind place
+  unfolding reading opening
+  faulty-so (Faulty.size n) = rw (fails-if (is-true _ (λ e. n (is-sized m e))) Length 0)
+  faulty-so (Faulty.header s n) = rw (sized-passes s, fails-if (ap not (is-false (headed m) (λ e. n (headed-is m e)))) Header 0)
+  faulty-so (Faulty.delimiter s h p l k w n) =
+      let most = wrong-most (delimitersOf m) in
+      let same : 3 + wrongDelimiter (delimitersOf m) ≡ p = same-place (3 + wrongDelimiter (delimitersOf m)) p (λ q. n _ (omega arith) q (wrong-here m (omega arith))) (λ q. right-before m p l q k w) in
+      let d = fails-if (lt-ltb (wrongDelimiter (delimitersOf m)) 5 (omega arith)) Delimiter (3 + wrongDelimiter (delimitersOf m)) in
+      rw (sized-passes s, headed-passes h, d, same)
+  faulty-so (Faulty.byte s h d p l f n) =
+      let same : first forbidden m ≡ p = same-place (first forbidden m) p (λ q. false-true (sym (not-true _ (first-passes forbidden m (omega arith))) ∙ n _ q)) (λ q. false-true (sym f ∙ not-false _ (first-before forbidden m p q))) in
+      let b = fails-if (lt-ltb (first forbidden m) (length m) (omega arith)) NotAllowed (first forbidden m) in
+      rw (sized-passes s, headed-passes h, right-passes d, b, same)
+  faulty-so (Faulty.unended s h d b n) =
+      let e = fails-if (ap not (ne-eqb (getD m (length m - 1) 0) carriageReturn n)) NotEnded (length m - 1) in
+      rw (sized-passes s, headed-passes h, right-passes d, clean-passes b, e)
+  faulty-so (Faulty.segment s h d b last k inside bad n) =
+      let e = passes-if (ap not (eq-eqb (getD m (length m - 1) 0) carriageReturn last)) NotEnded (length m - 1) in
+      rw (sized-passes s, headed-passes h, right-passes d, clean-passes b, e, segments-fail k inside bad n)
