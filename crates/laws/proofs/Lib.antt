@@ -22,3 +22,4 @@ pub mod SpeltNumbersLaws
 pub mod TableLaws
 pub mod EscapeRows
 pub mod FaultyLaws
+pub mod AskedFacts

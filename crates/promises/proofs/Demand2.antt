@@ -7,7 +7,6 @@ use mathlib.Core.List.{List, [], _∷_}
 use Prim.Native.Nat.{ℕ, _-_, _≤_}
 use native.Mathlib.Omega.{arith}
 use lib.Dec.{eqb}
-use lib.IntN.{pos}
 use lib.ListN.{length, getD, take, drop}
 use borrow.Author.Tests.{eqb-true, eqb-false}
 use Rattle.alphabet.specs.Answers.{numberOf, failsIf, answered}
@@ -33,12 +32,6 @@ use Rattle.element.specs.declared.Found.{Found}
 use Rattle.element.specs.declared.address.Address.{Address}
 use Rattle.element.proofs.FindingLaws.{within-element, lookup-read, lookup-long, found-passes, shown}
 use Rattle.element.proofs.LevelLaws.{within-segment, within-field, within-below}
-use Rattle.value.specs.Asked.{isPresent, numberFrom, timeFrom}
-use Rattle.calendar.specs.Calendar.{noTime}
-use Rattle.numbers.specs.declared.numerals.ReadNumber.{ReadNumber}
-use Rattle.times.specs.declared.moments.ReadTime.{ReadTime}
-use Rattle.value.specs.declared.asked.NumberFound.{NumberFound}
-use Rattle.value.proofs.AskedLaws.{number-present, number-other, time-present, time-other}
 use Rattle.text.specs.Escape.{escape}
 use Rattle.text.specs.Answers.{escaping, unescaping, answer, filled}
 use Rattle.acknowledgement.specs.Acknowledgement.{Acknowledges, fieldAddress as inHeader}
@@ -154,37 +147,6 @@ pub encoding-field : (m : List ℕ) → found m (inHeader 2) .answer .kind ≡ N
 encoding-field m done =
     let n = long m (inHeader 2) done in
     stands-at m (inHeader 2) done 4 8 (second-field m (lookup-read m (inHeader 2) (passes m (inHeader 2) done))) ∙ four-bytes m (omega arith)
-
--- ---- "its number or its time"
-
--- an element that is present gives what its own bytes say: r is what they are read as, by `nmRead`, `siRead`, `dtRead` and `timeRead`
-pub number-said : (m : List ℕ) (a : Address) (r : ReadNumber) → isPresent (found m a .element .state) ≡ true
-    → numberFrom (found m a) r ≡ record { answer = record { kind = r .kind; place = 0; length = 0 }; state = found m a .element .state; value = r .value; decimals = r .decimals }
-number-said m a r e = sym (number-present (found m a) r (r .value) e refl)
-
-pub time-said : (m : List ℕ) (a : Address) (r : ReadTime) → isPresent (found m a .element .state) ≡ true
-    → timeFrom (found m a) r ≡ record { answer = record { kind = r .kind; place = 0; length = 0 }; state = found m a .element .state; time = r .time }
-time-said m a r e = sym (time-present (found m a) r e)
-
--- "an element not present gives its state alone"
-pub number-alone : (m : List ℕ) (a : Address) (r : ReadNumber) → isPresent (found m a .element .state) ≡ false
-    → numberFrom (found m a) r ≡ record { answer = found m a .answer; state = found m a .element .state; value = pos 0; decimals = 0 }
-number-alone m a r e = sym (number-other (found m a) r e)
-
-pub time-alone : (m : List ℕ) (a : Address) (r : ReadTime) → isPresent (found m a .element .state) ≡ false
-    → timeFrom (found m a) r ≡ record { answer = found m a .answer; state = found m a .element .state; time = noTime }
-time-alone m a r e = sym (time-other (found m a) r noTime e refl)
-
--- "An empty box is not a zero": elements in different states never give the same answer, whatever their bytes
-state-kept : (m : List ℕ) (a : Address) (r : ReadNumber) → numberFrom (found m a) r .state ≡ found m a .element .state
-state-kept m a r = at (isPresent (found m a .element .state)) refl
-  where
-    at : (t : Bool) → isPresent (found m a .element .state) ≡ t → numberFrom (found m a) r .state ≡ found m a .element .state
-    at true e = ap (λ (x : NumberFound). x .state) (number-said m a r e)
-    at false e = ap (λ (x : NumberFound). x .state) (number-alone m a r e)
-
-pub empty-is-no-zero : (m n : List ℕ) (a b : Address) (r s : ReadNumber) → numberFrom (found m a) r ≡ numberFrom (found n b) s → found m a .element .state ≡ found n b .element .state
-empty-is-no-zero m n a b r s e = sym (state-kept m a r) ∙ ap (λ (x : NumberFound). x .state) e ∙ state-kept n b s
 
 -- ---- text
 

@@ -2,3 +2,4 @@ pub mod Entries
 pub mod Elements
 pub mod Acknowledgements
 pub mod Structures
+pub mod Values
