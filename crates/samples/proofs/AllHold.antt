@@ -9,16 +9,17 @@ use Rattle.alphabet.specs.Lists.{first}
 use Rattle.alphabet.specs.Parts.{split, standing, partAt}
 use Rattle.reading.specs.Segments.{allButLast, segments, segmentAt}
 use Rattle.reading.specs.Reading.{reading, opening, segmentsCheck, segmentChecks}
-use Rattle.element.specs.Finding.{found, lookupCheck, elementOf}
+use Rattle.element.specs.Finding.{found, lookupCheck, elementOf, bytesAt}
 use Rattle.element.specs.Levels.{partIn, fieldIn, below, repetitionAt, componentAt, elementAt}
 use Rattle.element.specs.States.{stateOf}
+use Rattle.value.specs.Asked.{numberFrom, timeFrom}
 use Rattle.text.specs.Escape.{escapeByte, escapeBytes, escape}
 use Rattle.text.specs.Unescape.{known, meaning, sequence, step, scan}
 use Rattle.text.specs.Answers.{fitting, escaping, unescaping, answer}
 use Rattle.numbers.specs.Numbers.{nmForm, unsigned, nmRead, nmCheck, nmValue}
 use Rattle.calendar.specs.Calendar.{validDate, validClock}
 use Rattle.times.specs.Times.{figureAt, dateOf, clockOf, offsetOf, fractionForm, zoneForm, timeForm, isTime, timeRead}
-use Rattle.samples.proofs.Structures.{sample-10, sample-11, sample-12}
+use Rattle.samples.proofs.Structures.{report-10, report-11, report-12}
 use Rattle.samples.specs.Table.{Row, Holds, All, ofText, ofNumbers, ofTimes, ofStates, ofStructures, samples}
 
 -- two parts of a table make one
@@ -32,12 +33,12 @@ unfolding All ofText Holds first wrongDelimiter fitting escaping unescaping answ
 texts = (refl, (refl, (refl, (refl, (refl, (refl, tt))))))
 
 numbers : All ofNumbers
-unfolding All ofNumbers Holds nmRead nmCheck nmValue nmForm first unsigned allDigits counted
-numbers = (refl, (refl, (refl, (refl, (refl, (refl, (refl, tt)))))))
+unfolding All ofNumbers Holds numberFrom nmRead nmCheck nmValue nmForm unsigned allDigits counted bytesAt found lookupCheck reading opening messageLimit segmentLimit wrongDelimiter first segmentsCheck segmentChecks segments allButLast split segmentAt standing elementOf elementAt componentAt repetitionAt below partIn partAt fieldIn stateOf
+numbers = (refl, (refl, ((refl, refl), ((refl, refl), ((refl, refl), (refl, ((refl, refl), tt)))))))
 
 times : All ofTimes
-unfolding All ofTimes Holds timeRead isTime timeForm allDigits first fractionForm zoneForm validDate dateOf figureAt counted validClock clockOf offsetOf
-times = (refl, (refl, (refl, tt)))
+unfolding All ofTimes Holds timeFrom timeRead isTime timeForm allDigits fractionForm zoneForm validDate dateOf figureAt counted validClock clockOf offsetOf bytesAt found lookupCheck reading opening messageLimit segmentLimit wrongDelimiter first segmentsCheck segmentChecks segments allButLast split segmentAt standing elementOf elementAt componentAt repetitionAt below partIn partAt fieldIn stateOf
+times = ((refl, refl), ((refl, refl), ((refl, refl), tt)))
 
 states : All ofStates
 unfolding All ofStates Holds found lookupCheck reading opening messageLimit segmentLimit wrongDelimiter first segmentsCheck segmentChecks segments allButLast split segmentAt standing elementOf elementAt componentAt repetitionAt below partIn partAt fieldIn stateOf
@@ -45,7 +46,7 @@ states = ((refl, refl), ((refl, refl), ((refl, refl), tt)))
 
 structures : All ofStructures
 unfolding All ofStructures Holds
-structures = ((refl, sample-10), ((refl, sample-11), ((refl, sample-12), tt)))
+structures = ((refl, report-10), ((refl, report-11), ((refl, report-12), tt)))
 
 -- "★ are proved together"
 pub all-hold : All samples

@@ -1,14 +1,25 @@
 -- Samples 10, 11 and 12 of document 01, and the observation group that may be empty, as theorems about the definitions. The walk is computed, and what it
 -- comes to is told by the laws. Assumes nothing.
-use mathlib.Core.Path.{_≡_, refl}
+use mathlib.Core.Path.{_≡_, refl, sym, subst}
 use mathlib.Core.Bool.{true, false}
 use mathlib.Core.List.{List, [], _∷_}
 use Prim.Native.Nat.{ℕ}
+use Rattle.alphabet.specs.Delimiters.{wrongDelimiter}
+use Rattle.alphabet.specs.Limits.{messageLimit, segmentLimit}
+use Rattle.alphabet.specs.Lists.{first, same}
+use Rattle.alphabet.specs.Parts.{split, standing, partAt}
+use Rattle.alphabet.specs.declared.answers.Check.the-variants.{Passes}
+use Rattle.reading.specs.Segments.{allButLast, segments, segmentAt}
+use Rattle.reading.specs.Reading.{reading, opening, segmentsCheck, segmentChecks}
+use Rattle.element.specs.Finding.{elementOf, rawBytes}
+use Rattle.element.specs.Levels.{partIn, fieldIn, below, repetitionAt, componentAt, elementAt}
+use Rattle.samples.specs.Table.{reportOf}
 use Rattle.structure.specs.Shapes.{Yields, names}
 use Rattle.structure.specs.Shapes.Spans.{ended, stand, skip, once, last, more}
-use Rattle.structure.specs.SegmentNames.{name, among, passedOver}
-use Rattle.structure.specs.Structures.{oruR01}
-use Rattle.structure.specs.Judged.{Judged, refusedAs}
+use Rattle.structure.specs.SegmentNames.{name, nameOf, segmentNames, among, passedOver}
+use Rattle.structure.specs.Structures.{oruR01, listed, chosen, structureOf, grammarOf}
+use Rattle.structure.specs.Judged.{Judged, refusedAs, by, Answers, read}
+use Rattle.structure.specs.declared.judging.Judgement.{Judgement}
 use Rattle.structure.specs.Engine.{into, gathered, endedWith, walked, listing, Tables}
 use Rattle.structure.specs.declared.walking.Walked.the-variants.{Misplaced, Early}
 use Rattle.structure.proofs.TableTest.{tables-of}
@@ -22,23 +33,41 @@ tables : Tables oruR01 (names oruR01) follow 16128 (into 1)
 tables = tables-of oruR01 (names oruR01) follow 16128 (into 1) refl tt tt
 
 -- "MSH alone as ORU: 22; PID, ORC, OBR; could not end."
-pub sample-10 : Judged oruR01 (name "MSH" ∷ []) (refusedAs 1 1 false (name "PID" ∷ name "ORC" ∷ name "OBR" ∷ []))
+sample-10 : Judged oruR01 (name "MSH" ∷ []) (refusedAs 1 1 false (name "PID" ∷ name "ORC" ∷ name "OBR" ∷ []))
 unfolding among passedOver gathered endedWith walked listing
 sample-10 = told-early oruR01 (names oruR01) follow 16128 (into 1) tables (name "MSH" ∷ []) 1 386 _ refl (Early 1 386) refl refl
 
 -- "MSH PID EVN: 21 at segment 2; PD1, NK1, NTE, PV1, ORC, OBR; could not end."
-pub sample-11 : Judged oruR01 (name "MSH" ∷ name "PID" ∷ name "EVN" ∷ [])
+sample-11 : Judged oruR01 (name "MSH" ∷ name "PID" ∷ name "EVN" ∷ [])
     (refusedAs 3 2 false (name "PD1" ∷ name "NK1" ∷ name "NTE" ∷ name "PV1" ∷ name "ORC" ∷ name "OBR" ∷ []))
 unfolding among passedOver gathered endedWith walked listing
 sample-11 =
     told-misplaced oruR01 (names oruR01) follow 16128 (into 1) tables (name "MSH" ∷ name "PID" ∷ name "EVN" ∷ []) 2 444 _ refl false (Misplaced 2 444 false) refl refl
 
 -- "MSH OBR EVN: 21 at segment 2; PID, ORC, OBR, NTE, OBX, CTI, DSC; could end."
-pub sample-12 : Judged oruR01 (name "MSH" ∷ name "OBR" ∷ name "EVN" ∷ [])
+sample-12 : Judged oruR01 (name "MSH" ∷ name "OBR" ∷ name "EVN" ∷ [])
     (refusedAs 3 2 true (name "PID" ∷ name "ORC" ∷ name "OBR" ∷ name "NTE" ∷ name "OBX" ∷ name "CTI" ∷ name "DSC" ∷ []))
 unfolding among passedOver gathered endedWith walked listing
 sample-12 =
     told-misplaced oruR01 (names oruR01) follow 16128 (into 1) tables (name "MSH" ∷ name "OBR" ∷ name "EVN" ∷ []) 2 16258 _ refl true (Misplaced 2 16258 true) refl refl
+
+-- the messages themselves: each is read, its type is ORU^R01, and its names are the sample's
+report : (m ns : List ℕ) {j : Judgement} → reading m ≡ Passes → grammarOf (structureOf m) ≡ listed oruR01 → segmentNames m ≡ ns → Judged oruR01 ns j → Answers m j
+report m ns {j} r g n k = read r (by oruR01 g (subst (λ (l : List ℕ). Judged oruR01 l j) (sym n) k))
+
+pub report-10 : Answers (reportOf []) (refusedAs 1 1 false (name "PID" ∷ name "ORC" ∷ name "OBR" ∷ []))
+unfolding rawBytes reading opening messageLimit segmentLimit wrongDelimiter first segmentsCheck segmentChecks segments allButLast split structureOf chosen same segmentNames nameOf segmentAt standing elementOf elementAt componentAt repetitionAt below partIn partAt fieldIn
+report-10 = report (reportOf []) _ refl refl refl sample-10
+
+pub report-11 : Answers (reportOf ("PID" ∷ "EVN" ∷ []))
+    (refusedAs 3 2 false (name "PD1" ∷ name "NK1" ∷ name "NTE" ∷ name "PV1" ∷ name "ORC" ∷ name "OBR" ∷ []))
+unfolding rawBytes reading opening messageLimit segmentLimit wrongDelimiter first segmentsCheck segmentChecks segments allButLast split structureOf chosen same segmentNames nameOf segmentAt standing elementOf elementAt componentAt repetitionAt below partIn partAt fieldIn
+report-11 = report (reportOf ("PID" ∷ "EVN" ∷ [])) _ refl refl refl sample-11
+
+pub report-12 : Answers (reportOf ("OBR" ∷ "EVN" ∷ []))
+    (refusedAs 3 2 true (name "PID" ∷ name "ORC" ∷ name "OBR" ∷ name "NTE" ∷ name "OBX" ∷ name "CTI" ∷ name "DSC" ∷ []))
+unfolding rawBytes reading opening messageLimit segmentLimit wrongDelimiter first segmentsCheck segmentChecks segments allButLast split structureOf chosen same segmentNames nameOf segmentAt standing elementOf elementAt componentAt repetitionAt below partIn partAt fieldIn
+report-12 = report (reportOf ("OBR" ∷ "EVN" ∷ [])) _ refl refl refl sample-12
 
 -- "the observation group, whose body may be empty": MSH OBR is yielded with the group taken twice and empty both times
 pub empty-group : Yields oruR01 (name "MSH" ∷ name "OBR" ∷ [])

@@ -1,6 +1,6 @@
 -- The starred samples of document 01, 'Samples', as one table. A row says what comes of some bytes; `Holds` says it by the definitions that the
 -- public contracts cite.
-use Prim.Native.Nat.{ℕ}
+use Prim.Native.Nat.{ℕ, _+_}
 use Prim.Native.String.{String}
 use lib.IntN.{ℤ, pos, negℤ}
 use mathlib.Core.Path.{_≡_}
@@ -11,15 +11,14 @@ use Rattle.alphabet.specs.Bytes.{ascii}
 use Rattle.alphabet.specs.Answers.{numberOf}
 use Rattle.alphabet.specs.declared.answers.Refusal.the-variants.{None}
 use Rattle.element.specs.Finding.{found}
+use Rattle.element.specs.declared.address.Address.{Address}
 use Rattle.element.specs.declared.states.State.{State}
-use Rattle.element.specs.declared.states.State.the-variants.{Absent, Empty}
-use Rattle.numbers.specs.Numbers.{nmRead}
-use Rattle.times.specs.Times.{timeRead}
+use Rattle.element.specs.declared.states.State.the-variants.{Absent, Empty, Present}
+use Rattle.value.specs.Asked.{nmFound, tsFound}
 use Rattle.text.specs.Unescape.{text}
 use Rattle.text.specs.Answers.{escaping, unescaping, answer}
 use Rattle.structure.specs.SegmentNames.{name}
-use Rattle.structure.specs.Structures.{oruR01}
-use Rattle.structure.specs.Judged.{Judged, refusedAs}
+use Rattle.structure.specs.Judged.{Answers, refusedAs}
 
 -- a row of the table
 pub data Row : Type 0 where
@@ -29,17 +28,17 @@ pub data Row : Type 0 where
   says-not : String → ℕ → Row
   -- a text, and what it is written as
   is-written : String → String → Row
-  -- an NM, its digits as a whole number and its decimals
+  -- a field asked as NM, its digits as a whole number and its decimals
   is-number : String → ℤ → ℕ → Row
-  -- bytes that are refused as NM, and the number
+  -- a field that is refused as NM, and the number
   no-number : String → ℕ → Row
-  -- bytes that pass as TS
+  -- a field that passes as TS
   is-time : String → Row
-  -- bytes that are refused as TS, and the number
+  -- a field that is refused as TS, and the number
   no-time : String → ℕ → Row
   -- a segment behind MSH, a field of it, and its state
   has-state : String → ℕ → State → Row
-  -- the names of an ORU^R01, the number, the place, the names that could have stood there, and whether it could have ended there
+  -- the names behind MSH in an ORU^R01, the number, the place, the names that could have stood there, and whether it could have ended there
   is-refused : List String → ℕ → ℕ → List String → Bool → Row
 
 -- the usual delimiters
@@ -50,23 +49,36 @@ usual = ascii "|^~\\&"
 abbrev pub messageOf : String → List ℕ
 messageOf s = ascii "MSH|^~\\&|" ++ 13 ∷ ascii s ++ 13 ∷ []
 
-abbrev pub judged : List String → ℕ → List String → Bool → Type 0
-judged ns place could ends = Judged oruR01 (map name ns) (refusedAs (length ns) place ends (map name could))
+-- field f of that segment, the whole
+abbrev pub inSegment : ℕ → Address
+inSegment f = record { segment = 1; field = f; repetition = 0; component = 0; subcomponent = 0 }
+
+-- a message with an OBX whose field 1 has these bytes
+abbrev pub withField : String → List ℕ
+withField s = ascii "MSH|^~\\&|" ++ 13 ∷ ascii "OBX|" ++ ascii s ++ 13 ∷ []
+
+-- an ORU^R01 of MSH and segments of these names
+abbrev pub named : List String → List ℕ
+named [] = []
+named (n ∷ ns) = ascii n ++ 13 ∷ named ns
+
+abbrev pub reportOf : List String → List ℕ
+reportOf ns = ascii "MSH|^~\\&|||||||ORU^R01" ++ 13 ∷ named ns
 
 -- what a row says, by the definitions; the room is more than any sample needs
 unfoldable pub Holds : Row → Type 0
 Holds (says written t) = unescaping usual (ascii written) 100 ≡ text (ascii t)
 Holds (says-not written n) = numberOf (answer (unescaping usual (ascii written) 100) .kind) ≡ n
 Holds (is-written t written) = escaping usual (ascii t) 100 ≡ text (ascii written)
-Holds (is-number bytes value decimals) = nmRead (ascii bytes) ≡ record { kind = None; value = value; decimals = decimals }
-Holds (no-number bytes n) = numberOf (nmRead (ascii bytes) .kind) ≡ n
-Holds (is-time bytes) = timeRead true (ascii bytes) .kind ≡ None
-Holds (no-time bytes n) = numberOf (timeRead true (ascii bytes) .kind) ≡ n
+Holds (is-number bytes value decimals) =
+    nmFound (withField bytes) (inSegment 1) ≡ record { answer = record { kind = None; place = 0; length = 0 }; state = Present; value = value; decimals = decimals }
+Holds (no-number bytes n) = (numberOf (nmFound (withField bytes) (inSegment 1) .answer .kind) ≡ n) × (nmFound (withField bytes) (inSegment 1) .state ≡ Present)
+Holds (is-time bytes) = (tsFound (withField bytes) (inSegment 1) .answer .kind ≡ None) × (tsFound (withField bytes) (inSegment 1) .state ≡ Present)
+Holds (no-time bytes n) = (numberOf (tsFound (withField bytes) (inSegment 1) .answer .kind) ≡ n) × (tsFound (withField bytes) (inSegment 1) .state ≡ Present)
 Holds (has-state s f state) =
-    (found (messageOf s) (record { segment = 1; field = f; repetition = 0; component = 0; subcomponent = 0 }) .answer .kind ≡ None)
-    × (found (messageOf s) (record { segment = 1; field = f; repetition = 0; component = 0; subcomponent = 0 }) .element .state ≡ state)
+    (found (messageOf s) (inSegment f) .answer .kind ≡ None) × (found (messageOf s) (inSegment f) .element .state ≡ state)
 Holds (is-refused ns n place could ends) =
-    (numberOf (refusedAs (length ns) place ends (map name could) .kind) ≡ n) × judged ns place could ends
+    (numberOf (refusedAs (1 + length ns) place ends (map name could) .kind) ≡ n) × Answers (reportOf ns) (refusedAs (1 + length ns) place ends (map name could))
 
 -- every row of a table
 unfoldable pub All : List Row → Type 0
@@ -107,9 +119,9 @@ ofStates = has-state "PID|" 1 Empty ∷ has-state "PID|" 2 Absent ∷ has-state 
 -- 10 to 12: "MSH alone as ORU: 22; PID, ORC, OBR; could not end." ..
 unfoldable pub ofStructures : List Row
 ofStructures =
-    is-refused ("MSH" ∷ []) 22 1 ("PID" ∷ "ORC" ∷ "OBR" ∷ []) false
-    ∷ is-refused ("MSH" ∷ "PID" ∷ "EVN" ∷ []) 21 2 ("PD1" ∷ "NK1" ∷ "NTE" ∷ "PV1" ∷ "ORC" ∷ "OBR" ∷ []) false
-    ∷ is-refused ("MSH" ∷ "OBR" ∷ "EVN" ∷ []) 21 2 ("PID" ∷ "ORC" ∷ "OBR" ∷ "NTE" ∷ "OBX" ∷ "CTI" ∷ "DSC" ∷ []) true
+    is-refused [] 22 1 ("PID" ∷ "ORC" ∷ "OBR" ∷ []) false
+    ∷ is-refused ("PID" ∷ "EVN" ∷ []) 21 2 ("PD1" ∷ "NK1" ∷ "NTE" ∷ "PV1" ∷ "ORC" ∷ "OBR" ∷ []) false
+    ∷ is-refused ("OBR" ∷ "EVN" ∷ []) 21 2 ("PID" ∷ "ORC" ∷ "OBR" ∷ "NTE" ∷ "OBX" ∷ "CTI" ∷ "DSC" ∷ []) true
     ∷ []
 
 -- the table
