@@ -23,3 +23,4 @@ pub mod TableLaws
 pub mod EscapeRows
 pub mod FaultyLaws
 pub mod AskedFacts
+pub mod TextRoom

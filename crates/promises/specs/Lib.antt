@@ -3,3 +3,4 @@ pub mod Elements
 pub mod Acknowledgements
 pub mod Structures
 pub mod Values
+pub mod Texts

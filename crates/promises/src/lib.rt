@@ -1,2 +1,41 @@
-// The three demands of the mission as theorems, each proved from the definitions that the public contracts cite. It has no code: docs/PROMISES.md
-// leads from each sentence to its theorem.
+// The three demands of the mission as theorems, each proved from the definitions that the public contracts cite; docs/PROMISES.md leads from
+// each sentence to its theorem. Two sentences are about slices, whose elements are bytes by their type and not by a premise: these stand here as
+// the contracts of functions that do what a caller does.
+ghost use mathlib.Core.Path.{_≡_};
+ghost use Prim.Native.Nat.{_≤_};
+ghost use lib.ListN.{length, take};
+ghost use Rattle.alphabet.specs.Delimiters.{wrongDelimiter};
+ghost use Rattle.alphabet.specs.Filling.{over};
+ghost use Rattle.alphabet.specs.declared.answers.Refusal.the-variants.{None};
+ghost use Rattle.text.specs.Escape.{escape as Escape·escape};
+ghost use Rattle.text.specs.Answers.{escaping, unescaping, answer, filled};
+ghost use Rattle.acknowledgement.specs.Acknowledgement.{Acknowledges};
+ghost use Rattle.promises.specs.Texts.{left, ComesBack};
+ghost use Rattle.promises.specs.Acknowledgements.{Carries};
+use alphabet::Answer;
+use alphabet::Delimiters;
+
+// "Text of any bytes, escaped and then unescaped under the same permitted delimiters, comes back the same where both buffers have room."
+pub fn write_and_read(
+    delimiters: Delimiters,
+    text: &[u8],
+    written: &mut [u8],
+    back: &mut [u8],
+) -> Answer
+    ensures { λ r. ⌜ r ≡ answer (unescaping (delimiters .bytes) (left (delimiters .bytes) (now (text .entry)) (now (written .entry))) (length (now (back .entry)))) ⌝ }
+    ensures { λ _. ⌜ now (written .exit) ≡ filled (escaping (delimiters .bytes) (now (text .entry)) (length (now (written .entry)))) (now (written .entry)) ⌝ }
+    ensures { λ _. ⌜ now (back .exit) ≡ filled (unescaping (delimiters .bytes) (left (delimiters .bytes) (now (text .entry)) (now (written .entry))) (length (now (back .entry)))) (now (back .entry)) ⌝ }
+    ensures { λ r. ⌜ ComesBack (delimiters .bytes) (now (text .entry)) (length (now (written .entry))) (now (back .entry)) r (now (back .exit)) ⌝ }
+{
+    let there = text::escape(delimiters, text, written);
+    let length = there.length;
+    text::unescape(delimiters, &written[..length], back)
+}
+
+// "Every acknowledgement written reads back through our reader, fits the ACK structure and carries the sender's own control ID."
+pub fn acknowledge<'a>(message: &'a [u8], time: &'a [u8], id: &[u8], buffer: &mut [u8]) -> Answer
+    ensures { λ r. ⌜ Acknowledges (now (message .entry)) (now (time .entry)) (now (id .entry)) (now (buffer .entry)) r (now (buffer .exit)) ⌝ }
+    ensures { λ r. ⌜ (r .kind ≡ None → Carries (now (message .entry)) (now (time .entry)) (now (id .entry)) (take (r .length) (now (buffer .exit)))) ⌝ }
+{
+    acknowledgement::acknowledge(message, time, id, buffer)
+}
