@@ -18,3 +18,5 @@ pub mod SenderLaws
 pub mod WrittenLaws
 pub mod Acknowledged
 pub mod SpeltLaws
+pub mod SpeltDates
+pub mod SpeltTimesLaws

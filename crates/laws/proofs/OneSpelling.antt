@@ -66,7 +66,7 @@ or-cases : (x y : Bool) → (x || y) ≡ true → (x ≡ true) ⊎ (y ≡ true)
 or-cases true y e = inl refl
 or-cases false y e = inr e
 
-three : (n a b c : ℕ) → (eqb n a || (eqb n b || eqb n c)) ≡ true → (n ≡ a) ⊎ ((n ≡ b) ⊎ (n ≡ c))
+pub three : (n a b c : ℕ) → (eqb n a || (eqb n b || eqb n c)) ≡ true → (n ≡ a) ⊎ ((n ≡ b) ⊎ (n ≡ c))
 three n a b c e =
     ⊎-elim (λ p. inl (eqb-true n a p))
     (λ p. ⊎-elim (λ q. inr (inl (eqb-true n b q))) (λ q. inr (inr (eqb-true n c q))) (or-cases (eqb n b) (eqb n c) p))

@@ -1,2 +1,3 @@
 pub mod Means
 pub mod Spelt
+pub mod SpeltTimes
