@@ -19,4 +19,5 @@ pub mod WrittenLaws
 pub mod Acknowledged
 pub mod SpeltLaws
 pub mod SpeltDates
+pub mod SpeltClocks
 pub mod SpeltTimesLaws

@@ -54,24 +54,24 @@ is-leap y e =
         (y / 400, omega arith)
 
 -- the table of months gives the days that `daysIn` has
-last-day-is : {y m last : ℕ} → LastDay y m last → (daysIn y m ≡ last) × (1 ≤ m) × (m ≤ 12)
-last-day-is january = (refl, omega arith, omega arith)
-last-day-is {y} (february no-leap) = (at (leap y) refl, omega arith, omega arith)
+last-day-is : {y m last : ℕ} → LastDay y m last → daysIn y m ≡ last
+last-day-is january = refl
+last-day-is {y} (february no-leap) = at (leap y) refl
   where
     at : (t : Bool) → leap y ≡ t → daysIn y 2 ≡ 28
     at true q = absurd (no-leap (is-leap y q))
     at false q = rw q
-last-day-is {y} (leap-february r) = (rw (leap-is y r), omega arith, omega arith)
-last-day-is march = (refl, omega arith, omega arith)
-last-day-is april = (refl, omega arith, omega arith)
-last-day-is may = (refl, omega arith, omega arith)
-last-day-is june = (refl, omega arith, omega arith)
-last-day-is july = (refl, omega arith, omega arith)
-last-day-is august = (refl, omega arith, omega arith)
-last-day-is september = (refl, omega arith, omega arith)
-last-day-is october = (refl, omega arith, omega arith)
-last-day-is november = (refl, omega arith, omega arith)
-last-day-is december = (refl, omega arith, omega arith)
+last-day-is {y} (leap-february r) = rw (leap-is y r)
+last-day-is march = refl
+last-day-is april = refl
+last-day-is may = refl
+last-day-is june = refl
+last-day-is july = refl
+last-day-is august = refl
+last-day-is september = refl
+last-day-is october = refl
+last-day-is november = refl
+last-day-is december = refl
 
 is-last-day : (y m : ℕ) → 1 ≤ m → m ≤ 12 → LastDay y m (daysIn y m)
 is-last-day y m least most =
@@ -148,7 +148,6 @@ is-day (day {yyyy} {mm} {dd} {y} {m} {d} year month last days) =
     let c1 = c .1 in
     let n = length-append yyyy (mm ++ dd) in
     let k = length-append mm dd in
-    let t = last-day-is last in
     record {
       digits = digits-append yyyy (mm ++ dd) ∙ both-and (a .0) (digits-append mm dd ∙ both-and (b .0) (c .0));
       long = omega arith;
@@ -161,7 +160,7 @@ is-day (day {yyyy} {mm} {dd} {y} {m} {d} year month last days) =
             month = (figure-past yyyy (mm ++ (dd ++ r)) 4 0 2 a1 ∙ figure-here (dd ++ r) (month .0)) i;
             day = (figure-past yyyy (mm ++ (dd ++ r)) 4 2 2 a1 ∙ figure-past mm (dd ++ r) 2 0 2 b1 ∙ figure-here r (days .0)) i;
           });
-      valid = both-and (within (year .1) (year .2)) (both-and (within (month .1) (month .2)) (within (days .1) (subst (λ (x : ℕ). d ≤ x) (sym (t .0)) (days .2))));
+      valid = both-and (within (year .1) (year .2)) (both-and (within (month .1) (month .2)) (within (days .1) (subst (λ (x : ℕ). d ≤ x) (sym (last-day-is last)) (days .2))));
     }
 
 -- eight digits or more whose date is accepted begin with a whole date

@@ -26,6 +26,10 @@ Year = Numeral 4 1 9999
 abbrev pub Month : List ℕ → ℕ → Type 0
 Month = Numeral 2 1 12
 
+-- the days of a month that has so many
+abbrev pub Day : ℕ → List ℕ → ℕ → Type 0
+Day last = Numeral 2 1 last
+
 -- "hours 00-23, minutes and seconds 00-59"
 abbrev pub Hour : List ℕ → ℕ → Type 0
 Hour = Numeral 2 0 23
@@ -88,7 +92,7 @@ timeNotSent = record { date = dateNotSent; clock = clockNotSent; offset = offset
 
 -- "YYYYMMDD": a whole date, on a day that its month has in its year
 pub data SpeltDay : List ℕ → Date → Type 0 where
-  day : {yyyy mm dd : List ℕ} {y m d last : ℕ} → Year yyyy y → Month mm m → LastDay y m last → Numeral 2 1 last dd d
+  day : {yyyy mm dd : List ℕ} {y m d last : ℕ} → Year yyyy y → Month mm m → LastDay y m last → Day last dd d
       → SpeltDay (yyyy ++ (mm ++ dd)) (record { year = Sent y; month = Sent m; day = Sent d })
 
 -- "YYYY[MM[DD]]"
