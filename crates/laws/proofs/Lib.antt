@@ -24,3 +24,6 @@ pub mod EscapeRows
 pub mod FaultyLaws
 pub mod AskedFacts
 pub mod TextRoom
+pub mod SpeltDates
+pub mod SpeltClocks
+pub mod SpeltTimesLaws

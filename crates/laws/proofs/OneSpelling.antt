@@ -62,11 +62,11 @@ module _ (l l′ : List ℕ) (e : allDigits l ≡ true) (e′ : allDigits l′ �
 
 -- ---- how long the front is
 
-or-cases : (x y : Bool) → (x || y) ≡ true → (x ≡ true) ⊎ (y ≡ true)
+pub or-cases : (x y : Bool) → (x || y) ≡ true → (x ≡ true) ⊎ (y ≡ true)
 or-cases true y e = inl refl
 or-cases false y e = inr e
 
-three : (n a b c : ℕ) → (eqb n a || (eqb n b || eqb n c)) ≡ true → (n ≡ a) ⊎ ((n ≡ b) ⊎ (n ≡ c))
+pub three : (n a b c : ℕ) → (eqb n a || (eqb n b || eqb n c)) ≡ true → (n ≡ a) ⊎ ((n ≡ b) ⊎ (n ≡ c))
 three n a b c e =
     ⊎-elim (λ p. inl (eqb-true n a p))
     (λ p. ⊎-elim (λ q. inr (inl (eqb-true n b q))) (λ q. inr (inr (eqb-true n c q))) (or-cases (eqb n b) (eqb n c) p))
@@ -215,14 +215,14 @@ behind n p h = at (leb n p) refl
     at false e = leb-false n p e
 
 -- what is left of a list from the place of a byte on, if anything is, begins with that byte
-begins : (b : ℕ) (l : List ℕ) (p : ℕ) → p ≡ find b l → (length (drop p l) ≡ 0 → ⊥) → getD (drop p l) 0 0 ≡ b
+pub begins : (b : ℕ) (l : List ℕ) (p : ℕ) → p ≡ find b l → (length (drop p l) ≡ 0 → ⊥) → getD (drop p l) 0 0 ≡ b
 begins b l p e h =
     let n = length-drop p l in
     let k = behind (length l) p (λ z. h (n ∙ z)) in
     let i : p + 0 ≡ find b l = omega arith in
     getD-drop p l 0 0 ∙ ap (λ (j : ℕ). getD l j 0) i ∙ find-is b l (omega arith)
 
-zone-head : (l : List ℕ) → (length (zoneOf l) ≡ 0 → ⊥) → (getD (zoneOf l) 0 0 ≡ 43) ⊎ (getD (zoneOf l) 0 0 ≡ 45)
+pub zone-head : (l : List ℕ) → (length (zoneOf l) ≡ 0 → ⊥) → (getD (zoneOf l) 0 0 ≡ 43) ⊎ (getD (zoneOf l) 0 0 ≡ 45)
 zone-head l h = at (leb (find 43 l) (find 45 l)) refl
   where
     at : (t : Bool) → leb (find 43 l) (find 45 l) ≡ t → (getD (zoneOf l) 0 0 ≡ 43) ⊎ (getD (zoneOf l) 0 0 ≡ 45)
@@ -271,7 +271,7 @@ dt-length : (l : List ℕ) → isDt l ≡ true → dtLength (length l) ≡ true
 unfolding isDt
 dt-length l e = and-both (allDigits l) (dtLength (length l)) (and-both (allDigits l && dtLength (length l)) _ e .0) .1
 
-dt-most : (n : ℕ) → (n ≡ 4) ⊎ ((n ≡ 6) ⊎ (n ≡ 8)) → n ≤ 8
+pub dt-most : (n : ℕ) → (n ≡ 4) ⊎ ((n ≡ 6) ⊎ (n ≡ 8)) → n ≤ 8
 dt-most n (inl e) = omega arith
 dt-most n (inr (inl e)) = omega arith
 dt-most n (inr (inr e)) = omega arith

@@ -4,3 +4,4 @@ pub mod Escapes
 pub mod Faulty
 pub mod Spelt
 pub mod SpeltNumbers
+pub mod SpeltTimes
