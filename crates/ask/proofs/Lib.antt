@@ -1,7 +1,1 @@
-pub mod Lists
-pub mod Cutting
-pub mod Gathering
-pub mod Pairs
-pub mod Digits
-pub mod Asking
-pub mod Signs
+pub mod Families

@@ -1,66 +1,67 @@
-// The questions that the program knows. Each has its words decoded, the library called once, and what came back put into
-// the answer; a line with anything else in it is no question.
+// The questions that the program knows, by their verbs. A family of verbs has a library of its own, which counts a line's words,
+// decodes them and puts the answer; here stands which family a verb is of. A line with no verb is no question.
 ghost use mathlib.Core.Path.{_≡_};
 ghost use mathlib.Core.List.{[]};
 ghost use lib.ListN.{length, take, getD};
 ghost use Rattle.io.specs.Counts.{Counts};
-ghost use Rattle.ask.specs.Answers.{Roomy};
-ghost use Rattle.ask.specs.Words.{words as Words·words};
-ghost use Rattle.ask.specs.Hex.{fitting};
-ghost use Rattle.ask.specs.Questions.{Verb, noQuestion, readAsked, TwoNumbers, ReadAnswer};
-use crate::answers;
-use crate::hex;
-use crate::hex::Decoded;
-use crate::judges;
-use crate::lookups;
-use crate::words;
-use crate::writers;
+ghost use Rattle.answering.specs.Answers.{Roomy, noQuestion};
+ghost use Rattle.asking.specs.Words.{words as Words·words};
+ghost use Rattle.ask.specs.Verbs.{Verb};
+ghost use Rattle.ask.specs.declared.questions.Family.the-variants.{Unknown};
+use answering::answers;
+use asking::words;
+use element_questions::Lookup;
+use judge_questions::Judge;
+use writing_questions::Writing;
 
-// Puts what reading a message comes to into the answer: the number of the refusal, and its place.
-fn put_reading(message: &[u8], answer: &mut [u8]) -> usize
-    requires { ⌜ Roomy (now answer) ⌝ }
-    ensures { λ r. ⌜ Counts r (now (answer .exit)) ⌝ }
-    ensures { λ r. ⌜ TwoNumbers (take r (now (answer .exit))) ⌝ }
-{
-    let found = reading::read(message);
-    let kind = found.kind;
-    let next = answers::put_number(answer, 0, alphabet::number(kind) as u64, b' ');
-    answers::put_number(answer, next, found.place as u64, b'\n')
+// The families of verbs, each with what tells its verbs apart.
+enum Family {
+    Read,
+    Element(Lookup),
+    Judgement(Judge),
+    Text(Writing),
+    Acknowledgement,
+    Unknown,
 }
 
-// Answers `read MSG`.
-fn read(line: &[u8], message: &mut [u8], answer: &mut [u8]) -> usize
-    requires { ⌜ Roomy (now answer) ⌝ }
-    ensures { λ r. ⌜ Counts r (now (answer .exit)) ⌝ }
-    ensures { λ r. ⌜ ReadAnswer (fitting (length (now (message .entry))) (readAsked (Words·words (now (line .entry))))) (take r (now (answer .exit))) ⌝ }
+// The family of a verb.
+fn family_of(verb: &[u8]) -> Family
+    ensures { λ r. ⌜ ((Verb (now (verb .entry)) → ⊥) → r ≡ Unknown) ⌝ }
 {
-    if words::count(line) != 2 {
-        return answers::no_question(answer);
+    if alphabet::same(verb, b"read") {
+        return Family::Read;
     }
-    let decoded = hex::decode(words::word(line, 1), message);
-    let Decoded::Length(length) = decoded else {
-        return answers::no_question(answer);
-    };
-    put_reading(&message[..length], answer)
+    if alphabet::same(verb, b"ack") {
+        return Family::Acknowledgement;
+    }
+    let element = element_questions::meaning_of(verb);
+    if let element_questions::Meaning::Asks(lookup) = element {
+        return Family::Element(lookup);
+    }
+    let judgement = judge_questions::meaning_of(verb);
+    if let judge_questions::Meaning::Asks(judge) = judgement {
+        return Family::Judgement(judge);
+    }
+    let text = writing_questions::meaning_of(verb);
+    if let writing_questions::Meaning::Asks(writing) = text {
+        return Family::Text(writing);
+    }
+    Family::Unknown
 }
 
-// Puts the answer to a line into `answer`, and returns its length. `message` is lent for the bytes of a message.
-pub fn answer(line: &[u8], message: &mut [u8], answer: &mut [u8]) -> usize
+// Puts the answer to a line into `answer`, and returns its length. `said` is lent for the bytes that the line says.
+pub fn answer(line: &[u8], said: &mut [u8], answer: &mut [u8]) -> usize
     requires { ⌜ Roomy (now answer) ⌝ }
     ensures { λ r. ⌜ Counts r (now (answer .exit)) ⌝ }
     ensures { λ r. ⌜ ((Verb (getD (Words·words (now (line .entry))) 0 []) → ⊥) → take r (now (answer .exit)) ≡ noQuestion) ⌝ }
 {
-    if words::count(line) == 4 {
-        return writers::answer(line, message, answer);
+    let family = family_of(words::word(line, 0));
+    match family {
+        Family::Read => judge_questions::answer_read(line, said, answer),
+        Family::Element(lookup) => element_questions::answer(lookup, line, said, answer),
+        Family::Judgement(judge) => judge_questions::answer(judge, line, said, answer),
+        Family::Text(writing) => writing_questions::answer(writing, line, said, answer),
+        Family::Acknowledgement => writing_questions::answer_ack(line, said, answer),
+        Family::Unknown => answers::no_question(answer),
     }
-    if words::count(line) == 5 {
-        return writers::answer_ack(line, message, answer);
-    }
-    if alphabet::same(words::word(line, 0), b"read") {
-        return read(line, message, answer);
-    }
-    if words::count(line) == 2 {
-        return judges::answer(line, message, answer);
-    }
-    lookups::answer(line, message, answer)
 }

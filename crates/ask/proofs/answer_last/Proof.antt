@@ -1,7 +1,7 @@
 -- `ask::answer_last` is safe: it passes on what it requires.
 use lib.ListN.{length}
 use denote.Ref.{now}
-use Rattle.ask.proofs.Gathering.{held}
+use Rattle.asking.proofs.Gathering.{held}
 use borrow.Author.Needs.{needs}
 use Rattle.ask.proofs.answer_last.Statement.{statement}
 use Rattle.ask.proofs.answer_last.Tie as tie

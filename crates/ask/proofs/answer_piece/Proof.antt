@@ -6,18 +6,18 @@ use borrow.Author.Needs.{needs}
 use lib.ListN.{length, length-drop}
 use lib.Seq.{length-take-le}
 use denote.Ref.{now}
-use Rattle.ask.specs.Lines.{Within}
+use Rattle.asking.specs.Lines.{Within}
 use lib.Dec.{eqb}
 use Rattle.alphabet.proofs.ListLaws.{first-le, rest-of}
 use Rattle.ask.proofs.answer_piece.Statement.{statement}
 use Rattle.ask.proofs.answer_piece.Tie as tie
 
 abbrev Inv-loop : tie.InvT-loop
-Inv-loop piece buffer₀ message₀ answer₀ line₀ rest₀ buffer message answer line rest =
-    (length rest ≤ length piece) × (length buffer ≡ length buffer₀) × (length message ≡ length message₀) × (length answer ≡ length answer₀) × Within (length buffer) line
+Inv-loop piece buffer₀ said₀ answer₀ line₀ rest₀ buffer said answer line rest =
+    (length rest ≤ length piece) × (length buffer ≡ length buffer₀) × (length said ≡ length said₀) × (length answer ≡ length answer₀) × Within (length buffer) line
 
 abbrev μ-loop : tie.MeasureT-loop
-μ-loop piece buffer₀ message₀ answer₀ line₀ rest₀ buffer message answer line rest = length rest
+μ-loop piece buffer₀ said₀ answer₀ line₀ rest₀ buffer said answer line rest = length rest
 
 loop-holds : tie.Need-loop-holds Inv-loop μ-loop
 loop-holds c = (omega arith, refl, refl, refl, c .before .before .before .before .pre .0)

@@ -3,7 +3,7 @@ use mathlib.Core.Path.{sym}
 use lib.ListN.{length}
 use lib.Seq.{length-take-le}
 use denote.Ref.{now}
-use Rattle.ask.proofs.Gathering.{held}
+use Rattle.asking.proofs.Gathering.{held}
 use borrow.Author.Needs.{needs}
 use Rattle.ask.proofs.reply.Statement.{statement}
 use Rattle.ask.proofs.reply.Tie as tie

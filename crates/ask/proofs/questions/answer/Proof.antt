@@ -1,14 +1,42 @@
--- `ask::questions::answer` meets its contract: `read` is a verb, and any other line gets the answer of `writers`, of `judges` or of `lookups`.
-use Rattle.ask.specs.Questions.{read}
-use Rattle.ask.proofs.Asking.{first-verb}
+-- `ask::questions::answer` meets its contract: the answer lies within its buffer, and a word that has a family is a verb.
+use Prim.Native.Nat.{ℕ}
+use mathlib.Core.Path.{_≡_}
+use native.Mathlib.Omega.{arith}
+use Rattle.io.proofs.Counting.{counts}
+use Rattle.ask.proofs.Families.{asks}
 use borrow.Author.Needs.{needs}
 use Rattle.ask.proofs.questions.answer.Statement.{statement}
 use Rattle.ask.proofs.questions.answer.Tie as tie
 
+returns : tie.Need-returns
+returns c =
+    let f = c .before .before .before .before .before .before .before in
+    let g = f .enum-told .given .1 in
+    (c .before .before .before .before .answer-read .ensures .0, asks (f .before .before .before .word .ensures) (f .before .before .family-of .ensures) (λ e. let z : _≡_ {A = ℕ} 0 1 = cc in omega arith))
+
+returns-2 : tie.Need-returns-2
+returns-2 c =
+    let f = c .before .before .before .before .before .before .before .before in
+    let g = f .family .given .1 in
+    (counts _ _ (c .before .before .before .before .answer2 .ensures), asks (f .before .before .before .word .ensures) (f .before .before .family-of .ensures) (λ e. let z : _≡_ {A = ℕ} 0 1 = cc in omega arith))
+
 returns-3 : tie.Need-returns-3
 returns-3 c =
-    let k = c .before .before .before .before .before .before .before in
-    (c .before .before .before .before .read .ensures .0, first-verb read (k .before .before .before .word .ensures) (k .before .same .ensures) (k .if3 .taken))
+    let f = c .before .before .before .before .before .before .before .before in
+    let g = f .family2 .given .1 in
+    (counts _ _ (c .before .before .before .before .answer4 .ensures), asks (f .before .before .before .word .ensures) (f .before .before .family-of .ensures) (λ e. let z : _≡_ {A = ℕ} 0 1 = cc in omega arith))
+
+returns-4 : tie.Need-returns-4
+returns-4 c =
+    let f = c .before .before .before .before .before .before .before .before in
+    let g = f .family3 .given .1 in
+    (counts _ _ (c .before .before .before .before .answer6 .ensures), asks (f .before .before .before .word .ensures) (f .before .before .family-of .ensures) (λ e. let z : _≡_ {A = ℕ} 0 1 = cc in omega arith))
+
+returns-5 : tie.Need-returns-5
+returns-5 c =
+    let f = c .before .before .before .before .before .before .before in
+    let g = f .enum-told2 .given .1 in
+    (counts _ _ (c .before .before .before .before .answer-ack .ensures), asks (f .before .before .before .word .ensures) (f .before .before .family-of .ensures) (λ e. let z : _≡_ {A = ℕ} 0 1 = cc in omega arith))
 
 pub answer-spec : {M : Type 1} → statement M
 answer-spec =
@@ -17,26 +45,31 @@ answer-spec =
     (λ c κs. search needs)
     (λ c κs. search needs)
     (λ c. search needs)
-    (λ c. search needs)
-    (λ c. search needs)
-    (λ c κs. search needs)
     (λ c κs. search needs)
     (λ c. search needs)
-    (λ c. search needs)
+    (λ c κs. search needs)
     (λ c. search needs)
     (λ c κs. search needs)
     (λ c. search needs)
     (λ c κs. search needs)
+    (λ c. search needs)
     (λ c κs. search needs)
+    (λ c. search needs)
+    (λ c κs. search needs)
+    (λ c. search needs)
+    (λ c. search needs)
+    returns
+    (λ c. search needs)
+    (λ c. search needs)
+    returns-2
     (λ c. search needs)
     (λ c. search needs)
     returns-3
-    (λ c κs. search needs)
-    (λ c κs. search needs)
     (λ c. search needs)
     (λ c. search needs)
+    returns-4
     (λ c. search needs)
-    (λ c κs. search needs)
     (λ c. search needs)
+    returns-5
     (λ c. search needs)
     (λ c. search needs))
