@@ -1,8 +1,6 @@
 // `ask` answers questions about messages, so that the library can be compared with others: one question to a line of
 // standard input, one line of standard output for each, in order, until the input ends. This file is the frame: it reads
 // the input in pieces, gathers the lines, and writes the answers out.
-mod questions;
-
 ghost use lib.ListN.{length};
 ghost use Rattle.io.specs.Counts.{Counts};
 ghost use Rattle.answering.specs.Answers.{Roomy};
