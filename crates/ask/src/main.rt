@@ -1,6 +1,7 @@
 // `ask` answers questions about messages, so that the library can be compared with others: one question to a line of
 // standard input, one line of standard output for each, in order, until the input ends. This file is the frame: it reads
 // the input in pieces, gathers the lines, and writes the answers out.
+ghost use mathlib.Core.Path.{_≡_};
 ghost use lib.ListN.{length};
 ghost use Rattle.io.specs.Counts.{Counts};
 ghost use Rattle.answering.specs.Answers.{Roomy};
@@ -111,10 +112,31 @@ fn answer_input(piece: &mut [u8], buffer: &mut [u8], said: &mut [u8], answer: &m
     }
 }
 
+// The buffer for a line. By a call of its own it is no list of so many bytes in the caller's proof, nor are the next two.
+fn line_buffer() -> [u8; LONGEST_LINE]
+    ensures { λ r. ⌜ 300000 ≡ length r ⌝ }
+{
+    [0; LONGEST_LINE]
+}
+
+// The buffer for what a line says.
+fn said_buffer() -> [u8; LONGEST_SAID]
+    ensures { λ r. ⌜ 150000 ≡ length r ⌝ }
+{
+    [0; LONGEST_SAID]
+}
+
+// The buffer for an answer.
+fn answer_buffer() -> [u8; LONGEST_ANSWER]
+    ensures { λ r. ⌜ 600000 ≡ length r ⌝ }
+{
+    [0; LONGEST_ANSWER]
+}
+
 fn main() {
     let mut piece = io::large_buffer();
-    let mut buffer = [0u8; LONGEST_LINE];
-    let mut said = [0u8; LONGEST_SAID];
-    let mut answer = [0u8; LONGEST_ANSWER];
+    let mut buffer = line_buffer();
+    let mut said = said_buffer();
+    let mut answer = answer_buffer();
     answer_input(&mut piece, &mut buffer, &mut said, &mut answer);
 }
