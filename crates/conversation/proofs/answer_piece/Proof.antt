@@ -1,4 +1,4 @@
--- `ask::answer_piece` meets its contract: what is gathered stays within the buffer, and the rest of the piece gets shorter.
+-- `conversation::answer_piece` meets its contract: what is gathered stays within the buffer, and the rest of the piece gets shorter.
 use Prim.Native.Nat.{_≤_, _+_}
 use mathlib.Core.Path.{_≡_, refl, sym, ap, _∙_}
 use native.Mathlib.Omega.{arith}
@@ -9,8 +9,8 @@ use denote.Ref.{now}
 use Rattle.asking.specs.Lines.{Within}
 use lib.Dec.{eqb}
 use Rattle.alphabet.proofs.ListLaws.{first-le, rest-of}
-use Rattle.ask.proofs.answer_piece.Statement.{statement}
-use Rattle.ask.proofs.answer_piece.Tie as tie
+use Rattle.conversation.proofs.answer_piece.Statement.{statement}
+use Rattle.conversation.proofs.answer_piece.Tie as tie
 
 abbrev Inv-loop : tie.InvT-loop
 Inv-loop piece buffer₀ said₀ answer₀ line₀ rest₀ buffer said answer line rest =

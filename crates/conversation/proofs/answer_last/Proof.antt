@@ -1,10 +1,10 @@
--- `ask::answer_last` is safe: it passes on what it requires.
+-- `conversation::answer_last` is safe: it passes on what it requires.
 use lib.ListN.{length}
 use denote.Ref.{now}
 use Rattle.asking.proofs.Gathering.{held}
 use borrow.Author.Needs.{needs}
-use Rattle.ask.proofs.answer_last.Statement.{statement}
-use Rattle.ask.proofs.answer_last.Tie as tie
+use Rattle.conversation.proofs.answer_last.Statement.{statement}
+use Rattle.conversation.proofs.answer_last.Tie as tie
 
 answer-line-requires : tie.Need-answer-line-requires
 answer-line-requires c κs =

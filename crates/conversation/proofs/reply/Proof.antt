@@ -1,12 +1,12 @@
--- `ask::reply` meets its contract: a line that the buffer holds lies within it.
+-- `conversation::reply` meets its contract: a line that the buffer holds lies within it.
 use mathlib.Core.Path.{sym}
 use lib.ListN.{length}
 use lib.Seq.{length-take-le}
 use denote.Ref.{now}
 use Rattle.asking.proofs.Gathering.{held}
 use borrow.Author.Needs.{needs}
-use Rattle.ask.proofs.reply.Statement.{statement}
-use Rattle.ask.proofs.reply.Tie as tie
+use Rattle.conversation.proofs.reply.Statement.{statement}
+use Rattle.conversation.proofs.reply.Tie as tie
 
 slice-aggregate-answer : tie.Need-slice-aggregate-answer
 slice-aggregate-answer c =
