@@ -1,15 +1,15 @@
-/* Calls every function of the library from C with the stored questions of crates/ask, and compares what comes back with the stored answers, so
- * that the header, the library and the program cannot drift apart. Lines that are no questions (answered `?`) are passed over: they are the
- * program's own. Prints how often each function was called; ends with 1 at the first difference, and where a function was never called.
+/* Calls every function of the library from C with questions of crates/ask, and compares what comes back with their answers, so that the header,
+ * the library and the program cannot drift apart. Lines that are no questions (answered `?`) are passed over: they are the program's own.
+ * Prints how often each function was called; ends with 1 at the first difference, and where a function was never called.
  *
- *     c/test
+ *     c/test                              which calls it with files: QUESTIONS ANSWERS [QUESTIONS ANSWERS]..
  */
 #include "turrethog.h"
 
 #include <stdio.h>
 #include <string.h>
 
-#define MOST 4000000
+#define MOST 16000000
 #define LARGEST_ROOM 65536
 
 typedef struct {
@@ -232,11 +232,10 @@ static bool ask(text line)
     return false;
 }
 
-int main(int count, char **names)
+/* Asks all questions of a file. */
+static bool agree(const char *of_questions, const char *of_answers)
 {
-    if (count != 3)
-        return 2;
-    size_t asked = load(names[1], questions), answered = load(names[2], answers);
+    size_t asked = load(of_questions, questions), answered = load(of_answers, answers);
     size_t place = 0, other = 0, compared = 0;
     while (place < asked && other < answered) {
         text line = next_line(questions, asked, &place), expected = next_line(answers, answered, &other);
@@ -245,15 +244,26 @@ int main(int count, char **names)
         if (!ask(line) || said_length != expected.length || memcmp(said, expected.at, said_length) != 0) {
             printf("C differs on: %.*s\n  expected: %.*s\n  C says:   %.*s\n", (int)line.length, line.at, (int)expected.length, expected.at,
                    (int)said_length, said);
-            return 1;
+            return false;
         }
         compared++;
     }
+    /* A file that fills its array may have been cut. */
+    return compared != 0 && place == asked && other == answered && asked < MOST && answered < MOST;
+}
+
+int main(int count, char **names)
+{
+    if (count < 3 || count % 2 == 0)
+        return 2;
+    for (int i = 1; i < count; i += 2)
+        if (!agree(names[i], names[i + 1]))
+            return 1;
     for (size_t f = 0; f < sizeof functions / sizeof *functions; f++) {
         printf("%s %zu, ", functions[f].verb, functions[f].called);
         if (functions[f].called == 0)
             return 1;
     }
     printf("all as crates/ask answers\n");
-    return compared == 0 || place != asked || other != answered;
+    return 0;
 }

@@ -13,7 +13,7 @@ use crate::times::{self, Offset, Time};
 use crate::verdict::{self, Fault};
 
 /// The line buffer of the program `ask`, in bytes without the LF.
-pub const LONGEST_LINE: usize = 200_000;
+pub const LONGEST_LINE: usize = 300_000;
 
 /// "`ROOM` is the size of the buffer lent, at most 65,536 (more: `?`)."
 pub const MOST_ROOM: u64 = 65_536;

@@ -2,7 +2,9 @@
 //! makes and checks the test vectors of the program `ask`. It shares no code and no table with it.
 //!
 //!     model stored              prints the questions of the stored vectors, always the same
-//!     model wide                prints all questions of some small worlds, too many to be stored
+//!     model wide                prints all questions of some small worlds, too many to be stored, and
+//!                               those as large as a limit
+//!     model limits              prints those alone
 //!     model fresh SEED COUNT    prints COUNT random questions, the same for the same seed
 //!     model answer              answers questions from standard input, one line for each
 
@@ -30,6 +32,7 @@ fn main() -> ExitCode {
     let done = match words[..] {
         ["stored"] => print_stored(),
         ["wide"] => print_lines(questions::wide()),
+        ["limits"] => print_lines(questions::limits()),
         ["fresh", seed, count] => match (seed.parse(), count.parse()) {
             (Ok(seed), Ok(count)) => print_fresh(seed, count),
             _ => return usage(),
@@ -46,7 +49,7 @@ fn main() -> ExitCode {
 }
 
 fn usage() -> ExitCode {
-    eprintln!("usage: model stored | model wide | model fresh SEED COUNT | model answer");
+    eprintln!("usage: model stored | wide | limits | fresh SEED COUNT | answer");
     ExitCode::from(2)
 }
 

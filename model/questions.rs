@@ -1,6 +1,6 @@
 //! The questions of the vectors. Each verb has a set of stored questions and a maker of fresh ones,
-//! and some have a wide set, complete over a small world and not stored: a new verb adds its modules
-//! below and a line in each of the functions.
+//! and most have a wide set that is not stored: what is complete over a small world, and what is as
+//! large as a limit. A new verb adds its modules below and a line in each of the functions.
 
 mod ack_fresh;
 mod ack_stored;
@@ -10,10 +10,12 @@ mod find_stored;
 mod lifelike;
 mod lookup_fresh;
 mod lookup_stored;
+mod lookup_wide;
 mod no_question;
 mod number_stored;
 mod read_fresh;
 mod read_stored;
+mod read_wide;
 mod sound;
 mod structure_fresh;
 mod structure_stored;
@@ -22,6 +24,7 @@ mod text_fresh;
 mod text_stored;
 mod text_wide;
 mod time_stored;
+mod time_wide;
 mod value_fresh;
 mod verdict_fresh;
 mod verdict_stored;
@@ -67,7 +70,28 @@ pub fn stored() -> Vec<Bytes> {
 
 /// The questions of the wide sets, each a line without its LF.
 pub fn wide() -> Vec<Bytes> {
-    let sets = [text_wide::wide(), structure_wide::wide(), verdict_wide::wide(), ack_wide::wide()];
+    let sets = [
+        read_wide::wide(),
+        time_wide::wide(),
+        text_wide::wide(),
+        structure_wide::wide(),
+        verdict_wide::wide(),
+        ack_wide::wide(),
+        limits(),
+    ];
+    once_each(sets.concat())
+}
+
+/// The part of them that is as large as a limit of the library.
+pub fn limits() -> Vec<Bytes> {
+    let sets = [
+        read_wide::limits(),
+        lookup_wide::limits(),
+        text_wide::limits(),
+        structure_wide::limits(),
+        verdict_wide::limits(),
+        ack_wide::limits(),
+    ];
     once_each(sets.concat())
 }
 

@@ -1,11 +1,11 @@
 //! The stored questions of the verb `ack`: headers of every kind, good ones with every fault behind
 //! them and hostile ones; the caller's time and ID in all forms; and buffers of every size around
-//! the one that is enough. What is about 32,768 bytes long is not stored: the wide set has that.
+//! the one that is enough. What is as large as a limit is not stored: the wide set has that.
 
 use super::filled::{header_of_oru, message_with, segment};
 use super::{ack_question, changed, latin, lifelike, message, message_of_type, Bytes};
 use crate::acknowledgement::acknowledge;
-use crate::reading::{CR, MOST_SEGMENTS};
+use crate::reading::CR;
 
 /// The shortest message that is acknowledged, with AE: it has no more than an MSH-10.
 const SHORTEST: &[u8] = b"MSH|^~\\&||||||||1\r";
@@ -259,8 +259,6 @@ fn faults_behind_the_header() -> Vec<Bytes> {
     ] {
         messages.push(message(&[&header_of_oru(&[(field, content)]), "OBR"]));
     }
-    let too_many = "ZZZ\r".repeat(MOST_SEGMENTS);
-    messages.push(latin(&format!("{oru}\r{too_many}")));
     let a40 = segment("MSH", &[(9, "ADT^A40")]);
     messages.push(message(&[&a40, "EVN", "PID|||1||A", "MRG"]));
     messages.push(message(&[&a40, "EVN", "PID|||1", "MRG"]));

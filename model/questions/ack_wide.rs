@@ -21,11 +21,14 @@ pub fn wide() -> Vec<Bytes> {
         every_byte_in_a_header(),
         cut_messages(),
         every_room(),
-        long_headers(),
-        long_messages(),
         long_lines(),
     ];
     questions.concat()
+}
+
+/// What is as large as a limit of the library.
+pub fn limits() -> Vec<Bytes> {
+    [long_headers(), long_messages()].concat()
 }
 
 /// A question with one byte of room more than enough.
@@ -169,6 +172,8 @@ fn long_messages() -> Vec<Bytes> {
         let header = filled::header_of_oru(&[]);
         let mut segments = vec![&header[..], "OBR"];
         segments.resize(count, "ZZZ");
+        messages.push(message(&segments));
+        segments[1] = "ZZZ";
         messages.push(message(&segments));
     }
     messages.iter().map(|message| acknowledged(message, TIME, ID)).collect()

@@ -2,7 +2,6 @@
 //! nulls and empties, the fields of MSH, and numbers of an address at and past every limit.
 
 use super::{addresses, field_question, latin, lookup_question, message, Bytes, Numbers};
-use crate::reading::MOST_SEGMENTS;
 
 pub fn stored() -> Vec<Bytes> {
     let questions = [
@@ -159,16 +158,10 @@ fn huge_numbers() -> Vec<Bytes> {
     lines
 }
 
-/// As many segments as may be, and more than 256 parts at each other level: a number that is cut to
-/// one byte finds another part.
+/// More than 256 parts at each level below the segments: a number that is cut to one byte finds another
+/// part.
 fn many_parts() -> Vec<Bytes> {
-    let mut segments = vec![r"MSH|^~\&"];
-    segments.resize(MOST_SEGMENTS - 1, "ZZZ");
-    segments.push("ZZZ|a");
-    let all_segments = message(&segments);
-    let last = MOST_SEGMENTS as u64 - 1;
-    let mut lines =
-        vec![find(&all_segments, [last, 1, 0, 0, 0]), find(&all_segments, [last + 1, 1, 0, 0, 0])];
+    let mut lines = Vec::new();
     let separators = 259;
     let last = separators as u64 + 1;
     for (separator, place, address) in [

@@ -3,13 +3,12 @@
 //! something for every type, asked by every address.
 
 use super::{addresses, field_question, latin, lookup_question, message, Bytes, LOOKUPS};
-use crate::reading::MOST_SEGMENTS;
 
 pub fn stored() -> Vec<Bytes> {
     [reading_faults(), bad_addresses(), states(), values_by_address(), header_fields()].concat()
 }
 
-/// A message of each reading fault, asked for an element that would be found, would be 32 or would
+/// A message of each reading fault but 8, asked for an element that would be found, would be 32 or would
 /// be 19.
 fn reading_faults() -> Vec<Bytes> {
     let texts = [
@@ -21,8 +20,6 @@ fn reading_faults() -> Vec<Bytes> {
         "MSH|^~\\&|5\rPIDX\rPID|5\r", // 6
         "MSH|^~\\&|5\rMSH|5\r",       // 7
     ];
-    let mut segments = vec![r"MSH|^~\&|5"];
-    segments.resize(MOST_SEGMENTS + 1, "ZZZ");
     let mut lines = Vec::new();
     for verb in LOOKUPS {
         for text in texts {
@@ -30,10 +27,6 @@ fn reading_faults() -> Vec<Bytes> {
                 lines.push(lookup_question(verb, &latin(text), address));
             }
         }
-    }
-    for verb in ["find", "nm", "ts"] {
-        lines.push(lookup_question(verb, &message(&segments), [0, 3, 0, 0, 0]));
-        // 8
     }
     lines
 }

@@ -1,20 +1,19 @@
-//! The stored questions of the verb `read`: sound messages, each limit from both sides, every byte
-//! value at every kind of place, damaged messages, and each pair of faults that can stand together.
-//! The messages are as short as their point allows, since all verbs share the room for vectors.
+//! The stored questions of the verb `read`: sound messages, telling bytes at every kind of place,
+//! damaged messages, and each pair of faults that can stand together. The messages are as short as
+//! their point allows, since all verbs share the room for vectors; what is as long as a limit, and
+//! every byte value at every place, stand in the wide set.
 
+use super::read_wide::{at_every_place, with_bytes, with_every_byte};
 use super::{changed, latin, message, read_fresh, read_question, sound, Bytes};
 use crate::chance::Chance;
-use crate::reading::{CR, LONGEST_MESSAGE, MOST_SEGMENTS};
+use crate::reading::{CR, MOST_SEGMENTS};
 
 pub fn stored() -> Vec<Bytes> {
     let messages = [
         sound::of_each_structure(),
         sound::of_other_kinds(),
         short_messages(),
-        long_messages(),
-        segment_counts(),
-        every_byte_in_the_header(),
-        every_byte_in_a_later_segment(),
+        telling_bytes(),
         equal_delimiters(),
         segment_names(),
         line_ends(),
@@ -42,87 +41,21 @@ fn short_messages() -> Vec<Bytes> {
     messages
 }
 
-/// The longest message that is read, of as many segments as may be; and one byte more, with every
-/// other fault in it as well, so that 1 has to come before them all.
-fn long_messages() -> Vec<Bytes> {
-    let mut longest = of_segments(MOST_SEGMENTS, &[]);
-    longest.pop();
-    longest.push(b'|');
-    longest.resize(LONGEST_MESSAGE - 1, b'A');
-    longest.push(CR);
-    let mut segments = plain();
-    for fault in faults() {
-        fault(&mut segments);
-    }
-    let mut too_long = segments.concat();
-    too_long.resize(LONGEST_MESSAGE + 1, b'A');
-    vec![longest, too_long]
-}
+/// Bytes at the edges of what may stand somewhere: of control bytes, of digits, of capitals and small
+/// letters, of delimiters, of ASCII and of Latin-1.
+const TELLING: &[u8] =
+    b"\0\t\n\x0B\r\x1C\x1F !\"#&'+-./09:;@AMZ[\\]^_`az{|}~\x7F\x80\x9F\xA0\xC0\xFF";
 
-/// A header and as many `ZZZ` as make `count` segments, with others at some of their numbers.
-fn of_segments(count: usize, others: &[(usize, &'static str)]) -> Bytes {
-    let mut segments = vec![r"MSH|^~\&"];
-    segments.resize(count, "ZZZ");
-    for &(at, segment) in others {
-        segments[at] = segment;
-    }
-    message(&segments)
-}
-
-/// One segment too many, whatever it holds, with bad ones at its left and at its right.
-fn segment_counts() -> Vec<Bytes> {
-    let last = MOST_SEGMENTS - 1;
-    vec![
-        of_segments(last, &[]),
-        of_segments(last + 1, &[]),
-        of_segments(last + 2, &[]),
-        of_segments(last + 3, &[(last + 2, "zzz")]),
-        of_segments(last + 1, &[(last, "zzz")]),
-        of_segments(last + 1, &[(last, "MSH")]),
-        of_segments(last + 2, &[(last + 1, "zzz")]),
-        of_segments(last + 2, &[(last + 1, "MSH|")]),
-        of_segments(last + 2, &[(last + 1, "")]),
-        of_segments(last + 2, &[(last, "zzz"), (last + 1, "MSH|")]),
-        of_segments(last + 2, &[(last, "MSH|"), (last + 1, "zzz")]),
-        of_segments(last + 2, &[(last, ""), (1, "MSH|")]),
-        of_segments(last + 2, &[(1, "zzz")]),
-    ]
-}
-
-/// The message with every byte value at `place`.
-fn with_every_byte(message: &[u8], place: usize) -> Vec<Bytes> {
-    (0..=0xFF).map(|byte| changed(message, place, byte)).collect()
-}
-
-/// At the name, at each delimiter, at byte 8, in the content, at the end. Byte 3 is judged with CR
-/// at byte 8, with `|` there still, and with itself there.
-fn every_byte_in_the_header() -> Vec<Bytes> {
-    let shortest = message(&[r"MSH|^~\&"]);
-    let with_field = message(&[r"MSH|^~\&|"]);
-    let with_content = message(&[r"MSH|^~\&|A"]);
-    let mut messages = Vec::new();
-    for place in 0..8 {
-        messages.extend(with_every_byte(&shortest, place));
-    }
-    messages.extend(with_every_byte(&with_field, 3));
-    messages.extend((0..=0xFF).map(|byte| changed(&changed(&with_field, 3, byte), 8, byte)));
-    messages.extend(with_every_byte(&with_field, 8));
-    messages.extend(with_every_byte(&with_content, 9));
-    messages.extend(with_every_byte(&with_field, 9));
-    messages
-}
-
-/// At each byte of the name, behind the name, in the content, at the end.
-fn every_byte_in_a_later_segment() -> Vec<Bytes> {
-    let name_alone = message(&[r"MSH|^~\&", "PID"]);
-    let with_field = message(&[r"MSH|^~\&", "PID|"]);
-    let with_content = message(&[r"MSH|^~\&", "PID|1"]);
-    let mut messages = Vec::new();
-    for place in 9..13 {
-        messages.extend(with_every_byte(&name_alone, place));
-    }
-    messages.extend(with_every_byte(&with_field, 12));
-    messages.extend(with_every_byte(&with_content, 13));
+/// Each of them at every kind of place; and every byte value as a delimiter, in a content, in a
+/// name and behind it.
+fn telling_bytes() -> Vec<Bytes> {
+    let content = message(&[r"MSH|^~\&|A"]);
+    let name = message(&[r"MSH|^~\&", "PID"]);
+    let mut messages = at_every_place(TELLING);
+    messages.extend(with_every_byte(&content, 4));
+    messages.extend(with_every_byte(&content, 9));
+    messages.extend(with_every_byte(&name, 9));
+    messages.extend(with_bytes(&name, 12, &(0..=0x2F).collect::<Bytes>()));
     messages
 }
 
@@ -220,8 +153,11 @@ pub fn plain() -> Vec<Bytes> {
         .collect()
 }
 
+/// Puts a fault into the segments of a message.
+pub type Fault = fn(&mut Vec<Bytes>);
+
 /// Faults that can be put into `plain` together, in this order, each beside its number.
-pub fn faults() -> Vec<fn(&mut Vec<Bytes>)> {
+pub fn faults() -> Vec<Fault> {
     vec![
         |segments| segments[0][0] = b'N',           // 2: not `MSH`
         |segments| segments[0][8] = b'A',           // 2: byte 8
@@ -238,21 +174,27 @@ pub fn faults() -> Vec<fn(&mut Vec<Bytes>)> {
     ]
 }
 
-/// Each fault alone, and each two together.
+/// Each fault alone, and each two together, but the one that makes a message of too many segments.
 fn two_faults() -> Vec<Bytes> {
-    let faults = faults();
+    let mut faults = faults();
+    faults.pop();
     let mut messages = Vec::new();
     for later in 0..faults.len() {
-        for earlier in 0..=later {
-            let mut segments = plain();
-            faults[earlier](&mut segments);
-            if earlier != later {
-                faults[later](&mut segments);
-            }
-            messages.push(segments.concat());
+        messages.push(with_faults(&[faults[later]]));
+        for earlier in 0..later {
+            messages.push(with_faults(&[faults[earlier], faults[later]]));
         }
     }
     messages
+}
+
+/// `plain` with these faults, put into it in this order.
+pub fn with_faults(faults: &[Fault]) -> Bytes {
+    let mut segments = plain();
+    for fault in faults {
+        fault(&mut segments);
+    }
+    segments.concat()
 }
 
 /// Random messages with random damage, of one seed for ever.

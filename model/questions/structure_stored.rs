@@ -3,7 +3,6 @@
 //! structure names and others; and MSH-9 in all spellings.
 
 use super::{latin, message, message_of_type, structure_question, Bytes};
-use crate::reading::MOST_SEGMENTS;
 
 /// Each structure with every segment that it names, in order, behind MSH.
 const FULLEST: [(&str, &str); 6] = [
@@ -40,7 +39,6 @@ pub fn stored() -> Vec<Bytes> {
         headers(),
         contents(),
         reading_faults(),
-        many_segments(),
     ];
     let mut lines = no_questions();
     lines.extend(messages.concat().iter().map(|message| structure_question(message)));
@@ -348,21 +346,6 @@ fn reading_faults() -> Vec<Bytes> {
         "MSH|^~\\&|||||||ADT^A01\rEVN\rPID\rZP\r", // 6
     ];
     texts.iter().map(|text| latin(text)).collect()
-}
-
-/// As many segments as may be, one more, and a fault at the last of them.
-fn many_segments() -> Vec<Bytes> {
-    let most = MOST_SEGMENTS - 1;
-    let mut repeated = vec!["OBR"];
-    repeated.resize(most, "NTE");
-    let mut foreign = vec!["ZZZ"; most - 1];
-    foreign.push("EVN");
-    let mut too_many = foreign.clone();
-    too_many.push("ZZZ");
-    [repeated, foreign, too_many]
-        .iter()
-        .map(|segments| message_of_type("ORU^R01", segments))
-        .collect()
 }
 
 /// Lines that come near a question of this verb.

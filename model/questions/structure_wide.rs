@@ -1,11 +1,32 @@
-//! The wide set of the verb `structure`: every short list of names for the small structures, and
-//! random walks of one seed through the large ones.
+//! The wide set of the verb `structure`: every short list of names for the small structures, random
+//! walks of one seed through the large ones, and as many segments as may be.
 
 use super::{message_of_type, structure_fresh, structure_question, Bytes};
 use crate::chance::Chance;
+use crate::reading::MOST_SEGMENTS;
 
 pub fn wide() -> Vec<Bytes> {
     [every_list(), every_event(), walks()].concat()
+}
+
+/// What is as large as a limit.
+pub fn limits() -> Vec<Bytes> {
+    many_segments().iter().map(|message| structure_question(message)).collect()
+}
+
+/// As many segments as may be, one more, and a fault at the last of them.
+fn many_segments() -> Vec<Bytes> {
+    let most = MOST_SEGMENTS - 1;
+    let mut repeated = vec!["OBR"];
+    repeated.resize(most, "NTE");
+    let mut foreign = vec!["ZZZ"; most - 1];
+    foreign.push("EVN");
+    let mut too_many = foreign.clone();
+    too_many.push("ZZZ");
+    [repeated, foreign, too_many]
+        .iter()
+        .map(|segments| message_of_type("ORU^R01", segments))
+        .collect()
 }
 
 /// Every list of so many names behind MSH, and of fewer: of the names of the structure but MSH, which

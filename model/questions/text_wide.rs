@@ -2,7 +2,7 @@
 //! apart, every byte at each of the five delimiters, and the largest buffer.
 
 use super::{changed, text_question, Bytes, TEXTS, USUAL_DELIMITERS};
-use crate::ask::MOST_ROOM;
+use crate::ask::{LONGEST_LINE, MOST_ROOM};
 
 /// The delimiters, digits and letters of sequences and their neighbours, and the edges of what is
 /// allowed.
@@ -13,7 +13,12 @@ const TELLING: &[u8] =
 const MOST_TELLING: &[u8] = b"|&\\X4fES\"\r\xA0\x9F";
 
 pub fn wide() -> Vec<Bytes> {
-    [pairs(), triples(), sequences(), every_delimiter(), largest_buffer()].concat()
+    [pairs(), triples(), sequences(), every_delimiter()].concat()
+}
+
+/// What is as large as a limit.
+pub fn limits() -> Vec<Bytes> {
+    largest_buffer()
 }
 
 /// Every text of this length over these bytes.
@@ -66,20 +71,21 @@ fn every_delimiter() -> Vec<Bytes> {
 fn largest_buffer() -> Vec<Bytes> {
     let room = MOST_ROOM as usize;
     let delimiters = &USUAL_DELIMITERS;
+    let longest = LONGEST_LINE / 2 - 10;
     let mut lines = Vec::new();
     for verb in TEXTS {
         lines.push(text_question(verb, b"", delimiters, room));
         lines.push(text_question(verb, b"a", delimiters, room));
         lines.push(text_question(verb, &vec![b'a'; room], delimiters, room));
         lines.push(text_question(verb, &vec![b'a'; room + 1], delimiters, room));
-        lines.push(text_question(verb, &vec![b'a'; 99_990], delimiters, 0));
+        lines.push(text_question(verb, &vec![b'a'; longest], delimiters, 0));
     }
     let separators = vec![b'|'; room / 3];
     lines.push(text_question("escape", &[&separators[..], b"a"].concat(), delimiters, room));
     lines.push(text_question("escape", &[&separators[..], b"|"].concat(), delimiters, room));
-    lines.push(text_question("escape", &vec![0; 99_980], delimiters, room));
-    lines.push(text_question("unescape", &br"\F\".repeat(33_000), delimiters, room));
-    let digits = b"4A".repeat(49_990);
+    lines.push(text_question("escape", &vec![0; longest - 10], delimiters, room));
+    lines.push(text_question("unescape", &br"\F\".repeat((longest - 30) / 3), delimiters, room));
+    let digits = b"4A".repeat((longest - 30) / 2);
     lines.push(text_question("unescape", &[br"\X", &digits[..], br"\"].concat(), delimiters, room));
     lines
 }

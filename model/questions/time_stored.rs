@@ -1,5 +1,5 @@
-//! The stored questions of the verbs `dt`, `tm` and `ts`: every day of the months of four years,
-//! each part at its limits, every length with and without fraction and offset, and damage at every
+//! The stored questions of the verbs `dt`, `tm` and `ts`: the ends of the months of four years, each
+//! part at its limits, every length with and without fraction and offset, and damage at every
 //! place.
 
 use super::{changed, field_question, latin, Bytes};
@@ -25,16 +25,16 @@ pub fn stored() -> Vec<Bytes> {
     questions.concat()
 }
 
-fn question(verb: &str, text: &str) -> Bytes {
+pub fn question(verb: &str, text: &str) -> Bytes {
     field_question(verb, text.as_bytes())
 }
 
-/// The days 0 to 32 of the months 0 to 13, in a year of each kind.
+/// The first and the last days of the months 0 to 13, and those beside them, in a year of each kind.
 fn days() -> Vec<Bytes> {
     let mut lines = Vec::new();
     for year in [1900, 2000, 2023, 2024] {
         for month in 0..=13 {
-            for day in 0..=32 {
+            for day in [0, 1, 28, 29, 30, 31, 32] {
                 lines.push(question("dt", &format!("{year}{month:02}{day:02}")));
             }
         }
@@ -171,8 +171,8 @@ fn fractions() -> Vec<Bytes> {
     lines
 }
 
-/// "Offset hours 00-14 and offset minutes 00-59 (house)": every minute from -1459 to +1459 behind an
-/// hour, every quarter of an hour behind a year, and the edges.
+/// "Offset hours 00-14 and offset minutes 00-59 (house)": every hour from -14 to +14 with some minutes
+/// behind an hour, every quarter of an hour behind a year, and the edges.
 fn offsets() -> Vec<Bytes> {
     let mut lines = Vec::new();
     for sign in ["+", "-"] {
@@ -180,7 +180,7 @@ fn offsets() -> Vec<Bytes> {
             for minutes in [0, 15, 30, 45] {
                 lines.push(question("ts", &format!("2024{sign}{hours:02}{minutes:02}")));
             }
-            for minutes in 0..=59 {
+            for minutes in [0, 1, 29, 30, 59] {
                 lines.push(question("tm", &format!("09{sign}{hours:02}{minutes:02}")));
             }
         }

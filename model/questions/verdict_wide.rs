@@ -38,10 +38,14 @@ pub fn wide() -> Vec<Bytes> {
         short_words(),
         control_ids(),
         two_faults(),
-        long_messages(),
         damaged(),
     ];
     messages.concat().iter().map(|message| verdict_question(message)).collect()
+}
+
+/// What is as large as a limit.
+pub fn limits() -> Vec<Bytes> {
+    long_messages().iter().map(|message| verdict_question(message)).collect()
 }
 
 fn telling_contents() -> Vec<Bytes> {

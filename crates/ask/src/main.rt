@@ -1,99 +1,22 @@
 // `ask` answers questions about messages, so that the library can be compared with others: one question to a line of
-// standard input, one line of standard output for each, in order, until the input ends. This file is the frame: it reads
-// the input in pieces, gathers the lines, and writes the answers out.
-mod answers;
-mod bytes;
-mod hex;
-mod judges;
-mod lines;
-mod lookups;
-mod numbers;
-mod printing;
-mod questions;
-mod words;
-mod writers;
-
+// standard input, one line of standard output for each, in order, until the input ends. This file reads the input in
+// pieces, and lends the buffers.
+ghost use mathlib.Core.Path.{_≡_};
 ghost use lib.ListN.{length};
 ghost use Rattle.io.specs.Counts.{Counts};
-ghost use Rattle.ask.specs.Answers.{Roomy};
-ghost use Rattle.ask.specs.Lines.{Within};
+ghost use Rattle.answering.specs.Answers.{Roomy};
+use asking::lines::Line;
 use libc::STDIN_FILENO;
-use libc::STDOUT_FILENO;
-use lines::Line;
 
-// A longer line is answered as no question. It has room for a message of more than 64 KiB, at two digits a byte.
-const LONGEST_LINE: usize = 200_000;
+// A longer line is answered as no question. It has room for two words of 64 KiB, at two digits a byte.
+const LONGEST_LINE: usize = 300_000;
 
 // All the bytes that a line of that length can say.
-const LONGEST_MESSAGE: usize = 100_000;
+const LONGEST_SAID: usize = 150_000;
 
-// The longest answer shows a buffer of 64 KiB, which at two digits a byte is 131,072 bytes. The three numbers before it and
-// the end of the line take at most 67 more.
-const LONGEST_ANSWER: usize = 131_200;
-
-// Puts the answer to a line into `answer`, and returns its length.
-fn reply(line: Line, buffer: &[u8], message: &mut [u8], answer: &mut [u8]) -> usize
-    requires { ⌜ Within (length (now buffer)) line ⌝ }
-    requires { ⌜ Roomy (now answer) ⌝ }
-    ensures { λ r. ⌜ Counts r (now (answer .exit)) ⌝ }
-{
-    match line {
-        Line::Holds(length) => questions::answer(&buffer[..length], message, answer),
-        Line::TooLong => answers::no_question(answer),
-    }
-}
-
-// Answers a line. The answer is written out whole, since a call for each of its bytes would take most of the time.
-fn answer_line(line: Line, buffer: &[u8], message: &mut [u8], answer: &mut [u8])
-    requires { ⌜ Within (length (now buffer)) line ⌝ }
-    requires { ⌜ Roomy (now answer) ⌝ }
-{
-    let size = reply(line, buffer, message, answer);
-    io::write_all(STDOUT_FILENO, &answer[..size]);
-}
-
-// Answers each line that ends in a piece of the input, and returns what is gathered of the line that does not.
-fn answer_piece(
-    piece: &[u8],
-    begun: Line,
-    buffer: &mut [u8],
-    message: &mut [u8],
-    answer: &mut [u8],
-) -> Line
-    requires { ⌜ Within (length (now buffer)) begun ⌝ }
-    requires { ⌜ Roomy (now answer) ⌝ }
-    ensures { λ r. ⌜ Within (length (now (buffer .exit))) r ⌝ }
-{
-    let mut line = begun;
-    let mut rest = piece;
-    while 0 < rest.len() {
-        let end = alphabet::find(rest, b'\n');
-        line = lines::gather(line, buffer, &rest[..end]);
-        if end == rest.len() {
-            return line;
-        }
-        answer_line(line, buffer, message, answer);
-        line = Line::Holds(0);
-        let next = end + 1;
-        rest = &rest[next..];
-    }
-    line
-}
-
-// Answers what is left when the input ends: a line without its end is a line, and no bytes are none.
-fn answer_last(line: Line, buffer: &[u8], message: &mut [u8], answer: &mut [u8])
-    requires { ⌜ Within (length (now buffer)) line ⌝ }
-    requires { ⌜ Roomy (now answer) ⌝ }
-{
-    match line {
-        Line::Holds(length) => {
-            if 0 < length {
-                answer_line(line, buffer, message, answer);
-            }
-        }
-        Line::TooLong => answer_line(line, buffer, message, answer),
-    }
-}
+// The longest answer shows a buffer of 64 KiB, which at two digits a byte is 131,072 bytes, beside up to one and a half
+// bytes for each byte of the line.
+const LONGEST_ANSWER: usize = 600_000;
 
 // Reads a piece of the input, and returns how many bytes came: none where the input has ended or cannot be read.
 fn read_piece(piece: &mut [u8]) -> usize
@@ -105,7 +28,7 @@ fn read_piece(piece: &mut [u8]) -> usize
 
 // Answers the whole input. A proved loop has to end, and nothing says that an input does: so the loop counts its turns
 // down, from a number that no run uses up.
-fn answer_input(piece: &mut [u8], buffer: &mut [u8], message: &mut [u8], answer: &mut [u8])
+fn answer_input(piece: &mut [u8], buffer: &mut [u8], said: &mut [u8], answer: &mut [u8])
     requires { ⌜ Roomy (now answer) ⌝ }
 {
     let mut line = Line::Holds(0);
@@ -113,18 +36,39 @@ fn answer_input(piece: &mut [u8], buffer: &mut [u8], message: &mut [u8], answer:
     while 0 < turns {
         let count = read_piece(piece);
         if count == 0 {
-            answer_last(line, buffer, message, answer);
+            conversation::answer_last(line, buffer, said, answer);
             return;
         }
-        line = answer_piece(&piece[..count], line, buffer, message, answer);
+        line = conversation::answer_piece(&piece[..count], line, buffer, said, answer);
         turns -= 1;
     }
 }
 
+// The buffer for a line. By a call of its own it is no list of so many bytes in the caller's proof, nor are the next two.
+fn line_buffer() -> [u8; LONGEST_LINE]
+    ensures { λ r. ⌜ 300000 ≡ length r ⌝ }
+{
+    [0; LONGEST_LINE]
+}
+
+// The buffer for what a line says.
+fn said_buffer() -> [u8; LONGEST_SAID]
+    ensures { λ r. ⌜ 150000 ≡ length r ⌝ }
+{
+    [0; LONGEST_SAID]
+}
+
+// The buffer for an answer.
+fn answer_buffer() -> [u8; LONGEST_ANSWER]
+    ensures { λ r. ⌜ 600000 ≡ length r ⌝ }
+{
+    [0; LONGEST_ANSWER]
+}
+
 fn main() {
     let mut piece = io::large_buffer();
-    let mut buffer = [0u8; LONGEST_LINE];
-    let mut message = [0u8; LONGEST_MESSAGE];
-    let mut answer = [0u8; LONGEST_ANSWER];
-    answer_input(&mut piece, &mut buffer, &mut message, &mut answer);
+    let mut buffer = line_buffer();
+    let mut said = said_buffer();
+    let mut answer = answer_buffer();
+    answer_input(&mut piece, &mut buffer, &mut said, &mut answer);
 }

@@ -3,16 +3,16 @@ use mathlib.Core.Path.{_≡_, refl}
 use native.Mathlib.Omega.{arith}
 use borrow.Author.Needs.{needs}
 use lib.ListN.{length}
-use Rattle.ask.specs.Lines.{Within}
+use Rattle.asking.specs.Lines.{Within}
 use Rattle.ask.proofs.answer_input.Statement.{statement}
 use Rattle.ask.proofs.answer_input.Tie as tie
 
 abbrev Inv-loop : tie.InvT-loop
-Inv-loop piece₀ buffer₀ message₀ answer₀ line₀ turns₀ piece buffer message answer line turns =
-    (length piece ≡ length piece₀) × (length buffer ≡ length buffer₀) × (length message ≡ length message₀) × (length answer ≡ length answer₀) × Within (length buffer) line
+Inv-loop piece₀ buffer₀ said₀ answer₀ line₀ turns₀ piece buffer said answer line turns =
+    (length piece ≡ length piece₀) × (length buffer ≡ length buffer₀) × (length said ≡ length said₀) × (length answer ≡ length answer₀) × Within (length buffer) line
 
 abbrev μ-loop : tie.MeasureT-loop
-μ-loop piece₀ buffer₀ message₀ answer₀ line₀ turns₀ piece buffer message answer line turns = turns
+μ-loop piece₀ buffer₀ said₀ answer₀ line₀ turns₀ piece buffer said answer line turns = turns
 
 loop-again : tie.Need-loop-again Inv-loop μ-loop
 loop-again c = (omega arith, omega arith, omega arith, omega arith, c .before .before .before .before .before .before .answer-piece .ensures)

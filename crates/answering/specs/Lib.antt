@@ -1,0 +1,3 @@
+pub mod Answers
+pub mod Hex
+pub mod Samples

@@ -1,7 +1,0 @@
-pub mod Lists
-pub mod Cutting
-pub mod Gathering
-pub mod Pairs
-pub mod Digits
-pub mod Asking
-pub mod Signs

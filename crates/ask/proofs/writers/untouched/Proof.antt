@@ -1,7 +1,0 @@
--- `ask::writers::untouched` meets its contract: each byte of a repeat is the byte that it repeats.
-use lib.ListN.{getD-replicate}
-use Rattle.ask.proofs.writers.untouched.Statement.{statement}
-use Rattle.ask.proofs.writers.untouched.Tie as tie
-
-pub untouched-spec : {M : Type 1} → statement M
-untouched-spec = tie.close (tie.spec (λ c i h. getD-replicate 65536 i 165 0 h))

@@ -1,7 +1,0 @@
-pub mod Words
-pub mod Lines
-pub mod Hex
-pub mod Numbers
-pub mod Answers
-pub mod Questions
-pub mod Samples

@@ -1,0 +1,5 @@
+pub mod Words
+pub mod Lines
+pub mod Hex
+pub mod Decimals
+pub mod Samples
