@@ -1,0 +1,137 @@
+// The four commands on the message that a file holds: `check`, `show`, `get` and `ack`. What they find is printed to the output
+// that they are handed. Why there is nothing to find is said on standard error, as `check` says it where there is no message.
+ghost use Prim.Native.Nat.{_≤_};
+use alphabet::Refusal;
+use arguments::Asked;
+use element::Address;
+use terminal::Output;
+
+// Every message was accepted, or what was asked for was found.
+pub const DONE: u8 = 0;
+
+// Some message was refused.
+pub const REFUSED: u8 = 1;
+
+// The command was not understood, a file could not be read, or what was to be printed could not be written.
+pub const TROUBLE: u8 = 2;
+
+// The output as it is behind a command, and the status that the command comes to.
+pub struct Outcome {
+    pub out: Output,
+    pub status: u8,
+}
+
+// What a refusal comes to that was said on standard error: trouble where it was not written.
+fn refused(out: Output, said: Output) -> Outcome {
+    Outcome {
+        out: out,
+        status: if said.is_whole { REFUSED } else { TROUBLE },
+    }
+}
+
+// Says of a file that it is refused, by the number and in words.
+fn refuse(out: Output, name: &[u8], kind: Refusal) -> Outcome {
+    let said = wording::print_refused(terminal::standard_error(), name, kind);
+    refused(out, said)
+}
+
+// Says of a file that it holds no message, and where the fault stands.
+fn refuse_message(out: Output, name: &[u8], message: &[u8]) -> Outcome {
+    let told = drawing::print_verdict(terminal::standard_error(), name, message);
+    let said = told.out;
+    refused(out, said)
+}
+
+// `check`: the verdict on a message.
+pub fn check(out: Output, name: &[u8], message: &[u8]) -> Outcome {
+    let told = drawing::print_verdict(out, name, message);
+    let printed = told.out;
+    Outcome {
+        out: printed,
+        status: if told.is_accepted { DONE } else { REFUSED },
+    }
+}
+
+// `show`: every segment of a message. `room` is lent for the text of each part.
+pub fn show(out: Output, name: &[u8], message: &[u8], room: &mut [u8]) -> Outcome {
+    let answer = reading::read(message);
+    let kind = answer.kind;
+    if alphabet::number(kind) != 0 {
+        return refuse_message(out, name, message);
+    }
+    let shown = showing::show(out, message, room);
+    Outcome {
+        out: shown,
+        status: DONE,
+    }
+}
+
+// Says what stands at an address: its state, and its bytes. An address that no message has is refused by its number.
+fn get_element(out: Output, name: &[u8], message: &[u8], address: Address) -> Outcome {
+    let found = element::find(message, address);
+    let answer = found.answer;
+    let kind = answer.kind;
+    let number = alphabet::number(kind);
+    if number == 0 {
+        let place = found.element;
+        let shown = showing::show_element(out, message, address, place);
+        return Outcome {
+            out: shown,
+            status: DONE,
+        };
+    }
+    if number < 9 {
+        return refuse_message(out, name, message);
+    }
+    refuse(out, name, kind)
+}
+
+// `get`: the element of a message at the address that the words from `first` on say. A buffer is lent for each word.
+pub fn get(out: Output, name: &[u8], message: &[u8], first: usize, word: &mut [u8]) -> Outcome {
+    let asked = arguments::address_at(first, word, message);
+    match asked {
+        Asked::At(address) => get_element(out, name, message, address),
+        Asked::Refused => {
+            terminal::print_line(
+                terminal::standard_error(),
+                b"turrethog: an element is asked for by a segment's name or number, and by numbers behind it",
+            );
+            Outcome {
+                out: out,
+                status: TROUBLE,
+            }
+        }
+    }
+}
+
+// `ack`: the acknowledgement of a message, by the two words from `first` on. It is made in `room`, and goes to a line and not to
+// a terminal: its bytes are written as they are.
+pub fn acknowledge(
+    out: Output,
+    name: &[u8],
+    message: &[u8],
+    first: usize,
+    room: &mut [u8],
+) -> Outcome
+    requires { ⌜ first ≤ 9 ⌝ }
+{
+    let mut time = io::buffer();
+    let mut id = io::buffer();
+    let time_length = os::arg(first, &mut time);
+    let id_length = os::arg(first + 1, &mut id);
+    let answer = acknowledgement::acknowledge(
+        message,
+        &time[..time_length],
+        &id[..id_length],
+        room,
+    );
+    let kind = answer.kind;
+    if alphabet::number(kind) != 0 {
+        return refuse(out, name, kind);
+    }
+    let written = terminal::write(out, places::piece(room, 0, answer.length));
+    Outcome {
+        out: written,
+        status: DONE,
+    }
+}
