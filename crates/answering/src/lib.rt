@@ -3,6 +3,9 @@
 ghost use Prim.Native.Nat.{_≤_};
 use alphabet::Refusal;
 use arguments::Asked;
+use arguments::CHECK;
+use arguments::GET;
+use arguments::SHOW;
 use element::Address;
 use terminal::Output;
 
@@ -43,7 +46,7 @@ fn refuse_message(out: Output, name: &[u8], message: &[u8]) -> Outcome {
 }
 
 // `check`: the verdict on a message.
-pub fn check(out: Output, name: &[u8], message: &[u8]) -> Outcome {
+fn check(out: Output, name: &[u8], message: &[u8]) -> Outcome {
     let told = drawing::print_verdict(out, name, message);
     let printed = told.out;
     Outcome {
@@ -53,7 +56,7 @@ pub fn check(out: Output, name: &[u8], message: &[u8]) -> Outcome {
 }
 
 // `show`: every segment of a message. `room` is lent for the text of each part.
-pub fn show(out: Output, name: &[u8], message: &[u8], room: &mut [u8]) -> Outcome {
+fn show(out: Output, name: &[u8], message: &[u8], room: &mut [u8]) -> Outcome {
     let answer = reading::read(message);
     let kind = answer.kind;
     if alphabet::number(kind) != 0 {
@@ -87,7 +90,7 @@ fn get_element(out: Output, name: &[u8], message: &[u8], address: Address) -> Ou
 }
 
 // `get`: the element of a message at the address that the words from `first` on say. A buffer is lent for each word.
-pub fn get(out: Output, name: &[u8], message: &[u8], first: usize, word: &mut [u8]) -> Outcome {
+fn get(out: Output, name: &[u8], message: &[u8], first: usize, word: &mut [u8]) -> Outcome {
     let asked = arguments::address_at(first, word, message);
     match asked {
         Asked::At(address) => get_element(out, name, message, address),
@@ -104,9 +107,30 @@ pub fn get(out: Output, name: &[u8], message: &[u8], first: usize, word: &mut [u
     }
 }
 
-// `ack`: the acknowledgement of a message, by the two words from `first` on. It is made in `room`, and goes to a line and not to
-// a terminal: its bytes are written as they are.
-pub fn acknowledge(
+// `ack`: the acknowledgement of a message for a time and an ID. It is made in `room`, and goes to a line and not to a terminal:
+// its bytes are written as they are.
+fn acknowledge<'a>(
+    out: Output,
+    name: &[u8],
+    message: &'a [u8],
+    time: &'a [u8],
+    id: &'a [u8],
+    room: &mut [u8],
+) -> Outcome {
+    let answer = acknowledgement::acknowledge(message, time, id, room);
+    let kind = answer.kind;
+    if alphabet::number(kind) != 0 {
+        return refuse(out, name, kind);
+    }
+    let written = terminal::write(out, places::piece(room, 0, answer.length));
+    Outcome {
+        out: written,
+        status: DONE,
+    }
+}
+
+// Acknowledges a message by the two words from `first` on, a time and an ID.
+fn acknowledge_by(
     out: Output,
     name: &[u8],
     message: &[u8],
@@ -119,19 +143,66 @@ pub fn acknowledge(
     let mut id = io::buffer();
     let time_length = os::arg(first, &mut time);
     let id_length = os::arg(first + 1, &mut id);
-    let answer = acknowledgement::acknowledge(
+    acknowledge(
+        out,
+        name,
         message,
         &time[..time_length],
         &id[..id_length],
         room,
-    );
-    let kind = answer.kind;
-    if alphabet::number(kind) != 0 {
-        return refuse(out, name, kind);
+    )
+}
+
+// Does what a command asks of the message that a file holds, by the words from `first` on.
+fn answer(
+    command: u8,
+    out: Output,
+    name: &[u8],
+    message: &[u8],
+    first: usize,
+    room: &mut [u8],
+) -> Outcome
+    requires { ⌜ first ≤ 9 ⌝ }
+{
+    if command == CHECK {
+        return check(out, name, message);
     }
-    let written = terminal::write(out, places::piece(room, 0, answer.length));
-    Outcome {
-        out: written,
-        status: DONE,
+    if command == SHOW {
+        return show(out, name, message, room);
     }
+    if command == GET {
+        return get(out, name, message, first, room);
+    }
+    acknowledge_by(out, name, message, first, room)
+}
+
+// Does what a command asks of the file that the argument at an index names.
+pub fn answer_file(
+    command: u8,
+    out: Output,
+    index: usize,
+    name: &mut [u8],
+    message: &mut [u8],
+    first: usize,
+    room: &mut [u8],
+) -> Outcome
+    requires { ⌜ first ≤ 9 ⌝ }
+{
+    let file = arguments::read_file(index, name, message);
+    let called = file.name;
+    let length = file.length;
+    if !file.is_read {
+        return Outcome {
+            out: out,
+            status: TROUBLE,
+        };
+    }
+    answer(
+        command,
+        out,
+        &name[..called],
+        &message[..length],
+        first,
+        room,
+    )
 }

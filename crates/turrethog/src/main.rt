@@ -2,14 +2,11 @@
 // says, gets an element out of it, and acknowledges it. This file is the frame: it reads the arguments and the files, and hands the messages on.
 mod status;
 
-use answering::Outcome;
+use answering::answer_file;
 use arguments::CHECK;
-use arguments::GET;
 use arguments::HELP;
-use arguments::SHOW;
 use arguments::VERSION;
 use arguments::command_at;
-use terminal::Output;
 ghost use Prim.Native.Nat.{_+_, _≤_, _<_};
 ghost use mathlib.Core.Path.{_≡_};
 ghost use lib.ListN.{length};
@@ -17,60 +14,6 @@ ghost use Rattle.alphabet.specs.Limits.{messageLimit};
 
 // One byte more than a message may have: a file that fills it is over the limit.
 const ROOM: usize = 32_769;
-
-// Does what a command asks of the message that a file holds, by the words from `first` on.
-fn answer(
-    command: u8,
-    out: Output,
-    name: &[u8],
-    message: &[u8],
-    first: usize,
-    room: &mut [u8],
-) -> Outcome
-    requires { ⌜ first ≤ 9 ⌝ }
-{
-    if command == CHECK {
-        return answering::check(out, name, message);
-    }
-    if command == SHOW {
-        return answering::show(out, name, message, room);
-    }
-    if command == GET {
-        return answering::get(out, name, message, first, room);
-    }
-    answering::acknowledge(out, name, message, first, room)
-}
-
-// Does what a command asks of the file that the argument at an index names.
-fn answer_file(
-    command: u8,
-    out: Output,
-    index: usize,
-    name: &mut [u8],
-    message: &mut [u8],
-    first: usize,
-    room: &mut [u8],
-) -> Outcome
-    requires { ⌜ first ≤ 9 ⌝ }
-{
-    let file = arguments::read_file(index, name, message);
-    let called = file.name;
-    let length = file.length;
-    if !file.is_read {
-        return Outcome {
-            out: out,
-            status: answering::TROUBLE,
-        };
-    }
-    answer(
-        command,
-        out,
-        &name[..called],
-        &message[..length],
-        first,
-        room,
-    )
-}
 
 // Does what a command asks of each file that the arguments from the one before `first` up to and without `until` name: that is
 // one where words stand behind it. Returns the worst status.
