@@ -11,14 +11,55 @@ ghost use lib.ListN.{length};
 // The column in which the state of each part stands.
 const COLUMN: usize = 16;
 
-// The number of a part as it is told: one that stands alone has 0, which is left out.
-fn told(is_split: bool, number: usize) -> usize {
-    if is_split { number } else { 0 }
+// The address of a field. Where its segment stands is told by the line above all of its parts.
+fn field_address(number: usize) -> Address {
+    Address {
+        segment: 0,
+        field: number,
+        repetition: 0,
+        component: 0,
+        subcomponent: 0,
+    }
 }
 
-// The number of a component whose subcomponents are told: PID-5.1.2, also where the component stands alone.
-fn told_above(is_split: bool, number: usize) -> usize {
-    if is_split & (number == 0) { 1 } else { number }
+// The address of a repetition of a field. One that stands alone has 0, which is left out, and so it is on each level.
+fn repetition_address(above: Address, is_split: bool, number: usize) -> Address {
+    Address {
+        segment: above.segment,
+        field: above.field,
+        repetition: if is_split { number } else { 0 },
+        component: 0,
+        subcomponent: 0,
+    }
+}
+
+// The address of a component of a repetition.
+fn component_address(above: Address, is_split: bool, number: usize) -> Address {
+    Address {
+        segment: above.segment,
+        field: above.field,
+        repetition: above.repetition,
+        component: if is_split { number } else { 0 },
+        subcomponent: 0,
+    }
+}
+
+// The address of a subcomponent of a component, which is told where its subcomponents are: PID-5.1.2, also where it stands alone.
+fn subcomponent_address(above: Address, is_split: bool, number: usize) -> Address {
+    if !is_split {
+        return above;
+    }
+    Address {
+        segment: above.segment,
+        field: above.field,
+        repetition: above.repetition,
+        component: if above.component == 0 {
+            1
+        } else {
+            above.component
+        },
+        subcomponent: number,
+    }
 }
 
 // Whether a separator stands in bytes.
@@ -92,13 +133,7 @@ fn show_component(
     let mut start = 0;
     while start <= bytes.len() {
         let end = places::part_end(bytes, separator, start);
-        let part = Address {
-            segment: address.segment,
-            field: address.field,
-            repetition: address.repetition,
-            component: told_above(is_split, address.component),
-            subcomponent: told(is_split, number),
-        };
+        let part = subcomponent_address(address, is_split, number);
         shown = show_leaf(shown, delimiters, segment, part, &bytes[start..end], room);
         start = end + 1;
         number += 1;
@@ -123,13 +158,7 @@ fn show_repetition(
     let mut start = 0;
     while start <= bytes.len() {
         let end = places::part_end(bytes, separator, start);
-        let part = Address {
-            segment: address.segment,
-            field: address.field,
-            repetition: address.repetition,
-            component: told(is_split, number),
-            subcomponent: 0,
-        };
+        let part = component_address(address, is_split, number);
         shown = show_component(shown, delimiters, segment, part, &bytes[start..end], room);
         start = end + 1;
         number += 1;
@@ -154,29 +183,12 @@ fn show_field(
     let mut start = 0;
     while start <= bytes.len() {
         let end = places::part_end(bytes, separator, start);
-        let part = Address {
-            segment: address.segment,
-            field: address.field,
-            repetition: told(is_split, number),
-            component: 0,
-            subcomponent: 0,
-        };
+        let part = repetition_address(address, is_split, number);
         shown = show_repetition(shown, delimiters, segment, part, &bytes[start..end], room);
         start = end + 1;
         number += 1;
     }
     shown
-}
-
-// The address of a field. Where its segment stands is told by the line above all of its parts.
-fn field_address(number: usize) -> Address {
-    Address {
-        segment: 0,
-        field: number,
-        repetition: 0,
-        component: 0,
-        subcomponent: 0,
-    }
 }
 
 // Shows the fields of a segment that stand from a place on, of which the first has a number.
