@@ -107,50 +107,20 @@ fn get(out: Output, name: &[u8], message: &[u8], first: usize, word: &mut [u8]) 
     }
 }
 
-// `ack`: the acknowledgement of a message for a time and an ID. It is made in `room`, and goes to a line and not to a terminal:
-// its bytes are written as they are.
-fn acknowledge<'a>(
-    out: Output,
-    name: &[u8],
-    message: &'a [u8],
-    time: &'a [u8],
-    id: &'a [u8],
-    room: &mut [u8],
-) -> Outcome {
-    let answer = acknowledgement::acknowledge(message, time, id, room);
-    let kind = answer.kind;
+// `ack`: the acknowledgement of a message, by the two words from `first` on. It is made in `room`.
+fn acknowledge(out: Output, name: &[u8], message: &[u8], first: usize, room: &mut [u8]) -> Outcome
+    requires { ⌜ first ≤ 9 ⌝ }
+{
+    let done = acknowledging::acknowledge_by(out, message, first, room);
+    let written = done.out;
+    let kind = done.kind;
     if alphabet::number(kind) != 0 {
-        return refuse(out, name, kind);
+        return refuse(written, name, kind);
     }
-    let written = terminal::write(out, places::piece(room, 0, answer.length));
     Outcome {
         out: written,
         status: DONE,
     }
-}
-
-// Acknowledges a message by the two words from `first` on, a time and an ID.
-fn acknowledge_by(
-    out: Output,
-    name: &[u8],
-    message: &[u8],
-    first: usize,
-    room: &mut [u8],
-) -> Outcome
-    requires { ⌜ first ≤ 9 ⌝ }
-{
-    let mut time = io::buffer();
-    let mut id = io::buffer();
-    let time_length = os::arg(first, &mut time);
-    let id_length = os::arg(first + 1, &mut id);
-    acknowledge(
-        out,
-        name,
-        message,
-        &time[..time_length],
-        &id[..id_length],
-        room,
-    )
 }
 
 // Does what a command asks of the message that a file holds, by the words from `first` on.
@@ -173,7 +143,7 @@ fn answer(
     if command == GET {
         return get(out, name, message, first, room);
     }
-    acknowledge_by(out, name, message, first, room)
+    acknowledge(out, name, message, first, room)
 }
 
 // Does what a command asks of the file that the argument at an index names.
