@@ -2,7 +2,7 @@
 // says, gets an element out of it, and acknowledges it. This file is the frame: it reads the arguments and the files, and hands the messages on.
 mod status;
 
-use answering::answer_file;
+use commands::answer_file;
 use arguments::CHECK;
 use arguments::HELP;
 use arguments::VERSION;
@@ -29,7 +29,7 @@ fn answer_files(
     requires { ⌜ first ≤ 9 ⌝ }
 {
     let mut out = terminal::standard_output();
-    let mut worst = answering::DONE;
+    let mut worst = commands::DONE;
     let mut index = first - 1;
     while index < until {
         let answered = answer_file(command, out, index, name, message, first, room);
@@ -44,14 +44,14 @@ fn answer_files(
 fn tell_itself(command: u8) -> u8 {
     if command == VERSION {
         let told = wording::print_version(terminal::standard_output());
-        return status::at_end(told, answering::DONE);
+        return status::at_end(told, commands::DONE);
     }
     if command == HELP {
         let told = wording::print_usage(terminal::standard_output());
-        return status::at_end(told, answering::DONE);
+        return status::at_end(told, commands::DONE);
     }
     wording::print_usage(terminal::standard_error());
-    answering::TROUBLE
+    commands::TROUBLE
 }
 
 // Does what the argument at an index asks.

@@ -20,7 +20,7 @@ pub fn at_end(out: Output, status: u8) -> u8 {
         terminal::standard_error(),
         b"turrethog: not all that was to be printed could be written",
     );
-    answering::TROUBLE
+    commands::TROUBLE
 }
 
 // Tells the script. Where that fails it has no number, and takes that for trouble.
