@@ -7,10 +7,10 @@ use Rattle.terminal.proofs.print.Statement.{statement}
 use Rattle.terminal.proofs.print.Tie as tie
 
 abbrev Inv-loop : tie.InvT-loop
-Inv-loop to bytes start₀ start = start ≤ length bytes + 1
+Inv-loop bytes printed₀ start₀ printed start = start ≤ length bytes + 1
 
 abbrev μ-loop : tie.MeasureT-loop
-μ-loop to bytes start₀ start = length bytes + 1 - start
+μ-loop bytes printed₀ start₀ printed start = length bytes + 1 - start
 
 pub print-spec : {M : Type 1} → statement M
 print-spec =

@@ -7,10 +7,10 @@ use Rattle.terminal.proofs.print_under.Statement.{statement}
 use Rattle.terminal.proofs.print_under.Tie as tie
 
 abbrev Inv-loop : tie.InvT-loop
-Inv-loop to bytes mark i₀ i = i ≤ length bytes
+Inv-loop bytes mark printed₀ i₀ printed i = i ≤ length bytes
 
 abbrev μ-loop : tie.MeasureT-loop
-μ-loop to bytes mark i₀ i = length bytes - i
+μ-loop bytes mark printed₀ i₀ printed i = length bytes - i
 
 pub print-under-spec : {M : Type 1} → statement M
 print-under-spec =
@@ -19,10 +19,6 @@ print-under-spec =
     Inv-loop
     μ-loop
     (λ c. omega arith)
-    (λ c. omega arith)
-    (λ c κs. search needs)
-    (λ c. omega arith)
-    (λ c κs. search needs)
     (λ c. omega arith)
     (λ c κs. search needs)
     (λ c. omega arith)

@@ -1,0 +1,64 @@
+// The command that a word says, where as many words stand behind it as the command takes.
+ghost use Prim.Native.Nat.{_≤_};
+use crate::LAST_WORD;
+
+// The commands, as numbers that can be compared.
+pub const CHECK: u8 = 1;
+
+pub const SHOW: u8 = 2;
+
+pub const GET: u8 = 3;
+
+pub const ACKNOWLEDGE: u8 = 4;
+
+pub const HELP: u8 = 5;
+
+pub const VERSION: u8 = 6;
+
+// The command that a word says, or 0.
+fn command_of(word: &[u8]) -> u8 {
+    if alphabet::same(word, b"check") {
+        return CHECK;
+    }
+    if alphabet::same(word, b"show") {
+        return SHOW;
+    }
+    if alphabet::same(word, b"get") {
+        return GET;
+    }
+    if alphabet::same(word, b"ack") {
+        return ACKNOWLEDGE;
+    }
+    if alphabet::same(word, b"--help") | alphabet::same(word, b"-h") {
+        return HELP;
+    }
+    if alphabet::same(word, b"--version") {
+        return VERSION;
+    }
+    0
+}
+
+// The command where it stands at an index and as many words stand behind it as it takes, and else 0: a file or more to check,
+// one to show, one to get from with two to five words behind its name, one to acknowledge with two, and none to tell of itself.
+fn with_its_words(command: u8, index: usize, count: usize) -> u8
+    requires { ⌜ index ≤ 9 ⌝ }
+{
+    let is_checked = (command == CHECK) & (index + 2 <= count);
+    let is_shown = (command == SHOW) & (count == index + 2);
+    let is_got = (command == GET) & ((index + 4 <= count) & (count <= index + 7));
+    let is_acknowledged = (command == ACKNOWLEDGE) & (count == index + 4);
+    let is_told = (HELP <= command) & (count == index + 1);
+    if ((is_checked | is_shown) | (is_got | is_acknowledged)) | is_told {
+        return command;
+    }
+    0
+}
+
+// The command that the argument at an index says.
+pub fn command_at(index: usize, word: &mut [u8]) -> u8 {
+    if LAST_WORD < index {
+        return 0;
+    }
+    let length = os::arg(index, word);
+    with_its_words(command_of(&word[..length]), index, os::arg_count())
+}

@@ -1,0 +1,119 @@
+// A file is read whole into a buffer of one byte more than a message may have, so that a file over the limit is seen to be
+// over it. What cannot be read is said on standard error, by the file's name.
+ghost use Prim.Native.Nat.{_+_, _≤_};
+ghost use mathlib.Core.Path.{_≡_};
+ghost use lib.ListN.{length};
+ghost use Rattle.io.specs.Counts.{Counts};
+use terminal::Output;
+
+// Whether a file could be read, and how many of its bytes stand at the front of the buffer.
+struct Content {
+    is_read: bool,
+    length: usize,
+}
+
+// A file that a word names: whether it could be read, and how many bytes its name and it have.
+pub struct File {
+    pub is_read: bool,
+    pub name: usize,
+    pub length: usize,
+}
+
+// Reads once into the part of the buffer behind its first `held` bytes, and tells how many came: none where the file has ended.
+fn read_behind(file: i32, buffer: &mut [u8], held: usize) -> Content
+    requires { ⌜ held ≤ length (now buffer) ⌝ }
+    ensures { λ r. ⌜ held + r .length ≤ length (now (buffer .entry)) ⌝ }
+{
+    let room = &mut buffer[held..];
+    let got = libc::read(file, room);
+    let length = io::count(got, room);
+    Content {
+        is_read: 0 <= got,
+        length: length,
+    }
+}
+
+// Reads until the file ends or the buffer is full.
+fn fill(file: i32, buffer: &mut [u8]) -> Content
+    ensures { λ r. ⌜ Counts (r .length) (now (buffer .exit)) ⌝ }
+{
+    let mut held = 0;
+    while held < buffer.len() {
+        let more = read_behind(file, buffer, held);
+        if !more.is_read {
+            return Content {
+                is_read: false,
+                length: 0,
+            };
+        }
+        if more.length == 0 {
+            break;
+        }
+        held += more.length;
+    }
+    Content {
+        is_read: true,
+        length: held,
+    }
+}
+
+// Why the last call failed.
+fn print_reason(out: Output, error: i32) -> Output {
+    if error == libc::ENOENT {
+        return terminal::print_line(out, b"there is no such file");
+    }
+    if error == libc::EISDIR {
+        return terminal::print_line(out, b"this is a directory, and no file");
+    }
+    if error == libc::EACCES {
+        return terminal::print_line(out, b"you may not read this file");
+    }
+    terminal::print_line(out, b"it cannot be read")
+}
+
+// Says of a file by its name that it cannot be read, and why. Where that cannot be written either, the status is the same.
+fn fail(name: &[u8]) -> Content
+    ensures { λ r. ⌜ r .length ≡ 0 ⌝ }
+{
+    let error = os::errno();
+    let out = terminal::print(terminal::standard_error(), b"turrethog: ");
+    let out = terminal::print(out, name);
+    let out = terminal::print(out, b": ");
+    print_reason(out, error);
+    Content {
+        is_read: false,
+        length: 0,
+    }
+}
+
+// Reads the file of a name to the front of the buffer.
+fn read(name: &[u8], buffer: &mut [u8]) -> Content
+    ensures { λ r. ⌜ Counts (r .length) (now (buffer .exit)) ⌝ }
+{
+    let file = os::open_read(name);
+    if file < 0 {
+        return fail(name);
+    }
+    let content = fill(file, buffer);
+    if !content.is_read {
+        let failed = fail(name);
+        libc::close(file);
+        return failed;
+    }
+    libc::close(file);
+    content
+}
+
+// Reads the file that a word names: the name to the front of one buffer, the file to the front of the other.
+pub fn read_file(index: usize, name: &mut [u8], message: &mut [u8]) -> File
+    ensures { λ r. ⌜ Counts (r .name) (now (name .exit)) ⌝ }
+    ensures { λ r. ⌜ Counts (r .length) (now (message .exit)) ⌝ }
+{
+    let count = os::arg(index, name);
+    let content = read(&name[..count], message);
+    File {
+        is_read: content.is_read,
+        name: count,
+        length: content.length,
+    }
+}

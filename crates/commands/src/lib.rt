@@ -1,0 +1,178 @@
+// The four commands on the message that a file holds: `check`, `show`, `get` and `ack`. What they find is printed to the output
+// that they are handed. Why there is nothing to find is said on standard error, as `check` says it where there is no message.
+ghost use Prim.Native.Nat.{_≤_};
+use alphabet::Refusal;
+use arguments::Asked;
+use arguments::CHECK;
+use arguments::GET;
+use arguments::SHOW;
+use element::Address;
+use terminal::Output;
+
+// Every message was accepted, or what was asked for was found.
+pub const DONE: u8 = 0;
+
+// Some message was refused.
+pub const REFUSED: u8 = 1;
+
+// The command was not understood, a file could not be read, or what was to be printed could not be written.
+pub const TROUBLE: u8 = 2;
+
+// The output as it is behind a command, and the status that the command comes to.
+pub struct Outcome {
+    pub out: Output,
+    pub status: u8,
+}
+
+// What a refusal comes to that was said on standard error: trouble where it was not written.
+fn refused(out: Output, said: Output) -> Outcome {
+    Outcome {
+        out: out,
+        status: if said.is_whole { REFUSED } else { TROUBLE },
+    }
+}
+
+// Says of a file that it is refused, by the number and in words.
+fn refuse(out: Output, name: &[u8], kind: Refusal) -> Outcome {
+    let said = wording::print_refused(terminal::standard_error(), name, kind);
+    refused(out, said)
+}
+
+// Says of a file that it holds no message, and where the fault stands.
+fn refuse_message(out: Output, name: &[u8], message: &[u8]) -> Outcome {
+    let told = drawing::print_verdict(terminal::standard_error(), name, message);
+    let said = told.out;
+    refused(out, said)
+}
+
+// `check`: the verdict on a message.
+fn check(out: Output, name: &[u8], message: &[u8]) -> Outcome {
+    let told = drawing::print_verdict(out, name, message);
+    let printed = told.out;
+    Outcome {
+        out: printed,
+        status: if told.is_accepted { DONE } else { REFUSED },
+    }
+}
+
+// `show`: every segment of a message. `room` is lent for the text of each part.
+fn show(out: Output, name: &[u8], message: &[u8], room: &mut [u8]) -> Outcome {
+    let answer = reading::read(message);
+    let kind = answer.kind;
+    if alphabet::number(kind) != 0 {
+        return refuse_message(out, name, message);
+    }
+    let shown = showing::show(out, message, room);
+    Outcome {
+        out: shown,
+        status: DONE,
+    }
+}
+
+// Says what stands at an address: its state, and its bytes. An address that no message has is refused by its number.
+fn get_element(out: Output, name: &[u8], message: &[u8], address: Address) -> Outcome {
+    let found = element::find(message, address);
+    let answer = found.answer;
+    let kind = answer.kind;
+    let number = alphabet::number(kind);
+    if number == 0 {
+        let place = found.element;
+        let shown = showing::show_element(out, message, address, place);
+        return Outcome {
+            out: shown,
+            status: DONE,
+        };
+    }
+    if number < 9 {
+        return refuse_message(out, name, message);
+    }
+    refuse(out, name, kind)
+}
+
+// `get`: the element of a message at the address that the words from `first` on say. A buffer is lent for each word.
+fn get(out: Output, name: &[u8], message: &[u8], first: usize, word: &mut [u8]) -> Outcome {
+    let asked = arguments::address_at(first, word, message);
+    match asked {
+        Asked::At(address) => get_element(out, name, message, address),
+        Asked::Refused => {
+            terminal::print_line(
+                terminal::standard_error(),
+                b"turrethog: an element is asked for by a segment's name or number, and by numbers behind it",
+            );
+            Outcome {
+                out: out,
+                status: TROUBLE,
+            }
+        }
+    }
+}
+
+// `ack`: the acknowledgement of a message, by the two words from `first` on. It is made in `room`.
+fn acknowledge(out: Output, name: &[u8], message: &[u8], first: usize, room: &mut [u8]) -> Outcome
+    requires { ⌜ first ≤ 9 ⌝ }
+{
+    let done = acknowledging::acknowledge_by(out, message, first, room);
+    let written = done.out;
+    let kind = done.kind;
+    if alphabet::number(kind) != 0 {
+        return refuse(written, name, kind);
+    }
+    Outcome {
+        out: written,
+        status: DONE,
+    }
+}
+
+// Does what a command asks of the message that a file holds, by the words from `first` on.
+fn answer(
+    command: u8,
+    out: Output,
+    name: &[u8],
+    message: &[u8],
+    first: usize,
+    room: &mut [u8],
+) -> Outcome
+    requires { ⌜ first ≤ 9 ⌝ }
+{
+    if command == CHECK {
+        return check(out, name, message);
+    }
+    if command == SHOW {
+        return show(out, name, message, room);
+    }
+    if command == GET {
+        return get(out, name, message, first, room);
+    }
+    acknowledge(out, name, message, first, room)
+}
+
+// Does what a command asks of the file that the argument at an index names.
+pub fn answer_file(
+    command: u8,
+    out: Output,
+    index: usize,
+    name: &mut [u8],
+    message: &mut [u8],
+    first: usize,
+    room: &mut [u8],
+) -> Outcome
+    requires { ⌜ first ≤ 9 ⌝ }
+{
+    let file = arguments::read_file(index, name, message);
+    let called = file.name;
+    let length = file.length;
+    if !file.is_read {
+        return Outcome {
+            out: out,
+            status: TROUBLE,
+        };
+    }
+    answer(
+        command,
+        out,
+        &name[..called],
+        &message[..length],
+        first,
+        room,
+    )
+}

@@ -1,0 +1,36 @@
+-- Rests on the start of the part: each turn goes on to a later one, and not past the end of the bytes by more than one.
+use borrow.Author.Needs.{needs}
+use native.Mathlib.Omega.{arith}
+use Prim.Native.Nat.{_≤_, _+_, _-_}
+use lib.ListN.{length}
+use mathlib.Core.Path.{_≡_}
+use Rattle.showing.proofs.show_component.Statement.{statement}
+use Rattle.showing.proofs.show_component.Tie as tie
+
+abbrev Inv-loop : tie.InvT-loop
+Inv-loop delimiters segment address bytes room₀ separator is-split shown₀ number₀ start₀ room shown number start = (number ≤ start + 1) × (length room ≡ length room₀)
+
+abbrev μ-loop : tie.MeasureT-loop
+μ-loop delimiters segment address bytes room₀ separator is-split shown₀ number₀ start₀ room shown number start = length bytes + 1 - start
+
+pub show-component-spec : {M : Type 1} → statement M
+show-component-spec =
+    tie.close
+    (tie.spec
+    Inv-loop
+    μ-loop
+    (λ c. omega arith)
+    (λ c κs. search needs)
+    (λ c. omega arith)
+    (λ c κs. search needs)
+    (λ c κs. search needs)
+    (λ c. omega arith)
+    (λ c. omega arith)
+    (λ c. omega arith)
+    (λ c κs. search needs)
+    (λ c. omega arith)
+    (λ c. omega arith)
+    (λ c. omega arith)
+    (λ c. omega arith)
+    (λ c. omega arith)
+    (λ c. omega arith))

@@ -1,0 +1,136 @@
+// The refusals in words, each with its number of document 01. Where a place is drawn under them, `this` is what is marked there.
+use alphabet::Refusal;
+use terminal::Output;
+
+// The words for 1 to 4: a fault in the message's bytes.
+fn print_opening(out: Output, kind: Refusal) -> Output {
+    match kind {
+        Refusal::Length => terminal::print(
+            out,
+            b"this has no bytes, or more than a message may have",
+        ),
+        Refusal::Header => terminal::print(
+            out,
+            b"this does not begin as a message does, with MSH and its delimiters",
+        ),
+        Refusal::Delimiter => terminal::print(
+            out,
+            b"this may not be a delimiter, or is one already",
+        ),
+        _ => terminal::print(out, b"this byte may not stand in a message"),
+    }
+}
+
+// The words for 5 to 8: a fault in its segments.
+fn print_segments(out: Output, kind: Refusal) -> Output {
+    match kind {
+        Refusal::NotEnded => terminal::print(out, b"the last segment does not end with CR"),
+        Refusal::SegmentName => terminal::print(out, b"this segment does not begin with a name"),
+        Refusal::SecondHeader => terminal::print(out, b"this is a second MSH"),
+        _ => terminal::print(
+            out,
+            b"with this one there are more segments than a message may have",
+        ),
+    }
+}
+
+// The words for 12, 13 and 19: what is refused to the one who asks for a text or for an element.
+fn print_asking(out: Output, kind: Refusal) -> Output {
+    match kind {
+        Refusal::UnknownEscape => terminal::print(out, b"an escape that is not known"),
+        Refusal::UnclosedEscape => terminal::print(out, b"an escape that is never closed"),
+        _ => terminal::print(out, b"there is no such segment, or no such address"),
+    }
+}
+
+// The words for 9, 10, 16 and 17: why there is no acknowledgement.
+fn print_acknowledging(out: Output, kind: Refusal) -> Output {
+    match kind {
+        Refusal::NotAcknowledgeable => terminal::print(
+            out,
+            b"this has no header that could be acknowledged",
+        ),
+        Refusal::AcknowledgementTooLong => terminal::print(
+            out,
+            b"the acknowledgement would be too long",
+        ),
+        Refusal::CallersTime => terminal::print(out, b"the time is no TS"),
+        _ => terminal::print(out, b"the ID has no bytes, or more than an ID may have"),
+    }
+}
+
+// The words for 20 to 22: a fault of structure.
+fn print_structure(out: Output, kind: Refusal) -> Output {
+    match kind {
+        Refusal::NoStructure => terminal::print(
+            out,
+            b"no structure is known for this type of message",
+        ),
+        Refusal::SegmentMisplaced => terminal::print(out, b"this segment cannot stand here"),
+        _ => terminal::print(out, b"the message ends too early"),
+    }
+}
+
+// The words for 31 to 34: what a field holds is refused.
+fn print_form(out: Output, kind: Refusal) -> Output {
+    match kind {
+        Refusal::RequiredMissing => terminal::print(
+            out,
+            b"this is required, and is absent or empty",
+        ),
+        Refusal::BreaksForm => terminal::print(out, b"this breaks the form of its type"),
+        Refusal::NotListed => terminal::print(out, b"this value is not in its list"),
+        _ => terminal::print(out, b"this is required, and is null"),
+    }
+}
+
+// The words for 35 to 37: how much it holds is refused.
+fn print_field(out: Output, kind: Refusal) -> Output {
+    match kind {
+        Refusal::ValueWithoutType => terminal::print(
+            out,
+            b"there is a value, and OBX-2 does not say of which type",
+        ),
+        Refusal::Repeated => terminal::print(out, b"this may not repeat"),
+        _ => terminal::print(out, b"this value is too long"),
+    }
+}
+
+// The words for a fault of structure or of a field.
+fn print_judging(out: Output, kind: Refusal) -> Output {
+    let number = alphabet::number(kind);
+    if number < 30 {
+        return print_structure(out, kind);
+    }
+    if number < 35 {
+        return print_form(out, kind);
+    }
+    print_field(out, kind)
+}
+
+// The words for a refusal.
+pub fn print_words(out: Output, kind: Refusal) -> Output {
+    let number = alphabet::number(kind);
+    if number < 5 {
+        return print_opening(out, kind);
+    }
+    if number < 9 {
+        return print_segments(out, kind);
+    }
+    if (number < 11) | ((number == 16) | (number == 17)) {
+        return print_acknowledging(out, kind);
+    }
+    if number < 20 {
+        return print_asking(out, kind);
+    }
+    print_judging(out, kind)
+}
+
+// A line that says of a file that it is refused: the number, and the words.
+pub fn print_refused(out: Output, name: &[u8], kind: Refusal) -> Output {
+    let out = terminal::print(out, name);
+    let number = alphabet::number(kind) as usize;
+    let out = terminal::print_counted(out, b": refused (", number, b"): ");
+    let out = print_words(out, kind);
+    terminal::end_line(out)
+}

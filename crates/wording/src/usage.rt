@@ -1,0 +1,68 @@
+// What the command can be asked, told to whoever asks for that, or asks nothing or something that it does not know. Each way to
+// ask has a line that can be typed as it stands. The command's version stands here too.
+use terminal::Output;
+
+// LF, which ends each line of the texts below.
+const LINE_FEED: u8 = 10;
+
+// Prints the lines of a text.
+fn print_lines(out: Output, text: &[u8]) -> Output {
+    let mut printed = out;
+    let mut start = 0;
+    while start < text.len() {
+        let end = places::part_end(text, LINE_FEED, start);
+        printed = terminal::print_line(printed, &text[start..end]);
+        start = end + 1;
+    }
+    printed
+}
+
+// What is asked of messages.
+fn print_asking(out: Output) -> Output {
+    print_lines(
+        out,
+        b"turrethog: what an HL7 v2.4 message says, and whether it is one
+
+  ./turrethog check FILE..
+      Accepted, or the first fault: its number, what it is in words, and where it stands.
+      ./turrethog check examples/*.hl7
+
+  ./turrethog show FILE
+      Every segment and its parts: each with its address, its state and its text.
+      ./turrethog show examples/blood-count.hl7
+
+  ./turrethog get FILE SEGMENT FIELD [REPETITION [COMPONENT [SUBCOMPONENT]]]
+      One element: its state (absent, empty, null or present) and its bytes as they were sent.
+      SEGMENT is a number, 0 for the first, or a name, which means the first of that name.
+      The others count from 1, as in PID-5.1. A repetition or a component of 0 is the whole.
+      ./turrethog get examples/blood-count.hl7 PID 5 1 1
+
+  ./turrethog ack FILE TIME ID
+      The acknowledgement, AA or AE, of a message at a time, with an ID of its own. Its bytes are written raw.
+      ./turrethog ack examples/blood-count.hl7 20240229093001+0000 ACK0001
+
+  ./turrethog --help
+  ./turrethog --version
+      This text, and which version of the command this is.
+
+",
+    )
+}
+
+// The usage text. The LF at the end of a line is printed as any LF that stands in a message.
+pub fn print_usage(out: Output) -> Output {
+    let out = print_asking(out);
+    let out = terminal::print_line(
+        out,
+        b"Bytes and segments count from 0. A byte that is not printable ASCII stands as hex in braces: LF is \n",
+    );
+    terminal::print_line(
+        out,
+        b"Exit status: 0 all is well, 1 a message is refused, 2 the words are wrong, a file cannot be read, or the output not written.",
+    )
+}
+
+// Which version of the command this is, and of what.
+pub fn print_version(out: Output) -> Output {
+    terminal::print_line(out, b"turrethog 0.1.0, for HL7 v2.4")
+}
