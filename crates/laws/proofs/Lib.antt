@@ -27,3 +27,4 @@ pub mod TextRoom
 pub mod SpeltDates
 pub mod SpeltClocks
 pub mod SpeltTimesLaws
+pub mod NameLists

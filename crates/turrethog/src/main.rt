@@ -2,11 +2,11 @@
 // says, gets an element out of it, and acknowledges it. This file is the frame: it reads the arguments and the files, and hands the messages on.
 mod status;
 
-use commands::answer_file;
 use arguments::CHECK;
 use arguments::HELP;
 use arguments::VERSION;
 use arguments::command_at;
+use commands::answer_file;
 ghost use Prim.Native.Nat.{_+_, _≤_, _<_};
 ghost use mathlib.Core.Path.{_≡_};
 ghost use lib.ListN.{length};
