@@ -3,6 +3,7 @@ pub mod HeaderLaws
 pub mod HeaderFields
 pub mod ElementLaws
 pub mod RawLaws
+pub mod LevelBytes
 pub mod ValueLaws
 pub mod ValueBytes
 pub mod OneSpelling
