@@ -1,18 +1,18 @@
 -- An element of a field that is split further, level by level: its bytes are those of its part of the split, and it is absent exactly where a level has
 -- fewer parts than the number asked for. Assumes nothing.
-use mathlib.Core.Path.{_≡_, refl, sym, ap, ap₂, subst, _∙_}
+use mathlib.Core.Path.{_≡_, refl, sym, ap, _∙_}
 use mathlib.Core.Bool.{Bool, true, false, cond}
 use mathlib.Core.List.{List, []}
 use mathlib.Core.Logic.{_⊎_, inl, inr, ⊎-elim, _↔_}
 use Prim.Native.Nat.{ℕ, zero, suc, _-_, _≤_, _<_}
 use native.Mathlib.Omega.{arith}
-use lib.Dec.{eqb, leb}
+use lib.Dec.{eqb}
 use lib.ListN.{length, getD}
-use borrow.Author.Tests.{eqb-true, eqb-false, ne-eqb, lt-leb}
+use borrow.Author.Tests.{eqb-true, eqb-false, lt-leb}
 use Rattle.alphabet.specs.Parts.{split}
 use Rattle.alphabet.specs.declared.parts.Part.{Part}
 use Rattle.alphabet.specs.declared.parts.Part.the-variants.{At, Absent}
-use Rattle.reading.specs.Segments.{delimitersOf, fieldSeparator, segments, segmentAt}
+use Rattle.reading.specs.Segments.{delimitersOf, fieldSeparator, segmentAt}
 use Rattle.element.specs.Finding.{partBytes}
 use Rattle.element.specs.Levels.{Within, fixed, partIn, fieldIn, below, repetitionAt, componentAt, elementAt}
 use Rattle.element.specs.declared.address.Address.{Address}
