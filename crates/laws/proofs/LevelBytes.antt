@@ -52,7 +52,7 @@ module _ (m : List ℕ) (sep : ℕ) where
 
 -- ---- the address
 
-split-further : (a : Address) → SplitFurther a → fixed (a .segment) (a .field) ≡ false
+pub split-further : (a : Address) → SplitFurther a → fixed (a .segment) (a .field) ≡ false
 split-further a h = at (eqb (a .segment) 0) refl
   where
     at : (t : Bool) → eqb (a .segment) 0 ≡ t → fixed (a .segment) (a .field) ≡ false

@@ -18,6 +18,8 @@ use Rattle.element.specs.States.{stateOf}
 use Rattle.element.specs.declared.address.Address.{Address}
 use Rattle.element.specs.declared.states.State.the-variants.{Absent as IsAbsent, Present as IsPresent}
 use Rattle.laws.specs.Elements.{Asks, levels, Past, SplitFurther, NoneBeyondOne}
+use Rattle.laws.specs.Held.{JudgedByElements}
+use Rattle.laws.proofs.Agreement.{judged-by-elements}
 use Rattle.laws.proofs.Asking.{answered-exactly, refused-exactly}
 use Rattle.laws.proofs.ElementLaws.{state-means}
 use Rattle.laws.proofs.FoundLaws.{was-read, four-long, element-is, stands-within, shown-is, state-at, absent-nowhere, segment-stands}
@@ -82,3 +84,8 @@ module _ (m : List ℕ) (a : Address) (done : found m a .answer .kind ≡ None) 
     -- "more is absent)"
     pub no-more-parts : a .field ≤ 2 → (NoneBeyondOne a → ⊥) → found m a .element .state ≡ IsAbsent
     no-more-parts early more = absent-nowhere m a done .1 (no-more m a header early more)
+
+-- ---- the field judge reads the same: what it looks at in each segment are the elements that a lookup finds there
+
+pub judged-elements : (m : List ℕ) → reading m ≡ Passes → JudgedByElements m
+judged-elements = judged-by-elements
