@@ -21,9 +21,11 @@ use Rattle.element.specs.declared.address.Address.{Address}
 use Rattle.element.specs.declared.states.State.{State}
 use Rattle.element.specs.declared.states.State.the-variants.{Absent as no-part}
 use Rattle.element.proofs.FindingLaws.{within-element, lookup-read, found-passes, shown}
+use Rattle.laws.specs.Elements.{levels, Past, SplitFurther}
 use Rattle.laws.specs.Means.{Means, null, empty, present}
 use Rattle.laws.proofs.Asking.{answered-exactly, lookup-passes}
 use Rattle.laws.proofs.ElementLaws.{state-means}
+use Rattle.laws.proofs.LevelBytes.{level-bytes, past-exactly}
 
 -- bytes that are there are not absent
 means-there : (ds bytes : List ℕ) (s : State) → Means ds bytes s → s ≡ no-part → ⊥
@@ -68,3 +70,12 @@ module _ (m : List ℕ) (a : Address) (done : found m a .answer .kind ≡ None) 
       at : (p : Part) → elementAt m a ≡ p → found m a .element .state ≡ no-part → elementAt m a ≡ Absent
       at Absent q f = q
       at (At s e) q f = absurd (means-there (delimitersOf m) (between m s e) (stateOf (delimitersOf m) (between m s e)) (state-means (delimitersOf m) (between m s e)) (sym (state-at s e q) ∙ f))
+
+  -- level by level, where the field is split further
+  pub bytes-by-levels : SplitFurther a → elementBytes m a ≡ levels m a
+  bytes-by-levels further = shown-is ∙ level-bytes m a four-long further
+
+  pub absent-by-levels : SplitFurther a → (found m a .element .state ≡ no-part) ↔ Past m a
+  absent-by-levels further =
+      let past = past-exactly m a four-long further segment-stands in
+      ((λ e. past .0 (absent-nowhere .0 e)), (λ p. absent-nowhere .1 (past .1 p)))

@@ -8,20 +8,23 @@ use native.Mathlib.Decide.{decLe}
 use native.Mathlib.Omega.{arith}
 use lib.ListN.{length, getD}
 use borrow.Author.Tests.{eq-eqb, le-leb}
+use Rattle.alphabet.specs.declared.answers.Refusal.the-variants.{None}
 use Rattle.alphabet.specs.declared.parts.Part.{Part}
 use Rattle.alphabet.specs.declared.parts.Part.the-variants.{At, Absent}
 use Rattle.alphabet.proofs.DelimiterLaws.{delimiters-differ}
 use Rattle.reading.specs.Message.{Message}
 use Rattle.reading.specs.Segments.{delimitersOf, segmentAt}
-use Rattle.element.specs.Levels.{fixed, fieldIn, below, repetitionAt, componentAt, elementAt}
+use Rattle.element.specs.Finding.{found, elementBytes, partBytes}
+use Rattle.element.specs.Levels.{between, fixed, fieldIn, below, repetitionAt, componentAt, elementAt}
 use Rattle.element.specs.States.{stateOf}
 use Rattle.element.specs.declared.address.Address.{Address}
-use Rattle.element.specs.declared.states.State.the-variants.{Present}
+use Rattle.element.specs.declared.states.State.the-variants.{Absent as no-part, Present}
 use Rattle.element.proofs.LevelLaws.{below-whole, below-own, below-past}
 use Rattle.laws.specs.Elements.{NoneBeyondOne}
 use Rattle.laws.specs.Means.{Separator, component, subcomponent, repetition, OnlySeparators, present}
 use Rattle.laws.proofs.ElementLaws.{state-means, one-state}
-use Rattle.laws.proofs.HeaderFields.{first-field, second-field}
+use Rattle.laws.proofs.FoundLaws.{was-read, four-long, shown-is, state-at, absent-nowhere}
+use Rattle.laws.proofs.HeaderFields.{first-field, second-field, one-byte, four-bytes}
 
 -- ---- a level of a part that is not split
 
@@ -62,7 +65,7 @@ module _ (m : List ℕ) (a : Address) (header : a .segment ≡ 0) (early : a .fi
       ∙ whole-below (getD (delimitersOf m) 2 0) m fieldPart (a .repetition) (h .0))
 
   -- "more is absent"
-  pub no-more : (NoneBeyondOne a → ⊥) → elementAt m a ≡ Absent
+  no-more : (NoneBeyondOne a → ⊥) → elementAt m a ≡ Absent
   unfolding elementAt componentAt repetitionAt
   no-more h = rw not-split (at (decLe (a .repetition) 1) (decLe (a .component) 1) (decLe (a .subcomponent) 1))
     where
@@ -88,10 +91,10 @@ module _ (m : List ℕ) (a : Address) (header : a .segment ≡ 0) (early : a .fi
   field-is : (f : ℕ) → a .field ≡ f → fieldPart ≡ fieldIn m 0 (segmentAt m 0) f
   field-is f e = ap₂ (λ (k n : ℕ). fieldIn m k (segmentAt m k) n) header e
 
-  pub separator-at : a .field ≡ 1 → NoneBeyondOne a → elementAt m a ≡ At 3 4
+  separator-at : a .field ≡ 1 → NoneBeyondOne a → elementAt m a ≡ At 3 4
   separator-at e h = whole-field h ∙ field-is 1 e ∙ first-field m
 
-  pub encoding-at : Message m → a .field ≡ 2 → NoneBeyondOne a → elementAt m a ≡ At 4 8
+  encoding-at : Message m → a .field ≡ 2 → NoneBeyondOne a → elementAt m a ≡ At 4 8
   encoding-at g e h = whole-field h ∙ field-is 2 e ∙ second-field m g
 
 -- ---- they are present
@@ -112,13 +115,34 @@ module _ (m : List ℕ) (g : Message m) where
   is-present : (bytes : List ℕ) → (length bytes ≡ 2 → ⊥) → (OnlySeparators ds bytes → ⊥) → stateOf ds bytes ≡ Present
   is-present bytes n h = one-state ds bytes (stateOf ds bytes) Present (state-means ds bytes) (present (λ e. n (ap length e)) h)
 
-  pub separator-present : stateOf ds (getD m 3 0 ∷ []) ≡ Present
+  separator-present : stateOf ds (getD m 3 0 ∷ []) ≡ Present
   separator-present =
       is-present (getD m 3 0 ∷ []) (λ e. omega arith)
       (λ (h : OnlySeparators ds (getD m 3 0 ∷ [])). no-separator 0 (omega arith) (λ e. omega arith) (λ e. omega arith) (λ e. omega arith) (h 0 (omega arith)))
 
-  pub encoding-present : stateOf ds (getD m 4 0 ∷ getD m 5 0 ∷ getD m 6 0 ∷ getD m 7 0 ∷ []) ≡ Present
+  encoding-present : stateOf ds (getD m 4 0 ∷ getD m 5 0 ∷ getD m 6 0 ∷ getD m 7 0 ∷ []) ≡ Present
   encoding-present =
       is-present (getD m 4 0 ∷ getD m 5 0 ∷ getD m 6 0 ∷ getD m 7 0 ∷ []) (λ e. omega arith)
       (λ (h : OnlySeparators ds (getD m 4 0 ∷ getD m 5 0 ∷ getD m 6 0 ∷ getD m 7 0 ∷ [])).
       no-separator 3 (omega arith) (λ e. omega arith) (λ e. omega arith) (λ e. omega arith) (h 2 (omega arith)))
+
+-- ---- what a lookup finds there
+
+module _ (m : List ℕ) (a : Address) (done : found m a .answer .kind ≡ None) (header : a .segment ≡ 0) where
+  at-place : (s e : ℕ) (bytes : List ℕ) → elementAt m a ≡ At s e → between m s e ≡ bytes → stateOf (delimitersOf m) bytes ≡ Present
+      → (elementBytes m a ≡ bytes) × (found m a .element .state ≡ Present)
+  at-place s e bytes q b p = (shown-is m a done ∙ ap (partBytes m) q ∙ b, state-at m a done s e q ∙ ap (stateOf (delimitersOf m)) b ∙ p)
+
+  pub separator-found : a .field ≡ 1 → NoneBeyondOne a → (elementBytes m a ≡ getD m 3 0 ∷ []) × (found m a .element .state ≡ Present)
+  separator-found e h =
+      let n = four-long m a done in
+      at-place 3 4 (getD m 3 0 ∷ []) (separator-at m a header (omega arith) e h) (one-byte m (omega arith)) (separator-present m (was-read m a done))
+
+  pub encoding-found : a .field ≡ 2 → NoneBeyondOne a → (elementBytes m a ≡ getD m 4 0 ∷ getD m 5 0 ∷ getD m 6 0 ∷ getD m 7 0 ∷ []) × (found m a .element .state ≡ Present)
+  encoding-found e h =
+      let n = was-read m a done .opened .nine-bytes in
+      at-place 4 8 (getD m 4 0 ∷ getD m 5 0 ∷ getD m 6 0 ∷ getD m 7 0 ∷ []) (encoding-at m a header (omega arith) (was-read m a done) e h) (four-bytes m (omega arith))
+      (encoding-present m (was-read m a done))
+
+  pub more-absent : a .field ≤ 2 → (NoneBeyondOne a → ⊥) → found m a .element .state ≡ no-part
+  more-absent early more = absent-nowhere m a done .1 (no-more m a header early more)

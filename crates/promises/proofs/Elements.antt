@@ -3,7 +3,6 @@ use mathlib.Core.Path.{_≡_, refl, sym, ap, subst, _∙_}
 use mathlib.Core.List.{List, [], _∷_}
 use mathlib.Core.Logic.{_⊎_, _↔_}
 use Prim.Native.Nat.{ℕ, _≤_, _<_}
-use native.Mathlib.Omega.{arith}
 use lib.ListN.{length, getD}
 use Rattle.alphabet.specs.Answers.{numberOf}
 use Rattle.alphabet.specs.declared.answers.Check.the-variants.{Passes}
@@ -22,10 +21,8 @@ use Rattle.laws.specs.Held.{JudgedByElements}
 use Rattle.laws.proofs.Agreement.{judged-by-elements}
 use Rattle.laws.proofs.Asking.{answered-exactly, refused-exactly}
 use Rattle.laws.proofs.ElementLaws.{state-means}
-use Rattle.laws.proofs.FoundLaws.{was-read, four-long, element-is, stands-within, shown-is, state-at, absent-nowhere, segment-stands}
-use Rattle.laws.proofs.HeaderElements.{no-more, separator-at, encoding-at, separator-present, encoding-present}
-use Rattle.laws.proofs.HeaderFields.{one-byte, four-bytes}
-use Rattle.laws.proofs.LevelBytes.{level-bytes, past-exactly}
+use Rattle.laws.proofs.FoundLaws.{element-is, stands-within, shown-is, bytes-by-levels, absent-by-levels}
+use Rattle.laws.proofs.HeaderElements.{separator-found, encoding-found, more-absent}
 use Rattle.promises.specs.Elements.{StateIs, absent, stands}
 
 -- ---- "An element is asked for by segment (from 0), field (from 1), repetition, component, subcomponent"
@@ -54,36 +51,25 @@ module _ (m : List ℕ) (a : Address) (done : found m a .answer .kind ≡ None) 
 
   -- "exactly its own bytes": those of its part of the split, level by level
   pub exact-bytes : SplitFurther a → elementBytes m a ≡ levels m a
-  exact-bytes further = shown-is m a done ∙ level-bytes m a (four-long m a done) further
+  exact-bytes = bytes-by-levels m a done
 
   -- "absent, past the last part": exactly where some level has fewer parts than the number asked for
   pub absent-exactly : SplitFurther a → (found m a .element .state ≡ IsAbsent) ↔ Past m a
-  absent-exactly further =
-      let nowhere = absent-nowhere m a done in
-      let past = past-exactly m a (four-long m a done) further (segment-stands m a done) in
-      ((λ e. past .0 (nowhere .0 e)), (λ p. nowhere .1 (past .1 p)))
+  absent-exactly = absent-by-levels m a done
 
   -- ---- "Field 1 of MSH is the separator byte, field 2 the four encoding bytes, neither split further"
 
-  module _ (header : a .segment ≡ 0) where
-    -- "(repetition, component and subcomponent 0 or 1 give the whole"
-    pub separator-field : a .field ≡ 1 → NoneBeyondOne a → (elementBytes m a ≡ getD m 3 0 ∷ []) × (found m a .element .state ≡ IsPresent)
-    separator-field e h =
-        let n = was-read m a done .opened .nine-bytes in
-        let q = separator-at m a header (omega arith) e h in
-        let bytes = one-byte m (omega arith) in
-        (shown-is m a done ∙ ap (partBytes m) q ∙ bytes, state-at m a done 3 4 q ∙ ap (stateOf (delimitersOf m)) bytes ∙ separator-present m (was-read m a done))
+  -- "(repetition, component and subcomponent 0 or 1 give the whole"
+  pub separator-field : a .segment ≡ 0 → a .field ≡ 1 → NoneBeyondOne a → (elementBytes m a ≡ getD m 3 0 ∷ []) × (found m a .element .state ≡ IsPresent)
+  separator-field = separator-found m a done
 
-    pub encoding-field : a .field ≡ 2 → NoneBeyondOne a → (elementBytes m a ≡ getD m 4 0 ∷ getD m 5 0 ∷ getD m 6 0 ∷ getD m 7 0 ∷ []) × (found m a .element .state ≡ IsPresent)
-    encoding-field e h =
-        let n = was-read m a done .opened .nine-bytes in
-        let q = encoding-at m a header (omega arith) (was-read m a done) e h in
-        let bytes = four-bytes m (omega arith) in
-        (shown-is m a done ∙ ap (partBytes m) q ∙ bytes, state-at m a done 4 8 q ∙ ap (stateOf (delimitersOf m)) bytes ∙ encoding-present m (was-read m a done))
+  pub encoding-field : a .segment ≡ 0 → a .field ≡ 2 → NoneBeyondOne a
+      → (elementBytes m a ≡ getD m 4 0 ∷ getD m 5 0 ∷ getD m 6 0 ∷ getD m 7 0 ∷ []) × (found m a .element .state ≡ IsPresent)
+  encoding-field = encoding-found m a done
 
-    -- "more is absent)"
-    pub no-more-parts : a .field ≤ 2 → (NoneBeyondOne a → ⊥) → found m a .element .state ≡ IsAbsent
-    no-more-parts early more = absent-nowhere m a done .1 (no-more m a header early more)
+  -- "more is absent)"
+  pub no-more-parts : a .segment ≡ 0 → a .field ≤ 2 → (NoneBeyondOne a → ⊥) → found m a .element .state ≡ IsAbsent
+  no-more-parts = more-absent m a done
 
 -- ---- the field judge reads the same: what it looks at in each segment are the elements that a lookup finds there
 
