@@ -1,5 +1,5 @@
 -- An element that was found, where nothing is refused: it is what stands at its address, and is shown with its bytes. Assumes nothing.
-use mathlib.Core.Path.{_≡_, refl, sym, ap, subst, _∙_}
+use mathlib.Core.Path.{_≡_, refl, sym, ap, subst, subst₂, _∙_}
 use mathlib.Core.List.{List}
 use mathlib.Core.Logic.{_↔_}
 use Prim.Native.Nat.{ℕ, _≤_}
@@ -79,3 +79,12 @@ module _ (m : List ℕ) (a : Address) (done : found m a .answer .kind ≡ None) 
   absent-by-levels further =
       let past = past-exactly m a four-long further segment-stands in
       ((λ e. past .0 (absent-nowhere .0 e)), (λ p. absent-nowhere .1 (past .1 p)))
+
+  pub state-by-levels : SplitFurther a → (Past m a → ⊥) → Means (delimitersOf m) (levels m a) (found m a .element .state)
+  state-by-levels further there = at (elementAt m a) refl
+    where
+      at : (p : Part) → elementAt m a ≡ p → Means (delimitersOf m) (levels m a) (found m a .element .state)
+      at Absent q = absurd (there (absent-by-levels further .0 (absent-nowhere .1 q)))
+      at (At s e) q =
+          let bytes : between m s e ≡ levels m a = ap (partBytes m) (sym q) ∙ level-bytes m a four-long further in
+          subst₂ (Means (delimitersOf m)) bytes (sym (state-at s e q)) (state-means (delimitersOf m) (between m s e))

@@ -18,10 +18,11 @@ use Rattle.element.specs.declared.address.Address.{Address}
 use Rattle.element.specs.declared.states.State.the-variants.{Absent as IsAbsent, Present as IsPresent}
 use Rattle.laws.specs.Elements.{Asks, levels, Past, SplitFurther, NoneBeyondOne}
 use Rattle.laws.specs.Held.{JudgedByElements}
+use Rattle.laws.specs.Means.{Means}
 use Rattle.laws.proofs.Agreement.{judged-by-elements}
 use Rattle.laws.proofs.Asking.{answered-exactly, refused-exactly}
 use Rattle.laws.proofs.ElementLaws.{state-means}
-use Rattle.laws.proofs.FoundLaws.{element-is, stands-within, shown-is, bytes-by-levels, absent-by-levels}
+use Rattle.laws.proofs.FoundLaws.{element-is, stands-within, shown-is, bytes-by-levels, absent-by-levels, state-by-levels}
 use Rattle.laws.proofs.HeaderElements.{separator-found, encoding-found, more-absent}
 use Rattle.promises.specs.Elements.{StateIs, absent, stands}
 
@@ -56,6 +57,10 @@ module _ (m : List ℕ) (a : Address) (done : found m a .answer .kind ≡ None) 
   -- "absent, past the last part": exactly where some level has fewer parts than the number asked for
   pub absent-exactly : SplitFurther a → (found m a .element .state ≡ IsAbsent) ↔ Past m a
   absent-exactly = absent-by-levels m a done
+
+  -- elsewhere it is in the state that those bytes mean
+  pub state-exactly : SplitFurther a → (Past m a → ⊥) → Means (delimitersOf m) (levels m a) (found m a .element .state)
+  state-exactly = state-by-levels m a done
 
   -- ---- "Field 1 of MSH is the separator byte, field 2 the four encoding bytes, neither split further"
 
