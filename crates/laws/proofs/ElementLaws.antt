@@ -2,8 +2,8 @@
 -- level with one part is that part. Assumes nothing.
 use mathlib.Core.Path.{_≡_, refl, sym, ap, subst, _∙_}
 use mathlib.Core.List.{List, []}
-use mathlib.Core.Bool.{Bool, true, false, not, cond}
-use Prim.Native.Nat.{ℕ, _+_, _-_, _≤_, _<_}
+use mathlib.Core.Bool.{Bool, true, false, not, cond, _||_}
+use Prim.Native.Nat.{ℕ, _+_, _-_, _≤_}
 use native.Mathlib.Omega.{arith}
 use lib.Dec.{eqb}
 use lib.ListN.{length, getD, take, drop}
@@ -24,22 +24,40 @@ use Rattle.element.specs.declared.address.Address.{Address}
 use Rattle.element.specs.declared.states.State.{State}
 use Rattle.element.specs.declared.states.State.the-variants.{Empty, Null, Present}
 use Rattle.reading.specs.Message.{Message}
-use Rattle.laws.specs.Means.{Means, null, empty, present}
+use Rattle.laws.specs.Means.{Separator, component, subcomponent, repetition, OnlySeparators, Means, null, empty, present}
 use Rattle.laws.proofs.HeaderLaws.{first-segment}
 use Rattle.element.proofs.LevelLaws.{between-length, in-absent, within-segment, within-field, within-below}
 use Rattle.element.proofs.StateLaws.{state-null, state-empty, state-present}
 
 -- ---- the states and their bytes
 
--- empty: every byte is a component, repetition or subcomponent separator
-all-blank : (ds bytes : List ℕ) → isEmpty ds bytes ≡ true → (i : ℕ) → i < length bytes → blank ds (getD bytes i 0) ≡ true
-all-blank ds bytes e i h =
-    let n = eqb-true (first (λ (b : ℕ). not (blank ds b)) bytes) (length bytes) e in
-    not-false (blank ds (getD bytes i 0)) (first-before (λ (b : ℕ). not (blank ds b)) bytes i (omega arith))
+-- a byte is blank exactly where it is one of the three separators
+is-separator : (ds : List ℕ) (b : ℕ) → blank ds b ≡ true → Separator ds b
+is-separator ds b = at (eqb b (getD ds 1 0)) refl (eqb b (getD ds 2 0)) refl
+  where
+    at : (t : Bool) → eqb b (getD ds 1 0) ≡ t → (u : Bool) → eqb b (getD ds 2 0) ≡ u → (t || (u || eqb b (getD ds 4 0))) ≡ true → Separator ds b
+    at true e u f h = component (eqb-true b (getD ds 1 0) e)
+    at false e true f h = repetition (eqb-true b (getD ds 2 0) f)
+    at false e false f h = subcomponent (eqb-true b (getD ds 4 0) h)
 
-blank-all : (ds bytes : List ℕ) → ((i : ℕ) → i < length bytes → blank ds (getD bytes i 0) ≡ true) → isEmpty ds bytes ≡ true
-blank-all ds bytes h =
-    eq-eqb (first (λ (b : ℕ). not (blank ds b)) bytes) (length bytes) (first-none (λ (b : ℕ). not (blank ds b)) bytes (λ i k. ap not (h i k)))
+or-last : (x : Bool) → (x || true) ≡ true
+or-last true = refl
+or-last false = refl
+
+is-blank : (ds : List ℕ) (b : ℕ) → Separator ds b → blank ds b ≡ true
+is-blank ds b (component e) = rw (eq-eqb b (getD ds 1 0) e)
+is-blank ds b (repetition e) = rw (eq-eqb b (getD ds 2 0) e) (or-last (eqb b (getD ds 1 0)))
+is-blank ds b (subcomponent e) = rw (eq-eqb b (getD ds 4 0) e, or-last (eqb b (getD ds 2 0))) (or-last (eqb b (getD ds 1 0)))
+
+only-separators : (ds bytes : List ℕ) → isEmpty ds bytes ≡ true → OnlySeparators ds bytes
+only-separators ds bytes e i h =
+    let n = eqb-true (first (λ (b : ℕ). not (blank ds b)) bytes) (length bytes) e in
+    is-separator ds (getD bytes i 0) (not-false (blank ds (getD bytes i 0)) (first-before (λ (b : ℕ). not (blank ds b)) bytes i (omega arith)))
+
+separators-only : (ds bytes : List ℕ) → OnlySeparators ds bytes → isEmpty ds bytes ≡ true
+separators-only ds bytes h =
+    eq-eqb (first (λ (b : ℕ). not (blank ds b)) bytes) (length bytes)
+    (first-none (λ (b : ℕ). not (blank ds b)) bytes (λ i k. ap not (is-blank ds (getD bytes i 0) (h i k))))
 
 -- each state means what it should of the bytes
 pub state-means : (ds bytes : List ℕ) → Means ds bytes (stateOf ds bytes)
@@ -47,10 +65,10 @@ state-means ds bytes = at (isNull bytes) refl (isEmpty ds bytes) refl
   where
     at : (t : Bool) → isNull bytes ≡ t → (u : Bool) → isEmpty ds bytes ≡ u → Means ds bytes (stateOf ds bytes)
     at true e u f = subst (Means ds bytes) (sym (state-null ds bytes e)) (null (two-quotes bytes e))
-    at false e true f = subst (Means ds bytes) (sym (state-empty ds bytes e f)) (empty (not-quotes bytes e) (all-blank ds bytes f))
+    at false e true f = subst (Means ds bytes) (sym (state-empty ds bytes e f)) (empty (not-quotes bytes e) (only-separators ds bytes f))
     at false e false f =
         subst (Means ds bytes) (sym (state-present ds bytes e f))
-        (present (not-quotes bytes e) (λ (h : (i : ℕ) → i < length bytes → blank ds (getD bytes i 0) ≡ true). false-true (sym f ∙ blank-all ds bytes h)))
+        (present (not-quotes bytes e) (λ (h : OnlySeparators ds bytes). false-true (sym f ∙ separators-only ds bytes h)))
 
 -- no other state says that of them
 pub one-state : (ds bytes : List ℕ) (s t : State) → Means ds bytes s → Means ds bytes t → s ≡ t

@@ -2,7 +2,7 @@
 use mathlib.Core.Path.{_≡_, refl, sym, ap, _∙_}
 use mathlib.Core.Bool.{Bool, true, false, _&&_, _||_}
 use mathlib.Core.List.{List, [], _∷_}
-use Prim.Native.Nat.{ℕ, _+_, _-_, _≤_, _<_}
+use Prim.Native.Nat.{ℕ, _+_, _≤_, _<_}
 use native.Mathlib.Decide.{decLt}
 use native.Mathlib.Nat.{sub-zero}
 use native.Mathlib.Omega.{arith}
@@ -21,8 +21,8 @@ use Rattle.alphabet.proofs.DelimiterLaws.{delimiter-permitted, delimiters-diffe
 use Rattle.alphabet.proofs.ListLaws.{drop-next, first-le, first-before, first-reached, first-next}
 use Rattle.alphabet.proofs.PartLaws.{standing-first, standing-walk}
 use Rattle.reading.specs.Message.{Message}
-use Rattle.reading.specs.Segments.{delimitersOf, fieldSeparator}
-use Rattle.element.specs.Levels.{between, moved, partIn, fieldIn, below, repetitionAt, componentAt, elementAt}
+use Rattle.reading.specs.Segments.{delimitersOf, fieldSeparator, segmentAt}
+use Rattle.element.specs.Levels.{between, moved, partIn, fieldIn}
 use Rattle.laws.proofs.HeaderLaws.{first-segment}
 
 module _ (m : List ℕ) (g : Message m) where
@@ -108,15 +108,15 @@ module _ (m : List ℕ) (g : Message m) where
       standing-walk sep line 0 3 0 (sym name-ends) (omega arith) ∙ standing-first sep 4 (drop 4 line) ∙ ap (λ (k : ℕ). At 4 (4 + k)) encoding-ends
 
   -- where the two fields stand
-  pub first-field : elementAt m (record { segment = 0; field = 1; repetition = 0; component = 0; subcomponent = 0 }) ≡ At 3 4
-  unfolding elementAt componentAt repetitionAt below fieldIn
-  first-field = refl
-
-  pub second-field : elementAt m (record { segment = 0; field = 2; repetition = 0; component = 0; subcomponent = 0 }) ≡ At 4 8
-  unfolding elementAt componentAt repetitionAt below fieldIn partIn
+  pub second-field : fieldIn m 0 (segmentAt m 0) 2 ≡ At 4 8
+  unfolding fieldIn partIn
   second-field =
       ap (λ (p : Part). partIn sep m p 1) (first-segment m g .0)
       ∙ ap (λ (n : ℕ). moved 0 (partAt sep (take n m) 1)) (sub-zero end) ∙ ap (moved 0) second-part
+
+pub first-field : (m : List ℕ) → fieldIn m 0 (segmentAt m 0) 1 ≡ At 3 4
+unfolding fieldIn
+first-field m = refl
 
 -- their bytes, in a message that has so many
 pub one-byte : (m : List ℕ) → 3 < length m → between m 3 4 ≡ getD m 3 0 ∷ []

@@ -3,6 +3,10 @@ pub mod HeaderLaws
 pub mod HeaderFields
 pub mod ElementLaws
 pub mod RawLaws
+pub mod LevelBytes
+pub mod Asking
+pub mod FoundLaws
+pub mod HeaderElements
 pub mod ValueLaws
 pub mod ValueBytes
 pub mod OneSpelling

@@ -1,0 +1,82 @@
+-- Demand 2, of elements: "each element absent, empty, null or present, with exactly its own bytes". Assumes nothing.
+use mathlib.Core.Path.{_≡_, refl, sym, ap, subst, _∙_}
+use mathlib.Core.List.{List, [], _∷_}
+use mathlib.Core.Logic.{_⊎_, _↔_}
+use Prim.Native.Nat.{ℕ, _≤_, _<_}
+use lib.ListN.{length, getD}
+use Rattle.alphabet.specs.Answers.{numberOf}
+use Rattle.alphabet.specs.declared.answers.Check.the-variants.{Passes}
+use Rattle.alphabet.specs.declared.answers.Refusal.the-variants.{None}
+use Rattle.alphabet.specs.declared.parts.Part.{Part}
+use Rattle.alphabet.specs.declared.parts.Part.the-variants.{At, Absent}
+use Rattle.reading.specs.Reading.{reading}
+use Rattle.reading.specs.Segments.{delimitersOf, segments}
+use Rattle.element.specs.Finding.{elementIn, found, elementBytes, partBytes}
+use Rattle.element.specs.Levels.{between, elementAt}
+use Rattle.element.specs.States.{stateOf}
+use Rattle.element.specs.declared.address.Address.{Address}
+use Rattle.element.specs.declared.states.State.the-variants.{Absent as IsAbsent, Present as IsPresent}
+use Rattle.laws.specs.Elements.{Asks, levels, Past, SplitFurther, NoneBeyondOne}
+use Rattle.laws.specs.Held.{JudgedByElements}
+use Rattle.laws.specs.Means.{Means}
+use Rattle.laws.proofs.Agreement.{judged-by-elements}
+use Rattle.laws.proofs.Asking.{answered-exactly, refused-exactly}
+use Rattle.laws.proofs.ElementLaws.{state-means}
+use Rattle.laws.proofs.FoundLaws.{element-is, stands-within, shown-is, bytes-by-levels, absent-by-levels, state-by-levels}
+use Rattle.laws.proofs.HeaderElements.{separator-found, encoding-found, more-absent}
+use Rattle.promises.specs.Elements.{StateIs, absent, stands}
+
+-- ---- "An element is asked for by segment (from 0), field (from 1), repetition, component, subcomponent"
+
+-- an element is found exactly where the message was read, the address asks for something and its segment is there
+pub found-exactly : (m : List ℕ) (a : Address) → (found m a .answer .kind ≡ None) ↔ ((reading m ≡ Passes) × Asks a × (a .segment < length (segments m)))
+found-exactly = answered-exactly
+
+-- 19, exactly where the message was read: "bad address, or no such segment"
+pub address-refused : (m : List ℕ) (a : Address) → (numberOf (found m a .answer .kind) ≡ 19) ↔ ((reading m ≡ Passes) × ((Asks a → ⊥) ⊎ (length (segments m) ≤ a .segment)))
+address-refused = refused-exactly
+
+module _ (m : List ℕ) (a : Address) (done : found m a .answer .kind ≡ None) where
+  -- ---- the four states
+
+  pub four-states : StateIs m a (found m a .element)
+  four-states = subst (StateIs m a) (sym (element-is m a done)) (at (elementAt m a) refl)
+    where
+      at : (p : Part) → elementAt m a ≡ p → StateIs m a (elementIn m p)
+      at Absent q = absent q
+      at (At s e) q =
+          let w = stands-within m a done s e q in
+          stands s e (stateOf (delimitersOf m) (between m s e)) q (w .0) (w .1) (state-means (delimitersOf m) (between m s e)) (shown-is m a done ∙ ap (partBytes m) q)
+
+  -- ---- all fields but MSH-1 and MSH-2
+
+  -- "exactly its own bytes": those of its part of the split, level by level
+  pub exact-bytes : SplitFurther a → elementBytes m a ≡ levels m a
+  exact-bytes = bytes-by-levels m a done
+
+  -- "absent, past the last part": exactly where some level has fewer parts than the number asked for
+  pub absent-exactly : SplitFurther a → (found m a .element .state ≡ IsAbsent) ↔ Past m a
+  absent-exactly = absent-by-levels m a done
+
+  -- elsewhere it is in the state that those bytes mean
+  pub state-exactly : SplitFurther a → (Past m a → ⊥) → Means (delimitersOf m) (levels m a) (found m a .element .state)
+  state-exactly = state-by-levels m a done
+
+  -- ---- "Field 1 of MSH is the separator byte, field 2 the four encoding bytes, neither split further"
+
+  -- "(repetition, component and subcomponent 0 or 1 give the whole"
+  pub separator-field : a .segment ≡ 0 → a .field ≡ 1 → NoneBeyondOne a → (elementBytes m a ≡ getD m 3 0 ∷ []) × (found m a .element .state ≡ IsPresent)
+  separator-field = separator-found m a done
+
+  pub encoding-field : a .segment ≡ 0 → a .field ≡ 2 → NoneBeyondOne a
+      → (elementBytes m a ≡ getD m 4 0 ∷ getD m 5 0 ∷ getD m 6 0 ∷ getD m 7 0 ∷ []) × (found m a .element .state ≡ IsPresent)
+  encoding-field = encoding-found m a done
+
+  -- "more is absent)"
+  pub no-more-parts : a .segment ≡ 0 → a .field ≤ 2 → (NoneBeyondOne a → ⊥) → found m a .element .state ≡ IsAbsent
+  no-more-parts = more-absent m a done
+
+-- ---- the field judge reads the same: what it looks at in each segment are the elements that a lookup finds there
+
+pub judged-elements : (m : List ℕ) → reading m ≡ Passes → JudgedByElements m
+judged-elements = judged-by-elements
