@@ -4,3 +4,4 @@ pub mod Acknowledgements
 pub mod Structures
 pub mod Values
 pub mod Texts
+pub mod ForC

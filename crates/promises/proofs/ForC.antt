@@ -1,0 +1,99 @@
+-- The demands for what C gets, over the definitions that the contracts of crates/boundary cite. Assumes nothing.
+use mathlib.Core.Path.{_≡_, refl, sym, ap, subst, _∙_}
+use mathlib.Core.Logic.{_↔_}
+use mathlib.Core.List.{List, [], _++_}
+use Prim.Native.Nat.{ℕ, _-_, _≤_, _<_}
+use native.Mathlib.Omega.{arith}
+use lib.ListN.{length, getD, take, replicate}
+use Rattle.alphabet.specs.Answers.{numberOf}
+use Rattle.alphabet.specs.declared.answers.Answer.{Answer}
+use Rattle.alphabet.specs.declared.answers.Check.the-variants.{Passes}
+use Rattle.alphabet.specs.declared.answers.Refusal.{Refusal}
+use Rattle.alphabet.specs.declared.answers.Refusal.the-variants.{None}
+use Rattle.reading.specs.Reading.{reading}
+use Rattle.text.specs.Answers.{escaping, unescaping, answer, filled}
+use Rattle.structure.specs.Shapes.{Shape, Viable}
+use Rattle.structure.specs.Listed.{In}
+use Rattle.structure.specs.SegmentNames.{segmentNames}
+use Rattle.structure.specs.Structures.{listed, structureOf, grammarOf}
+use Rattle.structure.specs.Judged.{plain, nameList, front, Answers}
+use Rattle.structure.specs.declared.judging.Judgement.{Judgement}
+use Rattle.structure.specs.declared.listing.Names.{Names}
+use Rattle.structure.proofs.OnlyOne.{only-one}
+use Rattle.verdict.proofs.VerdictLaws.{number-none}
+use Rattle.boundary.specs.Seen.{seen, structureSeen, StructureSeen, NameSeen, AcknowledgeSeen}
+use Rattle.boundary.specs.declared.answers.CAnswer.{CAnswer}
+use Rattle.boundary.specs.declared.judges.CStructure.{CStructure}
+use Rattle.laws.proofs.NameLists.{in-at, at-in, front-at, behind-at, once-each}
+use Rattle.laws.proofs.RoundTrip.{AreBytes}
+use Rattle.promises.specs.Acknowledgements.{Carries}
+use Rattle.promises.specs.ForC.{NamesOneByOne}
+use Rattle.promises.specs.Structures.{Exactly, accepted, refused, RefusedExactly}
+use Rattle.promises.proofs.Demand1.{escape-leaves, unescape-leaves, acknowledge-leaves}
+use Rattle.promises.proofs.Demand2.{acknowledgement-carries}
+use Rattle.promises.proofs.Demand3.{structure-exactly}
+
+-- ---- "After a refusal every buffer lent holds the bytes it held before.": a number other than 0 is a refusal
+
+pub c-escape-leaves : (ds t lent : List ℕ) → (seen (answer (escaping ds t (length lent))) .number ≡ 0 → ⊥) → filled (escaping ds t (length lent)) lent ≡ lent
+c-escape-leaves ds t lent some = escape-leaves ds t lent (λ e. some (ap numberOf e))
+
+pub c-unescape-leaves : (ds s lent : List ℕ) → (seen (answer (unescaping ds s (length lent))) .number ≡ 0 → ⊥) → filled (unescaping ds s (length lent)) lent ≡ lent
+c-unescape-leaves ds s lent some = unescape-leaves ds s lent (λ e. some (ap numberOf e))
+
+module _ (m time id lent : List ℕ) {r : CAnswer} {left : List ℕ} (a : AcknowledgeSeen m time id lent r left) where
+  pub c-acknowledge-leaves : (r .number ≡ 0 → ⊥) → left ≡ lent
+  c-acknowledge-leaves some = acknowledge-leaves m time id lent (a .acknowledges) (λ e. some (ap (λ (x : CAnswer). x .number) (a .seen-as) ∙ ap numberOf e))
+
+  -- and 0 is an acknowledgement, as long as C is told
+  pub c-acknowledgement-carries : AreBytes id → r .number ≡ 0 → Carries m time id (take (r .length) left)
+  c-acknowledgement-carries small done =
+      let kind = number-none (a .answer .kind) (sym (ap (λ (x : CAnswer). x .number) (a .seen-as)) ∙ done) in
+      subst (λ (n : ℕ). Carries m time id (take n left)) (sym (ap (λ (x : CAnswer). x .length) (a .seen-as)))
+      (acknowledgement-carries m time id lent small (a .acknowledges) kind)
+
+-- ---- "lists exactly the structure's names that could have stood there"
+
+module _ (m : List ℕ) (s : Shape) {j : Judgement} (a : Answers m j) (r : RefusedExactly s (segmentNames m) j) where
+  size : j .names .count ≡ length (r .list)
+  size = ap (λ (n : Names). n .count) (r .given)
+
+  from : {i n : ℕ} → NameSeen m i n → n ≡ getD (r .list ++ replicate (64 - length (r .list)) 0) i 0
+  from {i} x = x .seen-as ∙ ap (λ (k : Judgement). getD (k .names .list) i 0) (only-one m (x .answers) a) ∙ ap (λ (n : Names). getD (n .list) i 0) (r .given)
+
+  inside : {i : ℕ} → i < j .names .count → i < length (r .list)
+  inside h = let n = size in omega arith
+
+  name-is : {i n : ℕ} → i < j .names .count → NameSeen m i n → n ≡ getD (r .list) i 0
+  name-is {i} h x = from x ∙ front-at (r .list) (replicate (64 - length (r .list)) 0) i (inside h)
+
+  seen-at : (i : ℕ) → i < length (r .list) → NameSeen m i (getD (r .list) i 0)
+  seen-at i h = record {
+    judgement = j;
+    answers = a;
+    seen-as = sym (ap (λ (n : Names). getD (n .list) i 0) (r .given) ∙ front-at (r .list) (replicate (64 - length (r .list)) 0) i h);
+  }
+
+  one-by-one : NamesOneByOne m s (structureSeen j)
+  one-by-one = record {
+    given = λ i n h x. r .could-stand n .0 (subst (λ (k : ℕ). In k (r .list)) (sym (name-is h x)) (in-at (r .list) i (inside h)));
+    every =
+        λ n v.
+            let f = at-in (r .could-stand n .1 v) in
+            let l = f .1 in
+            let z = size in
+            (f .0, omega arith, subst (NameSeen m (f .0)) (f .2) (seen-at (f .0) l));
+    once = λ i k n h l x y. once-each _ _ (r .list) (r .once) i k (inside h) (inside l) (sym (name-is h x) ∙ name-is l y);
+    behind = λ i n h x. let z = size in from x ∙ behind-at (r .list) (64 - length (r .list)) i (omega arith);
+  }
+
+-- a message that was read, whose type is listed with the structure s, and that C sees refused
+pub names-one-by-one : (m : List ℕ) (s : Shape) → reading m ≡ Passes → grammarOf (structureOf m) ≡ listed s → {r : CStructure} → StructureSeen m r → (r .number ≡ 0 → ⊥)
+    → NamesOneByOne m s r
+names-one-by-one m s done known x some =
+    subst (NamesOneByOne m s) (sym (x .seen-as))
+    (by (structure-exactly m s done known (x .answers)) (λ e. some (ap (λ (c : CStructure). c .number) (x .seen-as) ∙ ap numberOf e)) (x .answers))
+  where
+    by : {j : Judgement} → Exactly s (segmentNames m) j → (j .kind ≡ None → ⊥) → Answers m j → NamesOneByOne m s (structureSeen j)
+    by (accepted y) n a = absurd (n refl)
+    by (refused r) n a = one-by-one m s a r
