@@ -14,3 +14,4 @@ pub use elements::COffset;
 pub use elements::CTime;
 pub use judges::CStructure;
 pub use judges::CVerdict;
+pub use texts::turrethog_acknowledge;

@@ -79,10 +79,10 @@ module _ (m : List ℕ) (s : Shape) {j : Judgement} (a : Answers m j) (r : Refus
     given = λ i n h x. r .could-stand n .0 (subst (λ (k : ℕ). In k (r .list)) (sym (name-is h x)) (in-at (r .list) i (inside h)));
     every =
         λ n v.
-            let f = at-in (r .could-stand n .1 v) in
-            let l = f .1 in
-            let z = size in
-            (f .0, omega arith, subst (NameSeen m (f .0)) (f .2) (seen-at (f .0) l));
+        let f = at-in (r .could-stand n .1 v) in
+        let l = f .1 in
+        let z = size in
+        (f .0, omega arith, subst (NameSeen m (f .0)) (f .2) (seen-at (f .0) l));
     once = λ i k n h l x y. once-each _ _ (r .list) (r .once) i k (inside h) (inside l) (sym (name-is h x) ∙ name-is l y);
     behind = λ i n h x. let z = size in from x ∙ behind-at (r .list) (64 - length (r .list)) i (omega arith);
   }
