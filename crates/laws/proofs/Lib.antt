@@ -21,14 +21,6 @@ pub mod ControlId
 pub mod SenderLaws
 pub mod WrittenLaws
 pub mod Acknowledged
-pub mod SpeltLaws
-pub mod SpeltNumbersLaws
-pub mod TableLaws
-pub mod EscapeRows
-pub mod FaultyLaws
 pub mod AskedFacts
 pub mod TextRoom
-pub mod SpeltDates
-pub mod SpeltClocks
-pub mod SpeltTimesLaws
 pub mod NameLists

@@ -1,9 +1,3 @@
 pub mod Means
-pub mod Tables
-pub mod Escapes
-pub mod Faulty
 pub mod Elements
 pub mod Held
-pub mod Spelt
-pub mod SpeltNumbers
-pub mod SpeltTimes

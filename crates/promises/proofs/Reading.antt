@@ -9,8 +9,8 @@ use Rattle.alphabet.specs.declared.answers.Refusal.{Refusal}
 use Rattle.reading.specs.Reading.{reading}
 use Rattle.reading.specs.Message.{Message}
 use Rattle.reading.proofs.Accepted.{accepted, accepting}
-use Rattle.laws.specs.Faulty.{Faulty}
-use Rattle.laws.proofs.FaultyLaws.{refused-so, faulty-so}
+use Rattle.grammars.specs.Faulty.{Faulty}
+use Rattle.grammars.proofs.FaultyLaws.{refused-so, faulty-so}
 
 pub read-accepts-exactly : (m : List ℕ) → (reading m ≡ Passes) ↔ Message m
 read-accepts-exactly m = (accepted m, accepting m)

@@ -15,11 +15,11 @@ use Rattle.times.specs.declared.moments.ReadTime.{ReadTime}
 use Rattle.value.specs.Asked.{nmFound, siFound, dtFound, tmFound, tsFound}
 use Rattle.value.specs.declared.asked.NumberFound.{NumberFound}
 use Rattle.value.specs.declared.asked.TimeFound.{TimeFound}
-use Rattle.laws.specs.SpeltNumbers.{NmSays, SiSays}
-use Rattle.laws.specs.SpeltTimes.{DtSays, TmSays, TsSays}
+use Rattle.grammars.specs.SpeltNumbers.{NmSays, SiSays}
+use Rattle.grammars.specs.SpeltTimes.{DtSays, TmSays, TsSays}
 use Rattle.laws.proofs.AskedFacts.{number-said, number-alone, number-state, time-said, time-alone, time-state}
-use Rattle.laws.proofs.SpeltNumbersLaws as Numbers
-use Rattle.laws.proofs.SpeltTimesLaws as Times
+use Rattle.grammars.proofs.SpeltNumbersLaws as Numbers
+use Rattle.grammars.proofs.SpeltTimesLaws as Times
 use Rattle.promises.specs.Values.{numberSaid, timeSaid, stateAlone, timelessState}
 
 module _ (m : List ℕ) (a : Address) where

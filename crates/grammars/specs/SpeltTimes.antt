@@ -11,7 +11,7 @@ use Rattle.calendar.specs.declared.figures.Clock.{Clock}
 use Rattle.calendar.specs.declared.figures.Offset.{Offset}
 use Rattle.calendar.specs.declared.figures.Time.{Time}
 use Rattle.times.specs.declared.moments.ReadTime.{ReadTime}
-use Rattle.laws.specs.Spelt.{Says}
+use Rattle.grammars.specs.Spelt.{Says}
 
 -- ---- figures
 

@@ -18,10 +18,10 @@ use Rattle.alphabet.proofs.ListLaws.{find-is}
 use Rattle.text.specs.Escape.{letters, escapeByte}
 use Rattle.text.specs.Unescape.{known, meaning}
 use Rattle.text.proofs.PieceLaws.{written-letter}
-use Rattle.laws.specs.Escapes.{Letter, F, S, T, R, E, Pairs, none, pair, Escapes, letter, hex}
-use Rattle.laws.specs.Tables.{hexNumber}
+use Rattle.grammars.specs.Escapes.{Letter, F, S, T, R, E, Pairs, none, pair, Escapes, letter, hex}
+use Rattle.grammars.specs.Tables.{hexNumber}
 use Rattle.laws.proofs.RoundTrip.{AreBytes}
-use Rattle.laws.proofs.TableLaws.{hex-table}
+use Rattle.grammars.proofs.TableLaws.{hex-table}
 
 module _ (field component repetition escape subcomponent : ℕ) where
   abbrev ds : List ℕ

@@ -21,9 +21,9 @@ use Rattle.calendar.specs.declared.figures.Offset.{Offset}
 use Rattle.times.specs.Times.{figureAt, fractionOf, clockOf, offsetOf, fractionForm, zoneForm}
 use Rattle.times.proofs.FigureLaws.{figure-sent, figure-not, fraction-not, fraction-sent, offset-not, offset-plus, offset-minus}
 use Rattle.times.proofs.TimeLaws.{fraction-none, fraction-some, zone-none, zone-some, zone-holds}
-use Rattle.laws.specs.SpeltTimes.{Hour, Minute, Second, OffsetHour, OffsetMinute, SpeltMinutes, to-minute, to-second, to-fraction, SpeltClock, to-hour, SpeltOffset, nothing, plus, minus}
-use Rattle.laws.proofs.SpeltLaws.{says-decimal, decimal-says}
-use Rattle.laws.proofs.SpeltDates.{within, figure-here, figure-alone, figure-past, piece-says}
+use Rattle.grammars.specs.SpeltTimes.{Hour, Minute, Second, OffsetHour, OffsetMinute, SpeltMinutes, to-minute, to-second, to-fraction, SpeltClock, to-hour, SpeltOffset, nothing, plus, minus}
+use Rattle.grammars.proofs.SpeltLaws.{says-decimal, decimal-says}
+use Rattle.grammars.proofs.SpeltDates.{within, figure-here, figure-alone, figure-past, piece-says}
 
 -- ---- a clock: digits, and from the point on what may stand behind six of them
 

@@ -19,10 +19,10 @@ use Rattle.calendar.specs.declared.figures.Date.{Date}
 use Rattle.calendar.specs.declared.figures.Time.{Time}
 use Rattle.times.specs.Times.{figureAt, dateOf, dtLength, isDt, dtTime}
 use Rattle.times.proofs.FigureLaws.{figure-sent, figure-not}
-use Rattle.laws.specs.Spelt.{Says}
-use Rattle.laws.specs.SpeltTimes.{Leap, LastDay, january, february, leap-february, march, april, may, june, july, august, september, october, november, december, SpeltDay, day, SpeltDate, to-year, to-month, to-day, Dt, dt}
-use Rattle.laws.proofs.SpeltLaws.{says-decimal, decimal-says}
+use Rattle.grammars.specs.Spelt.{Says}
+use Rattle.grammars.specs.SpeltTimes.{Leap, LastDay, january, february, leap-february, march, april, may, june, july, august, september, october, november, december, SpeltDay, day, SpeltDate, to-year, to-month, to-day, Dt, dt}
+use Rattle.grammars.proofs.SpeltLaws.{says-decimal, decimal-says}
 use Rattle.laws.proofs.OneSpelling.{three}
 
 -- ---- the calendar
 

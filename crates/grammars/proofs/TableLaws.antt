@@ -11,8 +11,8 @@ use Rattle.alphabet.specs.Bytes.{allowed, capital, digit, hexOf, hexDigit, asci
 use Rattle.alphabet.specs.Delimiters.{permitted}
 use Rattle.alphabet.specs.Lists.{first, find}
 use Rattle.reading.specs.Segments.{capitalOrDigit}
-use Rattle.laws.specs.Tables.{memberOf, marked, allowedBytes, permittedDelimiters, capitals, digits, hexDigits, hexNumber}
+use Rattle.grammars.specs.Tables.{memberOf, marked, allowedBytes, permittedDelimiters, capitals, digits, hexDigits, hexNumber}
 use Rattle.laws.proofs.EscapeTable.{every, every-at}
 
 -- two tests that say the same
 agree : Bool → Bool → Bool

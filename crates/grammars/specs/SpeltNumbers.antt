@@ -5,7 +5,7 @@ use mathlib.Core.List.{List, _∷_, _++_}
 use lib.IntN.{ℤ, pos, negℤ}
 use Rattle.alphabet.specs.declared.answers.Refusal.the-variants.{None, BreaksForm, ValueTooLong}
 use Rattle.numbers.specs.declared.numerals.ReadNumber.{ReadNumber}
-use Rattle.laws.specs.Spelt.{Says}
+use Rattle.grammars.specs.Spelt.{Says}
 
 -- "digits, optionally a point and digits; a digit on each side of a point": `Unsigned l n decimals digits`. Both sides together say the number, and those
 -- behind the point are the decimals. The point is byte 46

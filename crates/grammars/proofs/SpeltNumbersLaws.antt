@@ -23,9 +23,9 @@ use Rattle.numbers.specs.Numbers.{someDigits, isSign, isNegative, unsigned, nmF
 use Rattle.numbers.specs.Numbers.{whole as wholeOf, fraction as fractionOf}
 use Rattle.numbers.specs.declared.numerals.ReadNumber.{ReadNumber}
 use Rattle.numbers.proofs.NumberLaws.{unsigned-drop, unsigned-same, si-read, si-refused}
-use Rattle.laws.specs.Spelt.{Says}
-use Rattle.laws.specs.SpeltNumbers.{Unsigned, whole, pointed, Nm, bare, plus, minus, NmSays, Si, few, SiSays}
-use Rattle.laws.proofs.SpeltLaws.{says-decimal, decimal-says}
+use Rattle.grammars.specs.Spelt.{Says}
+use Rattle.grammars.specs.SpeltNumbers.{Unsigned, whole, pointed, Nm, bare, plus, minus, NmSays, Si, few, SiSays}
+use Rattle.grammars.proofs.SpeltLaws.{says-decimal, decimal-says}
 
 -- ---- a byte that is no digit, among digits
 

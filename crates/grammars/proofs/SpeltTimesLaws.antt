@@ -25,10 +25,10 @@ use Rattle.times.specs.declared.moments.ReadTime.{ReadTime}
 use Rattle.times.specs.Times.{isDt, dtTime, dateOf, fractionOf, clockOf, offsetOf, bodyOf, zoneOf, frontOf, tailOf, dtLength, frontLength, toSeconds, clockStart, fractionForm, zoneForm, partsForm, timeForm, dateIn, isTime, timeOf, timeIf, dtRead, timeRead}
 use Rattle.times.proofs.FigureLaws.{figure-not, fraction-not}
 use Rattle.times.proofs.TimeLaws.{fraction-none}
-use Rattle.laws.specs.SpeltTimes.{SpeltMinutes, SpeltClock, to-hour, beyond, SpeltOffset, Dt, Tm, tm, Ts, date-alone, date-and-clock, Answers, says, breaks, DtSays, TmSays, TsSays}
+use Rattle.grammars.specs.SpeltTimes.{SpeltMinutes, SpeltClock, to-hour, beyond, SpeltOffset, Dt, Tm, tm, Ts, date-alone, date-and-clock, Answers, says, breaks, DtSays, TmSays, TsSays}
 use Rattle.laws.proofs.OneSpelling.{or-cases, three, begins, zone-head, dt-most}
-use Rattle.laws.proofs.SpeltDates.{figure-past, IsDay, is-day, day-spells, IsDate, is-date, date-spells, dt-spelt, dt-spells}
-use Rattle.laws.proofs.SpeltClocks.{Tail, no-point, point, IsClock, is-minutes, is-hour, no-fraction, hour-spells, minute-spells, second-spells, Zone, no-sign, plus-sign, minus-sign, IsOffset, is-offset, offset-spells}
+use Rattle.grammars.proofs.SpeltDates.{figure-past, IsDay, is-day, day-spells, IsDate, is-date, date-spells, dt-spelt, dt-spells}
+use Rattle.grammars.proofs.SpeltClocks.{Tail, no-point, point, IsClock, is-minutes, is-hour, no-fraction, hour-spells, minute-spells, second-spells, Zone, no-sign, plus-sign, minus-sign, IsOffset, is-offset, offset-spells}
 
 -- ---- digits, what stands from the point on and what stands from the sign on are told apart
 

@@ -2,7 +2,7 @@
 -- `meaning` of crates/text, without a search in a list of letters.
 use Prim.Native.Nat.{ℕ, _+_, _*_, _<_}
 use mathlib.Core.List.{List, [], _∷_}
-use Rattle.laws.specs.Tables.{hexNumber}
+use Rattle.grammars.specs.Tables.{hexNumber}
 
 -- "`\F\` field, `\S\` component, `\T\` subcomponent, `\R\` repetition, `\E\` escape": each letter beside the byte of the header that it means. A letter is its
 -- ASCII byte: F 70, S 83, T 84, R 82, E 69

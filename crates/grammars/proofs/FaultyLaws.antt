@@ -25,7 +25,7 @@ use Rattle.alphabet.proofs.ListLaws.{first-passes, first-before, first-le, find
 use Rattle.reading.specs.Segments.{segments, delimitersOf, fieldSeparator, named, isHeader}
 use Rattle.reading.specs.Reading.{lengthCheck, headed, headerCheck, delimiterCheck, byteCheck, opening, endCheck, segmentCheck, segmentChecks, segmentsCheck, reading}
 use Rattle.reading.specs.Message.{ended}
-use Rattle.laws.specs.Faulty.{Sized, Headed, Wrong, unlisted, again, BadSegment, one-too-many, second, Faulty}
+use Rattle.grammars.specs.Faulty.{Sized, Headed, Wrong, unlisted, again, BadSegment, one-too-many, second, Faulty}
 
 -- ---- checks one after another
 

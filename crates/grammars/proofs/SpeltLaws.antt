@@ -11,7 +11,7 @@ use Rattle.alphabet.specs.Bytes.{digit}
 use Rattle.alphabet.specs.Digits.{allDigits, counted, decimal}
 use Rattle.alphabet.proofs.BoolLaws.{and-both, both-and, from-to}
 use Rattle.alphabet.proofs.DigitLaws.{counted-append, digits-append}
-use Rattle.laws.specs.Spelt.{Says, none, more}
+use Rattle.grammars.specs.Spelt.{Says, none, more}
 
 digit-is : (d : ℕ) → d ≤ 9 → digit (48 + d) ≡ true
 digit-is d h = both-and (le-leb 48 (48 + d) (omega arith)) (le-leb (48 + d) 57 (omega arith))

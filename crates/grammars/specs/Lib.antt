@@ -1,0 +1,6 @@
+pub mod Spelt
+pub mod SpeltNumbers
+pub mod SpeltTimes
+pub mod Tables
+pub mod Escapes
+pub mod Faulty
