@@ -292,8 +292,3 @@ si-once (SiSays.says a) (SiSays.says b) = ap (λ (n : ℕ). record { kind = None
 si-once (SiSays.says a) (SiSays.breaks n) = absurd (n _ a)
 si-once (SiSays.breaks n) (SiSays.says b) = absurd (n _ b)
 si-once (SiSays.breaks n) (SiSays.breaks m) = refl
-
--- "no byte of a number ..": of an SI too
-pub si-digits : (l : List ℕ) → isSi l ≡ true → allDigits l ≡ true
-unfolding isSi
-si-digits l e = and-both (leb 1 (length l)) (allDigits l) (and-both (someDigits l) (leb (length l) 4) e .0) .1

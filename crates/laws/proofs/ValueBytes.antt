@@ -1,7 +1,7 @@
 -- The bytes of a number and of a time are digits, signs and points, and nothing else; so none of them is a delimiter. Assumes nothing.
 use mathlib.Core.Path.{_≡_, refl, sym, ap, ap₂, _∙_, subst}
 use mathlib.Core.Logic.{_⊎_, inl, inr}
-use mathlib.Core.Bool.{Bool, true, false, cond, not, _||_}
+use mathlib.Core.Bool.{Bool, true, false, cond, not, _&&_, _||_}
 use mathlib.Core.List.{List, [], _∷_}
 use Prim.Native.Nat.{ℕ, _-_, _≤_, _<_, min}
 use native.Mathlib.Decide.{decLt}
@@ -17,10 +17,10 @@ use Rattle.alphabet.specs.Lists.{find}
 use Rattle.alphabet.proofs.BoolLaws.{and-both, from-to}
 use Rattle.alphabet.proofs.ListLaws.{drop-next, find-is}
 use Rattle.laws.proofs.EachLaws.{Each, each-append, at-each}
-use Rattle.numbers.specs.Numbers.{someDigits, unsigned, whole, hasPoint, fraction, nmForm}
-use Rattle.times.specs.Times.{bodyOf, zoneOf, frontOf, tailOf, isTime}
+use Rattle.numbers.specs.Numbers.{someDigits, unsigned, whole, hasPoint, fraction, nmForm, isSi}
+use Rattle.times.specs.Times.{bodyOf, zoneOf, frontOf, tailOf, isDt, isTime}
 use Rattle.acknowledgement.specs.Acknowledgement.{version}
-use Rattle.times.proofs.TimeLaws.{time-formed, front-digits, tail-holds, zone-held}
+use Rattle.times.proofs.TimeLaws.{dt-digits, time-formed, front-digits, tail-holds, zone-held}
 
 module _ (P : ℕ → Type 0) (digits : (b : ℕ) → digit b ≡ true → P b) where
   digits-each : (l : List ℕ) → allDigits l ≡ true → Each P l
@@ -111,6 +111,17 @@ number-no-delimiter l e = number-each NoDelimiter digit-none refl refl refl l e
 
 pub time-no-delimiter : (dated : Bool) (l : List ℕ) → isTime dated l ≡ true → Each NoDelimiter l
 time-no-delimiter dated l e = time-each NoDelimiter digit-none refl refl refl dated l e
+
+-- an SI and a DT are digits
+digits-no-delimiter : (l : List ℕ) → allDigits l ≡ true → Each NoDelimiter l
+digits-no-delimiter l e = digits-each NoDelimiter digit-none l e
+
+pub si-no-delimiter : (l : List ℕ) → isSi l ≡ true → Each NoDelimiter l
+unfolding isSi
+si-no-delimiter l e = digits-no-delimiter l (and-both (leb 1 (length l)) (allDigits l) (and-both (someDigits l) (leb (length l) 4) e .0) .1)
+
+pub dt-no-delimiter : (l : List ℕ) → isDt l ≡ true → Each NoDelimiter l
+dt-no-delimiter l e = digits-no-delimiter l (dt-digits l e)
 
 pub version-no-delimiter : Each NoDelimiter version
 unfolding Each

@@ -1,4 +1,4 @@
--- What is promised of numbers and times: the calendar, the number that digits say, and that a time was written in one way only. Assumes nothing.
+-- What holds of numbers and times by their definitions: the calendar, and the number that digits say. Assumes nothing.
 use mathlib.Core.Path.{_≡_, refl, sym, ap, _∙_}
 use mathlib.Core.List.{List, [], _∷_, _++_}
 use mathlib.Core.Bool.{Bool, true, false, cond, _&&_}
