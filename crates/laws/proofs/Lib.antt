@@ -24,3 +24,6 @@ pub mod Acknowledged
 pub mod AskedFacts
 pub mod TextRoom
 pub mod NameLists
+pub mod Among
+pub mod TextNumbers
+pub mod EntryNumbers

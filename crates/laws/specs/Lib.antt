@@ -1,3 +1,4 @@
 pub mod Means
 pub mod Elements
 pub mod Held
+pub mod Entries

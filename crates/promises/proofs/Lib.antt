@@ -1,5 +1,3 @@
-pub mod Among
-pub mod TextNumbers
 pub mod Reading
 pub mod Demand1
 pub mod Elements

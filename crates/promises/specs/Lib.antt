@@ -1,4 +1,3 @@
-pub mod Entries
 pub mod Elements
 pub mod Acknowledgements
 pub mod Structures

@@ -17,12 +17,13 @@ use Rattle.structure.specs.declared.judging.Judgement.{Judgement}
 -- name taken out; `Viable` says that names begin an acceptable message.
 pub record RefusedExactly (s : Shape) (ns : List ℕ) (j : Judgement) : Type 0 where
   pub not-yielded : Yields s (kept (names s) ns) → ⊥
-  -- "points to the first segment that, with those before it, begins no acceptable message, or to the end where only more are missing"
+  -- "points to the first segment that, with those before it, begins no acceptable message, length limits aside, or to the end where only more segments are
+  -- missing"
   pub inside : j .place ≤ length ns
   pub before : (i : ℕ) → i ≤ j .place → Viable s (front s i ns)
   pub stuck : j .place < length ns → Viable s (front s (j .place + 1) ns) → ⊥
   pub kind : j .kind ≡ cond (ltb (j .place) (length ns)) SegmentMisplaced EndedEarly
-  -- "and lists exactly the names that could have stood there"
+  -- "It lists exactly the structure's names that could have stood there, those limits aside."
   pub list : List ℕ
   pub given : j .names ≡ nameList list
   pub could-stand : (n : ℕ) → In n list ↔ Viable s (front s (j .place) ns ++ (n ∷ []))
@@ -31,7 +32,8 @@ pub record RefusedExactly (s : Shape) (ns : List ℕ) (j : Judgement) : Type 0 w
   -- and whether the message could have ended there
   pub could-end : T (j .«could_end») ↔ Yields s (front s (j .place) ns)
 
--- "accepts exactly when the grammar listed for the type can yield the segment names, Z segments it doesn't name taken out"
+-- "accepts exactly when the grammar listed for that type, with its optional and repeating groups, can yield the segment names, once Z segments the structure
+-- doesn't name are taken out"
 pub data Exactly (s : Shape) (ns : List ℕ) : Judgement → Type 0 where
   accepted : Yields s (kept (names s) ns) → Exactly s ns (plain None 0)
   refused : {j : Judgement} → RefusedExactly s ns j → Exactly s ns j

@@ -14,8 +14,8 @@ use Rattle.text.specs.Escape.{escapeOf, escape}
 use Rattle.text.specs.Unescape.{known, meaning, Step, stop, emit, sequence, step, Outcome, text, fault, before, after, scan}
 use Rattle.text.specs.Answers.{fitting, escaping, unescaping, answer}
 use Rattle.structure.specs.Listed.{In}
-use Rattle.promises.specs.Entries.{ofEscaping, ofUnescaping}
-use Rattle.promises.proofs.Among.{among}
+use Rattle.laws.specs.Entries.{ofEscaping, ofUnescaping}
+use Rattle.laws.proofs.Among.{among}
 
 -- a text, or a fault with a number of a list
 abbrev Told : List ℕ → Outcome → Type 0
