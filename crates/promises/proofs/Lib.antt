@@ -6,3 +6,4 @@ pub mod Demand3
 pub mod NoSecondAnswer
 pub mod Values
 pub mod ForC
+pub mod Texts

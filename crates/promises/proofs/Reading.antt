@@ -2,18 +2,37 @@
 -- one, and refused exactly by its own first fault, at that fault's own place. Assumes nothing.
 use mathlib.Core.Path.{_≡_}
 use mathlib.Core.Logic.{_↔_}
-use mathlib.Core.List.{List}
-use Prim.Native.Nat.{ℕ}
+use mathlib.Core.List.{List, _++_}
+use Prim.Native.Nat.{ℕ, _<_}
+use Rattle.alphabet.specs.Bytes.{allowed, capital, hexOf}
+use Rattle.alphabet.specs.Delimiters.{permitted}
 use Rattle.alphabet.specs.declared.answers.Check.the-variants.{Passes, Fails}
 use Rattle.alphabet.specs.declared.answers.Refusal.{Refusal}
 use Rattle.reading.specs.Reading.{reading}
+use Rattle.reading.specs.Segments.{capitalOrDigit}
 use Rattle.reading.specs.Message.{Message}
 use Rattle.reading.proofs.Accepted.{accepted, accepting}
 use Rattle.grammars.specs.Faulty.{Faulty}
+use Rattle.grammars.specs.Tables.{memberOf, marked, allowedBytes, permittedDelimiters, capitals, digits, hexNumber}
 use Rattle.grammars.proofs.FaultyLaws.{refused-so, faulty-so}
+use Rattle.grammars.proofs.TableLaws.{allowed-table, permitted-table, capital-table, name-table, hex-table}
 
 pub read-accepts-exactly : (m : List ℕ) → (reading m ≡ Passes) ↔ Message m
 read-accepts-exactly m = (accepted m, accepting m)
 
 pub read-refuses-exactly : (m : List ℕ) (kind : Refusal) (place : ℕ) → (reading m ≡ Fails kind place) ↔ Faulty m kind place
 read-refuses-exactly m kind place = (refused-so m kind place, faulty-so m)
+
+-- ---- which bytes: the tests are the document's tables, for each of the 256
+
+pub allowed-bytes : (b : ℕ) → b < 256 → allowed b ≡ marked allowedBytes b
+allowed-bytes = allowed-table
+
+pub permitted-bytes : (b : ℕ) → b < 256 → permitted b ≡ memberOf b permittedDelimiters
+permitted-bytes = permitted-table
+
+pub name-bytes : (b : ℕ) → b < 256 → (capital b ≡ memberOf b capitals) × (capitalOrDigit b ≡ memberOf b (capitals ++ digits))
+name-bytes b h = (capital-table b h, name-table b h)
+
+pub hex-bytes : (b : ℕ) → b < 256 → hexOf b ≡ hexNumber b
+hex-bytes = hex-table
