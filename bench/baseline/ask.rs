@@ -4,7 +4,7 @@
 use baseline::{acknowledge, escape, read, unescape, verdict, Answer};
 use std::io::{self, BufRead, BufWriter, Write};
 
-const LONGEST_LINE: usize = 200_000;
+const LONGEST_LINE: usize = 300_000;
 const MOST_ROOM: usize = 65_536;
 
 /// What each byte of a lent buffer is before the call.

@@ -59,7 +59,7 @@ module _ (sep : ℕ) where
 
   -- ---- a part without the separator, in front of one or alone
 
-  free-find : (p r : List ℕ) → find sep p ≡ length p → find sep (p ++ sep ∷ r) ≡ length p
+  pub free-find : (p r : List ℕ) → find sep p ≡ length p → find sep (p ++ sep ∷ r) ≡ length p
   unfolding first
   free-find [] r e = rw (eq-eqb sep sep refl)
   free-find (b ∷ p) r e = at (eqb sep b) (free-find p r) e

@@ -12,6 +12,7 @@ use lib.Seq.{split-at, take-append-seam}
 use borrow.Author.Tests.{eqb-true, eqb-false, eq-eqb, ltb-true, ltb-false, leb-true, leb-false}
 use Rattle.alphabet.proofs.ListLaws.{find-is, first-le}
 use Rattle.alphabet.proofs.NullLaws.{two-quotes, not-quotes, other-quotes}
+use Rattle.alphabet.proofs.PartLaws.{free-find}
 use Rattle.alphabet.specs.Lists.{first, find}
 use Rattle.alphabet.specs.Bytes.{printable, isNull}
 use Rattle.alphabet.specs.Delimiters.{wrongDelimiter}
@@ -27,15 +28,6 @@ use Rattle.laws.proofs.RoundTrip.{no-delimiter, AreBytes, sequence-back
 
 -- ---- from the grammar to the scan
 
-find-within : (b : ℕ) (c r : List ℕ) → find b c ≡ length c → find b (c ++ b ∷ r) ≡ length c
-unfolding first
-find-within b [] r h = rw (eq-eqb b b refl)
-find-within b (x ∷ c) r h = at (eqb b x) refl h (find-within b c r)
-  where
-    at : (t : Bool) → eqb b x ≡ t → cond t 0 (suc (find b c)) ≡ suc (length c) → (find b c ≡ length c → find b (c ++ b ∷ r) ≡ length c) → find b ((x ∷ c) ++ b ∷ r) ≡ suc (length c)
-    at true e h ih = absurd (omega arith)
-    at false e h ih = rw e (ap suc (ih (omega arith)))
-
 module _ (ds : List ℕ) (five : length ds ≡ 5) where
   -- what is read passes, whatever follows
   reads-before : {u t : List ℕ} → Reads ds u t → (v : List ℕ) (at : ℕ) → scan ds at 0 (u ++ v) ≡ before t (scan ds (at + length u) 0 v)
@@ -49,7 +41,7 @@ module _ (ds : List ℕ) (five : length ds ≡ 5) where
       let n : length (c ++ escapeOf ds ∷ r) ≡ length c + suc (length r) = length-append c (escapeOf ds ∷ r) in
       let e : (at + (length c + 2)) + length r ≡ at + suc (length (c ++ escapeOf ds ∷ r)) = omega arith in
       ap (λ (l : List ℕ). scan ds at 0 (escapeOf ds ∷ l)) (append-assoc c (escapeOf ds ∷ r) v)
-      ∙ sequence-back ds at c (r ++ v) (meaning ds c) (find-within (escapeOf ds) c (r ++ v) f) k refl
+      ∙ sequence-back ds at c (r ++ v) (meaning ds c) (free-find (escapeOf ds) c (r ++ v) f) k refl
       ∙ ap (before (meaning ds c)) (reads-before m v (at + (length c + 2)))
       ∙ before-before (meaning ds c) t (scan ds ((at + (length c + 2)) + length r) 0 v) ∙ ap (λ (n : ℕ). before (meaning ds c ++ t) (scan ds n 0 v)) e
 
@@ -59,7 +51,7 @@ module _ (ds : List ℕ) (five : length ds ≡ 5) where
   reads-from (plain {r} {t} b a h m) at =
       scan-emit ds at b r (b ∷ []) 0 (step-plain ds b r (no-delimiter ds five b h) a h) ∙ ap (before (b ∷ [])) (reads-from m (at + 1))
   reads-from (escaped {r} {t} c f k m) at =
-      sequence-back ds at c r (meaning ds c) (find-within (escapeOf ds) c r f) k refl ∙ ap (before (meaning ds c)) (reads-from m (at + (length c + 2)))
+      sequence-back ds at c r (meaning ds c) (free-find (escapeOf ds) c r f) k refl ∙ ap (before (meaning ds c)) (reads-from m (at + (length c + 2)))
 
   stops-at : {v : List ℕ} {k : Refusal} → Stops ds v k → (at : ℕ) → scan ds at 0 v ≡ fault k at
   stops-at (forbidden b r n a) at = scan-stop ds at b r NotAllowed (step-forbidden ds b r n a)
@@ -67,7 +59,7 @@ module _ (ds : List ℕ) (five : length ds ≡ 5) where
   stops-at (unknown c r f k) at =
       let e = escapeOf ds in
       let n : length (c ++ e ∷ r) ≡ length c + suc (length r) = length-append c (e ∷ r) in
-      scan-stop ds at e (c ++ e ∷ r) UnknownEscape (step-unknown ds e (c ++ e ∷ r) (length c) refl (find-within e c r f) (omega arith) (ap known (take-append-seam c (e ∷ r)) ∙ k))
+      scan-stop ds at e (c ++ e ∷ r) UnknownEscape (step-unknown ds e (c ++ e ∷ r) (length c) refl (free-find e c r f) (omega arith) (ap known (take-append-seam c (e ∷ r)) ∙ k))
   stops-at (unclosed r f) at = scan-stop ds at (escapeOf ds) r UnclosedEscape (step-unclosed ds (escapeOf ds) r refl (omega arith))
 
   pub reads-scan : (s t : List ℕ) → Reads ds s t → scan ds 0 0 s ≡ text t

@@ -1,5 +1,5 @@
-// The table of document 01, 'Fields judged', as data: its rows, and the lists of values that they name. The judge takes
-// the rows as a value, so another edition needs another table and no other judge.
+// The table of document 01, 'Fields judged', as data: its rows, and the lists of values that they name. The judge makes the
+// rows once for a message, as a value, and its loops know nothing of what stands in them.
 ghost use mathlib.Core.Path.{_≡_};
 ghost use Rattle.alphabet.specs.Parts.{split};
 ghost use Rattle.rules.specs.Table.{valuesOf, rows};
