@@ -27,3 +27,4 @@ pub mod NameLists
 pub mod Among
 pub mod TextNumbers
 pub mod EntryNumbers
+pub mod Chosen

@@ -2,3 +2,4 @@ pub mod Means
 pub mod Elements
 pub mod Held
 pub mod Entries
+pub mod Types
