@@ -2,27 +2,27 @@
 -- caller's ID and the verdict's code. All of it is looked up in the bytes that were written and in the message that was sent. Assumes nothing.
 use mathlib.Core.Path.{_≡_, refl, sym, ap, ap₂, _∙_, subst}
 use mathlib.Core.Logic.{_↔_}
-use mathlib.Core.Bool.{Bool, true, false, cond, _&&_, _||_}
+use mathlib.Core.Bool.{Bool, true, false, cond, not, _&&_, _||_}
 use mathlib.Core.List.{List, [], _∷_, _++_}
 use Prim.Native.Nat.{ℕ, _+_, _-_, _≤_, _<_}
 use native.Mathlib.Nat.{zero-add, sub-zero}
 use native.Mathlib.Omega.{arith}
-use lib.Dec.{eqb}
-use lib.ListN.{length, getD, take}
+use lib.Dec.{leb, ltb, eqb}
+use lib.ListN.{length, getD, take, drop, length-append, length-drop}
 use lib.Seq.{getD-take, take-take, length-take-le}
-use borrow.Author.Tests.{lt-ltb, le-leb}
+use borrow.Author.Tests.{lt-ltb, le-leb, leb-true}
 use Rattle.alphabet.specs.Bytes.{carriageReturn, allowed, ascii}
 use Rattle.alphabet.specs.Delimiters.{wrongDelimiter}
-use Rattle.alphabet.proofs.BoolLaws.{false-true}
+use Rattle.alphabet.proofs.BoolLaws.{and-both, false-true}
 use Rattle.alphabet.proofs.ListLaws.{same-is}
-use Rattle.alphabet.specs.Limits.{idLimit}
+use Rattle.alphabet.specs.Limits.{messageLimit, idLimit}
 use Rattle.alphabet.specs.Lists.{find, same}
 use Rattle.alphabet.specs.Parts.{split}
 use Rattle.alphabet.specs.declared.answers.Answer.{Answer}
 use Rattle.alphabet.specs.declared.answers.Check.the-variants.{Passes}
-use Rattle.alphabet.specs.declared.answers.Refusal.the-variants.{None, NotAcknowledgeable}
+use Rattle.alphabet.specs.declared.answers.Refusal.the-variants.{None, NotAcknowledgeable, AcknowledgementTooLong}
 use Rattle.reading.specs.Segments.{segments, delimitersOf, fieldSeparator}
-use Rattle.reading.specs.Reading.{reading}
+use Rattle.reading.specs.Reading.{reading, opening}
 use Rattle.reading.specs.Message.{Opened, Message}
 use Rattle.reading.proofs.Accepted.{opening-if}
 use Rattle.reading.proofs.Accepted.{accepted as accepted-message}
@@ -33,8 +33,8 @@ use Rattle.laws.proofs.HeaderLaws.{first-segment as begins}
 use Rattle.laws.proofs.RawLaws.{raw-header, raw-component}
 use Rattle.times.specs.Times.{isTs}
 use Rattle.text.specs.Escape.{escape}
-use Rattle.text.specs.Unescape.{text}
-use Rattle.text.specs.Answers.{fitting, unescaping}
+use Rattle.text.specs.Unescape.{text, fault}
+use Rattle.text.specs.Answers.{fitting, unescaping, answer, filled}
 use Rattle.laws.proofs.RoundTrip.{AreBytes, round-trip}
 use Rattle.element.specs.States.{stateOf}
 use Rattle.element.specs.declared.states.State.{State}
@@ -48,7 +48,8 @@ use Rattle.structure.specs.Structures.{ack, structureOf}
 use Rattle.structure.specs.Judged.{plain, Judged, Answers}
 use Rattle.structure.specs.declared.structures.Structure.the-variants.{Acknowledgement}
 use Rattle.verdict.specs.Verdicts.{Accepts}
-use Rattle.acknowledgement.specs.Acknowledgement.{header, fieldAddress, sent, typePart, typeSent, lettersOf, acknowledgement, badId, acknowledgeable, Coded, Acknowledges}
+use Rattle.acknowledgement.specs.Acknowledgement.{header, fieldAddress, sent, typePart, present, typeSent, lettersOf, acknowledgement, badId, passes, acknowledgeable, roomy, Coded, Acknowledges}
+use Rattle.acknowledgement.specs.Acknowledgement.Acknowledges.{not-written, written}
 use Rattle.acknowledgement.specs.Acknowledgement.Coded.{accepted, refused}
 use Rattle.acknowledgement.specs.declared.letters.Code.{Code}
 use Rattle.acknowledgement.proofs.HeaderLaws.{nothing-against, return-inside, header-find, header-ends, sound-header}
@@ -104,6 +105,25 @@ module _ (m : List ℕ) (inside : find carriageReturn m < length m) (opened : Op
 
 -- ---- what is written
 
+length-told : (m time id lent : List ℕ) {r : Answer} {x : List ℕ} → Acknowledges m time id lent r x → r .kind ≡ None → (length x ≡ length lent) × (r .length ≤ length lent)
+unfolding answer filled roomy
+length-told m time id lent (not-written n) zero = absurd (n zero)
+length-told m time id lent (written e code c) zero = at (leb (length w) (length lent)) (leb (length w) messageLimit) refl zero
+  where
+    w : List ℕ
+    w = acknowledgement (header m) time id code
+
+    at : (s t : Bool) → leb (length w) (length lent) ≡ s → answer (cond (s && t) (text w) (fault AcknowledgementTooLong 0)) .kind ≡ None
+        → (length (filled (cond (s && t) (text w) (fault AcknowledgementTooLong 0)) lent) ≡ length lent)
+        × (answer (cond (s && t) (text w) (fault AcknowledgementTooLong 0)) .length ≤ length lent)
+    at true true f z =
+        let h = leb-true (length w) (length lent) f in
+        let a = length-append w (drop (length w) lent) in
+        let b = length-drop (length w) lent in
+        (omega arith, h)
+    at true false f z = absurd (let q : _≡_ {A = ℕ} 0 1 = cc in omega arith)
+    at false t f z = absurd (let q : _≡_ {A = ℕ} 0 1 = cc in omega arith)
+
 -- field f of MSA, which stands behind MSH
 abbrev pub answerAddress : ℕ → Address
 answerAddress f = record { segment = 1; field = f; repetition = 0; component = 0; subcomponent = 0 }
@@ -128,6 +148,32 @@ module _ (m time id lent : List ℕ) (small : AreBytes id) {r : Answer} {x : Lis
 
   of-message : (f : ℕ) → (f ≡ 1 → ⊥) → sent h f ≡ sent m f
   of-message = sent-whole m (return-inside m (against .2)) (sound .0)
+
+  -- the sender has a control ID, of a length that is allowed
+  pub identified-sender : (stateOf (delimitersOf m) (sent m 10) ≡ Present) × (length (sent m 10) ≤ idLimit)
+  unfolding acknowledgeable
+  identified-sender =
+      let a = and-both (ltb (find carriageReturn m) (length m)) _ (against .2) in
+      let b = and-both (passes (opening h)) _ (a .1) in
+      let c = and-both (not (same (typePart h 1) (ascii "ACK"))) _ (b .1) in
+      let d = and-both (present h (sent h 10)) (leb (length (sent h 10)) idLimit) (c .1) in
+      let same-id = of-message 10 (λ e. omega arith) in (
+        is-present (stateOf (delimitersOf m) (sent m 10))
+            (ap₂ (λ (ds l : List ℕ). isPresent (stateOf ds l)) (sym (same-delimiters m (return-inside m (against .2)) (sound .0))) (sym same-id) ∙ d .0),
+        (let n = leb-true (length (sent h 10)) idLimit (d .1) in let e = ap length same-id in omega arith),
+      )
+    where
+      is-present : (x : State) → isPresent x ≡ true → x ≡ Present
+      is-present Absent e = absurd (false-true e)
+      is-present Empty e = absurd (false-true e)
+      is-present Null e = absurd (false-true e)
+      is-present Present e = refl
+
+  -- the length that is told is that of what was written, and the buffer keeps its own length and what stands behind
+  pub told : (length x ≡ length lent) × (r .length ≤ length lent) × (drop (r .length) x ≡ drop (r .length) lent)
+  told =
+      let t = length-told m time id lent a done in
+      (t .0, t .1, writes .behind)
 
   -- "reads back through our reader"
   pub reads-back : reading w ≡ Passes

@@ -48,7 +48,6 @@ use Rattle.verdict.specs.Verdicts.Verdicts.{refused as by-structure, judged as 
 use Rattle.verdict.specs.declared.FaultRecord.{FaultRecord}
 use Rattle.acknowledgement.specs.Acknowledgement.{badId, acknowledgeable, refusing, roomy, acknowledgement, header, Acknowledges}
 use Rattle.acknowledgement.specs.Acknowledgement.Acknowledges.{not-written, written}
-use Rattle.acknowledgement.proofs.AnswerLaws.{refusal-leaves}
 use Rattle.laws.proofs.FaultNumbers.{fields-number}
 use Rattle.laws.specs.Entries.{ofReading, ofFinding, ofNm, ofForm, ofEscaping, ofUnescaping, ofStructure, ofVerdict, ofAcknowledging}
 use Rattle.laws.proofs.Among.{among, from, in-range, Given, given-or, given-if}
@@ -206,6 +205,3 @@ escape-leaves ds t lent = outcome-leaves (escaping ds t (length lent)) lent
 
 pub unescape-leaves : (ds s lent : List ℕ) → (answer (unescaping ds s (length lent)) .kind ≡ None → ⊥) → filled (unescaping ds s (length lent)) lent ≡ lent
 unescape-leaves ds s lent = outcome-leaves (unescaping ds s (length lent)) lent
-
-pub acknowledge-leaves : (m time id lent : List ℕ) {r : Answer} {x : List ℕ} → Acknowledges m time id lent r x → (r .kind ≡ None → ⊥) → x ≡ lent
-acknowledge-leaves m time id lent a some = refusal-leaves m time id lent a some .0

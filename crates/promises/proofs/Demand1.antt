@@ -2,7 +2,7 @@
 -- buffer lent holds the bytes it held before." That every function takes any input, ends and stays in bounds is what the checker says of each, since none has a
 -- `requires`; these are the numbers and the buffers, of what the contracts cite, for all inputs. Reading.antt says when the reader gives which number, and where.
 -- Assumes nothing.
-use mathlib.Core.Path.{_≡_}
+use mathlib.Core.Path.{_≡_, refl}
 use mathlib.Core.List.{List}
 use Prim.Native.Nat.{ℕ}
 use lib.ListN.{length}
@@ -13,6 +13,7 @@ use Rattle.reading.specs.Reading.{reading}
 use Rattle.element.specs.Finding.{found}
 use Rattle.element.specs.declared.address.Address.{Address}
 use Rattle.value.specs.Asked.{nmFound, siFound, dtFound, tmFound, tsFound}
+use Rattle.text.specs.Unescape.{Outcome, text, fault}
 use Rattle.text.specs.Answers.{escaping, unescaping, answer, filled}
 use Rattle.structure.specs.Listed.{In}
 use Rattle.structure.specs.Judged.{Answers}
@@ -20,6 +21,7 @@ use Rattle.structure.specs.declared.judging.Judgement.{Judgement}
 use Rattle.verdict.specs.Verdicts.{Verdicts}
 use Rattle.verdict.specs.declared.FaultRecord.{FaultRecord}
 use Rattle.acknowledgement.specs.Acknowledgement.{Acknowledges}
+use Rattle.acknowledgement.proofs.AnswerLaws.{refusal-leaves}
 use Rattle.laws.specs.Entries.{ofReading, ofFinding, ofNm, ofForm, ofEscaping, ofUnescaping, ofStructure, ofVerdict, ofAcknowledging}
 use Rattle.laws.proofs.EntryNumbers as Entries
 
@@ -70,5 +72,11 @@ escape-leaves = Entries.escape-leaves
 pub unescape-leaves : (ds s lent : List ℕ) → (answer (unescaping ds s (length lent)) .kind ≡ None → ⊥) → filled (unescaping ds s (length lent)) lent ≡ lent
 unescape-leaves = Entries.unescape-leaves
 
-pub acknowledge-leaves : (m time id lent : List ℕ) {r : Answer} {x : List ℕ} → Acknowledges m time id lent r x → (r .kind ≡ None → ⊥) → x ≡ lent
-acknowledge-leaves m time id lent a = Entries.acknowledge-leaves m time id lent a
+-- "A refusal gives number and place, length 0"; the place is 0 here
+pub acknowledge-leaves : (m time id lent : List ℕ) {r : Answer} {x : List ℕ} → Acknowledges m time id lent r x → (r .kind ≡ None → ⊥) → (x ≡ lent) × (r .place ≡ 0) × (r .length ≡ 0)
+acknowledge-leaves m time id lent a = refusal-leaves m time id lent a
+
+pub refused-length : (o : Outcome) → (answer o .kind ≡ None → ⊥) → answer o .length ≡ 0
+unfolding answer
+refused-length (text t) some = absurd (some refl)
+refused-length (fault kind place) some = refl

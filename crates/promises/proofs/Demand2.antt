@@ -6,7 +6,7 @@
 use mathlib.Core.Path.{_≡_}
 use mathlib.Core.List.{List}
 use Prim.Native.Nat.{ℕ, _≤_}
-use lib.ListN.{length, take}
+use lib.ListN.{length, take, drop}
 use Rattle.alphabet.specs.Delimiters.{wrongDelimiter}
 use Rattle.alphabet.specs.Filling.{over}
 use Rattle.alphabet.specs.declared.answers.Answer.{Answer}
@@ -14,7 +14,7 @@ use Rattle.alphabet.specs.declared.answers.Refusal.the-variants.{None}
 use Rattle.text.specs.Escape.{escape}
 use Rattle.text.specs.Answers.{escaping, unescaping, answer, filled}
 use Rattle.acknowledgement.specs.Acknowledgement.{Acknowledges}
-use Rattle.laws.proofs.Acknowledged.{reads-back, of-type, yields-ack, fits-ack, named-so, counted, carries-id, own-delimiters, crossed, stamped, with-event, without-event, own-id, callers-id, accepts-exactly, refuses-exactly}
+use Rattle.laws.proofs.Acknowledged.{reads-back, of-type, yields-ack, fits-ack, named-so, counted, carries-id, identified-sender, told, own-delimiters, crossed, stamped, with-event, without-event, own-id, callers-id, accepts-exactly, refuses-exactly}
 use Rattle.laws.proofs.Clean.{both-ways}
 use Rattle.laws.proofs.RoundTrip.{AreBytes}
 use Rattle.promises.specs.Acknowledgements.{Carries}
@@ -44,6 +44,7 @@ acknowledgement-carries m time id lent small a done =
       header-parts = n .0;
       answer-parts = n .1;
       control-id = carries-id m time id lent small a done;
+      identified = identified-sender m time id lent small a done;
       senders-delimiters = own-delimiters m time id lent small a done;
       application = c .0;
       facility = c .1;
@@ -60,3 +61,9 @@ acknowledgement-carries m time id lent small a done =
       accepted-exactly = accepts-exactly m time id lent small a done;
       refused-exactly = refuses-exactly m time id lent small a done;
     }
+
+-- "A written text or acknowledgement fills the front of its buffer, its length is given, the bytes behind it stay.": a length that the buffer has, a buffer of
+-- the length that it had, and what stood behind
+pub acknowledgement-told : (m time id lent : List ℕ) → AreBytes id → {r : Answer} {x : List ℕ} → Acknowledges m time id lent r x → r .kind ≡ None
+    → (length x ≡ length lent) × (r .length ≤ length lent) × (drop (r .length) x ≡ drop (r .length) lent)
+acknowledgement-told m time id lent small a done = told m time id lent small a done

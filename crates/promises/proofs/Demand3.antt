@@ -9,11 +9,14 @@ use mathlib.Core.List.{List}
 use Prim.Native.Nat.{ℕ}
 use native.Mathlib.Omega.{arith}
 use Rattle.alphabet.specs.declared.answers.Check.the-variants.{Passes}
-use Rattle.alphabet.specs.declared.answers.Refusal.the-variants.{None}
+use Rattle.alphabet.specs.declared.answers.Refusal.the-variants.{None, NoStructure}
 use Rattle.reading.specs.Reading.{reading}
 use Rattle.structure.specs.Shapes.{Shape, Yields, names}
 use Rattle.structure.specs.SegmentNames.{segmentNames, kept}
-use Rattle.structure.specs.Structures.{listed, structureOf, grammarOf}
+use Rattle.structure.specs.Structures.{listed, unlisted, structureOf, grammarOf, typeAddress}
+use Rattle.element.specs.Finding.{rawBytes}
+use Rattle.laws.specs.Types.{ListedAs}
+use Rattle.laws.proofs.Chosen as Chosen
 use Rattle.structure.specs.Judged.{plain, Judged, no-structure, by, Answers, unread, read}
 use Rattle.structure.specs.Judged.Judged.{accepted as yielded, refused as not-yielded}
 use Rattle.structure.specs.declared.judging.Judgement.{Judgement}
@@ -41,6 +44,13 @@ exactly s ns (not-yielded place ends list r) =
       once = r .could-stand;
       could-end = r .could-end;
     })
+
+-- "whose type we list": a structure is listed for a type exactly where document 01's table has it, and any other type is 20
+pub listed-exactly : (m : List ℕ) (s : Shape) → (grammarOf (structureOf m) ≡ listed s) ↔ ListedAs (rawBytes m (typeAddress 1)) (rawBytes m (typeAddress 2)) s
+listed-exactly = Chosen.listed-exactly
+
+pub unlisted-refused : (m : List ℕ) {j : Judgement} → reading m ≡ Passes → grammarOf (structureOf m) ≡ unlisted → Answers m j → j ≡ plain NoStructure 0
+unlisted-refused m e g a = Chosen.judge-unlisted m e g a
 
 -- a message that was read, and whose type is listed with the structure s
 module _ (m : List ℕ) (s : Shape) (done : reading m ≡ Passes) (known : grammarOf (structureOf m) ≡ listed s) where

@@ -1,29 +1,34 @@
 -- The demands for what C gets, over the definitions that the contracts of crates/boundary cite. Assumes nothing.
 use mathlib.Core.Path.{_≡_, refl, sym, ap, subst, _∙_}
 use mathlib.Core.Logic.{_↔_}
+use mathlib.Core.Bool.{Bool, true, false, cond}
 use mathlib.Core.List.{List, [], _++_}
 use Prim.Native.Nat.{ℕ, _-_, _≤_, _<_}
 use native.Mathlib.Omega.{arith}
+use lib.Dec.{ltb}
 use lib.ListN.{length, getD, take, replicate}
 use Rattle.alphabet.specs.Answers.{numberOf}
 use Rattle.alphabet.specs.declared.answers.Answer.{Answer}
 use Rattle.alphabet.specs.declared.answers.Check.the-variants.{Passes}
 use Rattle.alphabet.specs.declared.answers.Refusal.{Refusal}
-use Rattle.alphabet.specs.declared.answers.Refusal.the-variants.{None}
+use Rattle.alphabet.specs.declared.answers.Refusal.the-variants.{None, SegmentMisplaced, EndedEarly}
 use Rattle.reading.specs.Reading.{reading}
 use Rattle.text.specs.Answers.{escaping, unescaping, answer, filled}
-use Rattle.structure.specs.Shapes.{Shape, Viable}
+use Rattle.structure.specs.Shapes.{Shape, Yields, Viable, names}
 use Rattle.structure.specs.Listed.{In}
-use Rattle.structure.specs.SegmentNames.{segmentNames}
+use Rattle.structure.specs.SegmentNames.{segmentNames, kept}
 use Rattle.structure.specs.Structures.{listed, structureOf, grammarOf}
 use Rattle.structure.specs.Judged.{plain, nameList, front, Answers}
 use Rattle.structure.specs.declared.judging.Judgement.{Judgement}
 use Rattle.structure.specs.declared.listing.Names.{Names}
 use Rattle.structure.proofs.OnlyOne.{only-one}
+use Rattle.verdict.specs.Verdicts.{Accepts}
 use Rattle.verdict.proofs.VerdictLaws.{number-none}
-use Rattle.boundary.specs.Seen.{seen, structureSeen, StructureSeen, NameSeen, AcknowledgeSeen}
+use Rattle.verdict.proofs.VerdictLaws.{accepts-exactly as verdict-accepts}
+use Rattle.boundary.specs.Seen.{seen, structureSeen, StructureSeen, VerdictSeen, NameSeen, AcknowledgeSeen}
 use Rattle.boundary.specs.declared.answers.CAnswer.{CAnswer}
 use Rattle.boundary.specs.declared.judges.CStructure.{CStructure}
+use Rattle.boundary.specs.declared.judges.CVerdict.{CVerdict}
 use Rattle.laws.proofs.NameLists.{in-at, at-in, front-at, behind-at, once-each}
 use Rattle.laws.proofs.RoundTrip.{AreBytes}
 use Rattle.promises.specs.Acknowledgements.{Carries}
@@ -31,7 +36,7 @@ use Rattle.promises.specs.ForC.{NamesOneByOne}
 use Rattle.promises.specs.Structures.{Exactly, accepted, refused, RefusedExactly}
 use Rattle.promises.proofs.Demand1.{escape-leaves, unescape-leaves, acknowledge-leaves}
 use Rattle.promises.proofs.Demand2.{acknowledgement-carries}
-use Rattle.promises.proofs.Demand3.{structure-exactly}
+use Rattle.promises.proofs.Demand3.{structure-exactly, accepts-exactly}
 
 -- ---- "After a refusal every buffer lent holds the bytes it held before.": a number other than 0 is a refusal
 
@@ -43,7 +48,7 @@ c-unescape-leaves ds s lent some = unescape-leaves ds s lent (λ e. some (ap num
 
 module _ (m time id lent : List ℕ) {r : CAnswer} {left : List ℕ} (a : AcknowledgeSeen m time id lent r left) where
   pub c-acknowledge-leaves : (r .number ≡ 0 → ⊥) → left ≡ lent
-  c-acknowledge-leaves some = acknowledge-leaves m time id lent (a .acknowledges) (λ e. some (ap (λ (x : CAnswer). x .number) (a .seen-as) ∙ ap numberOf e))
+  c-acknowledge-leaves some = acknowledge-leaves m time id lent (a .acknowledges) (λ e. some (ap (λ (x : CAnswer). x .number) (a .seen-as) ∙ ap numberOf e)) .0
 
   -- and 0 is an acknowledgement, as long as C is told
   pub c-acknowledgement-carries : AreBytes id → r .number ≡ 0 → Carries m time id (take (r .length) left)
@@ -76,6 +81,9 @@ module _ (m : List ℕ) (s : Shape) {j : Judgement} (a : Answers m j) (r : Refus
 
   one-by-one : NamesOneByOne m s (structureSeen j)
   one-by-one = record {
+    list = r .list;
+    in-order = r .once;
+    asked = λ i n h x. name-is h x;
     given = λ i n h x. r .could-stand n .0 (subst (λ (k : ℕ). In k (r .list)) (sym (name-is h x)) (in-at (r .list) i (inside h)));
     every =
         λ n v.
@@ -97,3 +105,29 @@ names-one-by-one m s done known x some =
     by : {j : Judgement} → Exactly s (segmentNames m) j → (j .kind ≡ None → ⊥) → Answers m j → NamesOneByOne m s (structureSeen j)
     by (accepted y) n a = absurd (n refl)
     by (refused r) n a = one-by-one m s a r
+
+-- ---- 0 is what the judges accept
+
+pub c-structure-exactly : (m : List ℕ) (s : Shape) → reading m ≡ Passes → grammarOf (structureOf m) ≡ listed s → {r : CStructure} → StructureSeen m r
+    → (r .number ≡ 0) ↔ Yields s (kept (names s) (segmentNames m))
+c-structure-exactly m s done known x =
+    let e = accepts-exactly m s done known (x .answers) in
+    let seen-number = ap (λ (c : CStructure). c .number) (x .seen-as) in
+    (λ z. e .0 (accepted-so (x .judgement) (x .answers) (number-none (x .judgement .kind) (sym seen-number ∙ z))), λ y. seen-number ∙ ap (λ (j : Judgement). numberOf (j .kind)) (e .1 y))
+  where
+    by : {j : Judgement} → Exactly s (segmentNames m) j → j .kind ≡ None → j ≡ plain None 0
+    by (accepted y) k = refl
+    by {j} (refused r) k = absurd (not-none (ltb (j .place) (length (segmentNames m))) (sym (r .kind) ∙ k))
+      where
+        not-none : (t : Bool) → cond t SegmentMisplaced EndedEarly ≡ None → ⊥
+        not-none true q = let z : _≡_ {A = ℕ} 0 1 = cc in omega arith
+        not-none false q = let z : _≡_ {A = ℕ} 0 1 = cc in omega arith
+
+    accepted-so : (j : Judgement) → Answers m j → j .kind ≡ None → j ≡ plain None 0
+    accepted-so j a k = by (structure-exactly m s done known a) k
+
+pub c-verdict-exactly : (m : List ℕ) {r : CVerdict} → VerdictSeen m r → (r .number ≡ 0) ↔ Accepts m
+c-verdict-exactly m v =
+    let e = verdict-accepts m (v .answers) in
+    let seen-number = ap (λ (c : CVerdict). c .number) (v .seen-as) in
+    (λ z. e .0 (number-none (v .fault .kind) (sym seen-number ∙ z)), λ a. seen-number ∙ ap numberOf (e .1 a))

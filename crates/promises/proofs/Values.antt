@@ -77,3 +77,11 @@ module _ (m n : List ℕ) (a b : Address) where
   pub empty-is-no-time : tsFound m a ≡ tsFound n b → found m a .element .state ≡ found n b .element .state
   empty-is-no-time e =
       sym (time-state (found m a) (timeRead true (elementBytes m a))) ∙ ap (λ (x : TimeFound). x .state) e ∙ time-state (found n b) (timeRead true (elementBytes n b))
+
+  pub empty-is-no-date : dtFound m a ≡ dtFound n b → found m a .element .state ≡ found n b .element .state
+  empty-is-no-date e =
+      sym (time-state (found m a) (dtRead (elementBytes m a))) ∙ ap (λ (x : TimeFound). x .state) e ∙ time-state (found n b) (dtRead (elementBytes n b))
+
+  pub empty-is-no-hour : tmFound m a ≡ tmFound n b → found m a .element .state ≡ found n b .element .state
+  empty-is-no-hour e =
+      sym (time-state (found m a) (timeRead false (elementBytes m a))) ∙ ap (λ (x : TimeFound). x .state) e ∙ time-state (found n b) (timeRead false (elementBytes n b))

@@ -5,6 +5,7 @@ use mathlib.Core.Logic.{_↔_}
 use mathlib.Core.List.{List, [], _∷_, _++_}
 use lib.ListN.{length, getD}
 use Rattle.alphabet.specs.Bytes.{ascii}
+use Rattle.alphabet.specs.Limits.{idLimit}
 use Rattle.alphabet.specs.Parts.{split}
 use Rattle.alphabet.specs.declared.answers.Check.the-variants.{Passes}
 use Rattle.alphabet.specs.declared.answers.Refusal.the-variants.{None}
@@ -41,6 +42,8 @@ pub record Carries (m time id w : List ℕ) : Type 0 where
   pub answer-parts : length (split (fieldSeparator w) (getD (segments w) 1 [])) ≡ 3
   -- "and carries the sender's own control ID": MSA-2 is the sender's MSH-10
   pub control-id : rawBytes w (inAnswer 2) ≡ rawBytes m (inHeader 10)
+  -- and the sender has one: "MSH-10, the whole field, not present or over 20 bytes" is 9
+  pub identified : (stateOf (delimitersOf m) (rawBytes m (inHeader 10)) ≡ Present) × (length (rawBytes m (inHeader 10)) ≤ idLimit)
   -- "It uses the sender's delimiters"
   pub senders-delimiters : delimitersOf w ≡ delimitersOf m
   -- "fields 3, 4, 5, 6 are the sender's 5, 6, 3, 4": it goes back to where it came from
