@@ -9,7 +9,7 @@ use Rattle.alphabet.specs.Answers.{orElse, inOrder}
 use Rattle.alphabet.specs.Parts.{split}
 use Rattle.alphabet.specs.declared.answers.Check.{Check}
 use Rattle.alphabet.specs.declared.answers.Check.the-variants.{Passes}
-use Rattle.rules.specs.Rules.{firstState, requiredCheck, repeatedCheck, saidCheck, isSaid, saidField, repetitionChecks, rowCheck}
+use Rattle.rules.specs.Rules.{isSaid, saidField, repetitionChecks, rowCheck}
 use Rattle.rules.specs.declared.table.Kind.{Kind}
 use Rattle.rules.specs.declared.table.Row.{Row}
 use Rattle.fields.specs.declared.walk.Cursor.{Cursor}

@@ -1,14 +1,14 @@
 -- The escape table as its rows is what is read and what is written: a sequence is known exactly where the table has it, it says what the table says, and each
 -- delimiter is written by its own row. Rests on the tables of bytes. Assumes nothing.
-use mathlib.Core.Path.{_≡_, refl, sym, ap, ap₂, subst, _∙_}
+use mathlib.Core.Path.{_≡_, refl, sym, subst}
 use mathlib.Core.List.{List, [], _∷_}
-use mathlib.Core.Bool.{Bool, true, false, _&&_, _||_}
-use Prim.Native.Nat.{ℕ, zero, suc, _+_, _*_, _≤_, _<_}
+use mathlib.Core.Bool.{true, _&&_}
+use Prim.Native.Nat.{ℕ, zero, suc, _+_, _*_, _<_}
 use native.Mathlib.Omega.{arith}
 use lib.Dec.{ltb, eqb}
-use lib.ListN.{length, getD}
+use lib.ListN.{getD}
 use borrow.Author.Tests.{lt-ltb, ltb-true, eqb-true}
-use Rattle.alphabet.specs.Bytes.{hexOf, ascii}
+use Rattle.alphabet.specs.Bytes.{hexOf}
 use Rattle.alphabet.specs.Delimiters.{wrongDelimiter}
 use Rattle.alphabet.specs.Hex.{allHex, pairsOf}
 use Rattle.alphabet.specs.Lists.{first, find}
@@ -19,7 +19,6 @@ use Rattle.text.specs.Escape.{letters, escapeByte}
 use Rattle.text.specs.Unescape.{known, meaning}
 use Rattle.text.proofs.PieceLaws.{written-letter}
 use Rattle.grammars.specs.Escapes.{Letter, F, S, T, R, E, Pairs, none, pair, Escapes, letter, hex}
-use Rattle.grammars.specs.Tables.{hexNumber}
 use Rattle.laws.proofs.RoundTrip.{AreBytes}
 use Rattle.grammars.proofs.TableLaws.{hex-table}
 

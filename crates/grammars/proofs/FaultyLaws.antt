@@ -2,13 +2,13 @@
 use mathlib.Core.Path.{_≡_, refl, sym, ap, ap₂, subst, _∙_}
 use mathlib.Core.Logic.{_⊎_, inl, inr}
 use mathlib.Core.List.{List, [], _∷_, _++_}
-use mathlib.Core.Bool.{Bool, true, false, cond, not, _&&_, _||_}
+use mathlib.Core.Bool.{Bool, true, false, not, _&&_, _||_}
 use Prim.Native.Nat.{ℕ, zero, suc, _+_, _-_, _≤_, _<_}
 use native.Mathlib.Nat.{add-zero, zero-add}
 use native.Mathlib.Omega.{arith}
 use lib.Dec.{leb, ltb, eqb}
 use lib.ListN.{length, getD, take, length-append}
-use borrow.Author.Tests.{leb-true, leb-false, ltb-true, ltb-false, eqb-true, eqb-false, not-true, not-false, le-leb, lt-leb, le-ltb, lt-ltb, eq-eqb, ne-eqb}
+use borrow.Author.Tests.{leb-true, leb-false, ltb-true, ltb-false, eqb-true, eqb-false, not-true, not-false, le-leb, lt-ltb, eq-eqb, ne-eqb}
 use Rattle.alphabet.specs.Answers.{failsIf, orElse, inOrder}
 use Rattle.alphabet.specs.Bytes.{carriageReturn, allowed, forbidden}
 use Rattle.alphabet.specs.Delimiters.{permitted, wrong, places, wrongDelimiter}
@@ -21,7 +21,7 @@ use Rattle.alphabet.specs.declared.answers.Refusal.the-variants.{Length, Header
 use Rattle.alphabet.proofs.BoolLaws.{and-both, both-and, or-neither, false-true}
 use Rattle.alphabet.proofs.CheckLaws.{both-pass, fails-if, passes-if, passes-not}
 use Rattle.alphabet.proofs.DelimiterLaws.{wrong-most}
-use Rattle.alphabet.proofs.ListLaws.{first-passes, first-before, first-le, find-is, first-least}
+use Rattle.alphabet.proofs.ListLaws.{first-passes, first-before, find-is, first-least}
 use Rattle.reading.specs.Segments.{segments, delimitersOf, fieldSeparator, named, isHeader}
 use Rattle.reading.specs.Reading.{lengthCheck, headed, headerCheck, delimiterCheck, byteCheck, opening, endCheck, segmentCheck, segmentChecks, segmentsCheck, reading}
 use Rattle.reading.specs.Message.{ended}

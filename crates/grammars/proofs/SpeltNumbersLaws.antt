@@ -3,18 +3,17 @@
 use mathlib.Core.Path.{_≡_, refl, sym, ap, ap₂, subst, _∙_}
 use mathlib.Core.List.{List, [], _∷_, _++_}
 use mathlib.Core.Bool.{Bool, true, false, cond, not, _&&_, _||_}
-use Prim.Native.Nat.{ℕ, zero, suc, _+_, _-_, _≤_, _<_}
+use Prim.Native.Nat.{ℕ, suc, _+_, _-_, _≤_}
 use native.Mathlib.Omega.{arith}
 use lib.Dec.{leb, ltb, eqb}
 use lib.IntN.{ℤ, pos, negℤ}
-use lib.ListN.{length, getD, take, drop, length-append, take-append-drop, length-drop, drop-of-length-le}
-use lib.Seq.{take-append-seam, drop-append-add, take-all, length-take-le}
-use borrow.Author.Tests.{eqb-true, eqb-false, ne-eqb, lt-ltb, le-ltb, le-leb, leb-true, leb-false, ltb-true, ltb-false, not-false}
+use lib.ListN.{length, getD, take, drop, length-append, take-append-drop, drop-of-length-le}
+use lib.Seq.{take-append-seam, drop-append-add, take-all}
+use borrow.Author.Tests.{eqb-true, ne-eqb, lt-ltb, le-ltb, le-leb, leb-true, ltb-true, ltb-false}
 use Rattle.alphabet.specs.Answers.{failsIf, inOrder}
 use Rattle.alphabet.specs.Bytes.{digit}
-use Rattle.alphabet.specs.Digits.{allDigits, counted, decimal}
+use Rattle.alphabet.specs.Digits.{allDigits, decimal}
 use Rattle.alphabet.specs.Lists.{first, find}
-use Rattle.alphabet.specs.declared.answers.Check.{Check}
 use Rattle.alphabet.specs.declared.answers.Refusal.the-variants.{None, BreaksForm, ValueTooLong}
 use Rattle.alphabet.proofs.BoolLaws.{and-both, both-and, from-to, or-neither, false-true}
 use Rattle.alphabet.proofs.DigitLaws.{digits-append}

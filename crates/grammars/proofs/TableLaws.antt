@@ -1,15 +1,15 @@
 -- The tests of a byte are the document's tables, byte by byte: a computed test over all 256. Assumes nothing.
-use mathlib.Core.Path.{_≡_, refl, ap, _∙_}
-use mathlib.Core.List.{List, [], _∷_, _++_}
+use mathlib.Core.Path.{_≡_, refl}
+use mathlib.Core.List.{_++_}
 use mathlib.Core.Bool.{Bool, true, false}
 use Prim.Native.Nat.{ℕ, _<_}
 use lib.Dec.{eqb}
 use lib.ListN.{getD}
 use borrow.Author.Tests.{eqb-true}
 use Rattle.alphabet.proofs.BoolLaws.{false-true}
-use Rattle.alphabet.specs.Bytes.{allowed, capital, digit, hexOf, hexDigit, ascii}
+use Rattle.alphabet.specs.Bytes.{allowed, capital, digit, hexOf, hexDigit}
 use Rattle.alphabet.specs.Delimiters.{permitted}
-use Rattle.alphabet.specs.Lists.{first, find}
+use Rattle.alphabet.specs.Lists.{first}
 use Rattle.reading.specs.Segments.{capitalOrDigit}
 use Rattle.grammars.specs.Tables.{memberOf, marked, allowedBytes, permittedDelimiters, capitals, digits, hexDigits, hexNumber}
 use Rattle.laws.proofs.EscapeTable.{every, every-at}

@@ -9,7 +9,7 @@ use native.Mathlib.Omega.{arith}
 use lib.Dec.{leb, ltb, eqb}
 use lib.ListN.{length, take, drop, length-append, length-drop}
 use lib.Seq.{split-at, take-append-seam}
-use borrow.Author.Tests.{eqb-true, eqb-false, eq-eqb, ltb-true, ltb-false, leb-true, leb-false}
+use borrow.Author.Tests.{eqb-true, eqb-false, ltb-true, ltb-false, leb-true, leb-false}
 use Rattle.alphabet.proofs.ListLaws.{find-is, first-le}
 use Rattle.alphabet.proofs.NullLaws.{two-quotes, not-quotes, other-quotes}
 use Rattle.alphabet.proofs.PartLaws.{free-find}

@@ -1,6 +1,6 @@
 -- What escaping answers is never longer than the buffer that it was lent. Assumes nothing.
-use mathlib.Core.Path.{_≡_, refl, ap, subst, sym, _∙_}
-use mathlib.Core.List.{List, _++_}
+use mathlib.Core.Path.{_≡_, refl}
+use mathlib.Core.List.{List}
 use mathlib.Core.Bool.{Bool, true, false, cond}
 use Prim.Native.Nat.{ℕ, _≤_}
 use native.Mathlib.Omega.{arith}
@@ -11,7 +11,7 @@ use Rattle.alphabet.specs.Delimiters.{wrongDelimiter}
 use Rattle.alphabet.specs.Filling.{over}
 use Rattle.alphabet.specs.declared.answers.Refusal.the-variants.{Delimiter, TextTooLong}
 use Rattle.text.specs.Escape.{escape}
-use Rattle.text.specs.Unescape.{Outcome, text, fault}
+use Rattle.text.specs.Unescape.{text, fault}
 use Rattle.text.specs.Answers.{fitting, escaping, answer, filled}
 
 over-length : (t d : List ℕ) → length t ≤ length d → length (over t d) ≡ length d

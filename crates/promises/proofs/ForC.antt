@@ -2,23 +2,21 @@
 use mathlib.Core.Path.{_≡_, refl, sym, ap, subst, _∙_}
 use mathlib.Core.Logic.{_↔_}
 use mathlib.Core.Bool.{Bool, true, false, cond}
-use mathlib.Core.List.{List, [], _++_}
-use Prim.Native.Nat.{ℕ, _-_, _≤_, _<_}
+use mathlib.Core.List.{List, _++_}
+use Prim.Native.Nat.{ℕ, _-_, _<_}
 use native.Mathlib.Omega.{arith}
 use lib.Dec.{ltb}
 use lib.ListN.{length, getD, take, replicate}
 use Rattle.alphabet.specs.Answers.{numberOf}
-use Rattle.alphabet.specs.declared.answers.Answer.{Answer}
 use Rattle.alphabet.specs.declared.answers.Check.the-variants.{Passes}
-use Rattle.alphabet.specs.declared.answers.Refusal.{Refusal}
 use Rattle.alphabet.specs.declared.answers.Refusal.the-variants.{None, SegmentMisplaced, EndedEarly}
 use Rattle.reading.specs.Reading.{reading}
 use Rattle.text.specs.Answers.{escaping, unescaping, answer, filled}
-use Rattle.structure.specs.Shapes.{Shape, Yields, Viable, names}
+use Rattle.structure.specs.Shapes.{Shape, Yields, names}
 use Rattle.structure.specs.Listed.{In}
 use Rattle.structure.specs.SegmentNames.{segmentNames, kept}
 use Rattle.structure.specs.Structures.{listed, structureOf, grammarOf}
-use Rattle.structure.specs.Judged.{plain, nameList, front, Answers}
+use Rattle.structure.specs.Judged.{plain, Answers}
 use Rattle.structure.specs.declared.judging.Judgement.{Judgement}
 use Rattle.structure.specs.declared.listing.Names.{Names}
 use Rattle.structure.proofs.OnlyOne.{only-one}

@@ -1,7 +1,5 @@
 -- What demand 2 says of the number and the time of an element: "its number or its time"; "an element not present gives its state alone".
-use Prim.Native.Nat.{ℕ}
 use lib.IntN.{pos}
-use Rattle.alphabet.specs.declared.answers.Refusal.the-variants.{None}
 use Rattle.calendar.specs.Calendar.{noTime}
 use Rattle.element.specs.declared.Found.{Found}
 use Rattle.element.specs.declared.states.State.the-variants.{Present}

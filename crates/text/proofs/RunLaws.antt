@@ -1,19 +1,15 @@
 -- Bytes that stand plainly, one behind another: how far they go, and that they are written as they are and say what they are. Assumes nothing.
 use mathlib.Core.Path.{_≡_, refl, sym, ap, ap₂, _∙_}
 use mathlib.Core.List.{List, [], _∷_, _++_}
-use mathlib.Core.Bool.{Bool, true, false, cond, not, _&&_, _||_}
+use mathlib.Core.Bool.{Bool, true, false, cond}
 use Prim.Native.Nat.{ℕ, zero, suc, _+_, _-_, _≤_, _<_}
 use native.Mathlib.Nat.{add-zero}
-use native.Mathlib.Decide.{decLt}
 use native.Mathlib.Omega.{arith}
-use lib.Dec.{leb, ltb, eqb}
 use lib.ListN.{length, getD, take, drop, length-append, length-drop}
 use lib.Seq.{length-take-le, drop-drop}
-use borrow.Author.Tests.{le-leb, lt-leb, lt-ltb, le-ltb, leb-true, ltb-false, not-false}
-use Rattle.alphabet.proofs.BoolLaws.{or-neither}
-use Rattle.alphabet.proofs.ListLaws.{first-passes, first-before, first-le, first-past, find-own, rest-of}
+use borrow.Author.Tests.{le-ltb}
+use Rattle.alphabet.proofs.ListLaws.{first-le, first-past, find-own, rest-of}
 use Rattle.alphabet.specs.Lists.{first, find}
-use Rattle.alphabet.specs.Bytes.{printable}
 use Rattle.text.specs.Escape.{escapeOf, escapeByte, escapeBytes}
 use Rattle.text.specs.Unescape.{emit, step, before, scan}
 use Rattle.text.specs.Answers.{isText, textOf}

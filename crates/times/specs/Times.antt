@@ -1,7 +1,7 @@
 -- DT, TM and TS, by document 01, 'Numbers and times': "A time keeps how much was sent; a month not sent is not month 0."
 use Prim.Native.Nat.{ℕ, _+_, _-_, min}
 use mathlib.Core.List.{List}
-use mathlib.Core.Bool.{Bool, true, false, cond, not, _&&_, _||_}
+use mathlib.Core.Bool.{Bool, true, false, cond, _&&_, _||_}
 use lib.Dec.{leb, eqb}
 use lib.ListN.{length, getD, take, drop}
 use Rattle.alphabet.specs.Bytes.{fromTo}

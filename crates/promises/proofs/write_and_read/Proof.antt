@@ -1,16 +1,15 @@
 -- Rests on `text-comes-back`; that the text's elements are bytes is what owning the slice tells.
 use borrow.Author.Needs.{needs}
 use Prim.Native.Nat.{ℕ, _≤_}
-use mathlib.Core.Path.{_≡_, sym, ap, ap₂, subst, _∙_}
+use mathlib.Core.Path.{_≡_, sym, ap, ap₂, _∙_}
 use mathlib.Core.List.{List}
 use lib.ListN.{length, take}
 use lib.Seq.{length-take-le}
 use native.Mathlib.Omega.{arith}
 use denote.Ref.{now}
 use Rattle.alphabet.specs.declared.answers.Answer.{Answer}
-use Rattle.text.specs.Answers.{escaping, unescaping, answer, filled}
+use Rattle.text.specs.Answers.{unescaping, answer, filled}
 use Rattle.laws.proofs.TextRoom.{escape-within}
-use Rattle.promises.specs.Texts.{left}
 use Rattle.promises.proofs.Demand2.{text-comes-back}
 use Rattle.promises.proofs.write_and_read.Statement.{statement}
 use Rattle.promises.proofs.write_and_read.Tie as tie
