@@ -2,7 +2,7 @@
 use mathlib.Core.Path.{_≡_, refl, sym, ap, subst, subst₂, _∙_}
 use mathlib.Core.List.{List}
 use mathlib.Core.Logic.{_↔_}
-use Prim.Native.Nat.{ℕ, _≤_}
+use Prim.Native.Nat.{ℕ, _+_, _≤_}
 use native.Mathlib.Omega.{arith}
 use lib.ListN.{length}
 use Rattle.alphabet.specs.declared.answers.Check.the-variants.{Passes}
@@ -21,11 +21,13 @@ use Rattle.element.specs.declared.address.Address.{Address}
 use Rattle.element.specs.declared.states.State.{State}
 use Rattle.element.specs.declared.states.State.the-variants.{Absent as no-part}
 use Rattle.element.proofs.FindingLaws.{within-element, lookup-read, found-passes, shown}
-use Rattle.laws.specs.Elements.{levels, Past, SplitFurther}
+use Rattle.element.proofs.LevelLaws.{between-length}
+use Rattle.laws.specs.Elements.{levels, startOf, Past, SplitFurther}
 use Rattle.laws.specs.Means.{Means, null, empty, present}
 use Rattle.laws.proofs.Asking.{answered-exactly, lookup-passes}
 use Rattle.laws.proofs.ElementLaws.{state-means}
-use Rattle.laws.proofs.LevelBytes.{level-bytes, past-exactly}
+use Rattle.laws.proofs.LevelBytes.{level-bytes, element-begins, past-exactly}
+use Rattle.laws.proofs.LevelStarts.{Begins}
 
 -- bytes that are there are not absent
 means-there : (ds bytes : List ℕ) (s : State) → Means ds bytes s → s ≡ no-part → ⊥
@@ -63,6 +65,11 @@ module _ (m : List ℕ) (a : Address) (done : found m a .answer .kind ≡ None) 
   pub state-at : (s e : ℕ) → elementAt m a ≡ At s e → found m a .element .state ≡ stateOf (delimitersOf m) (between m s e)
   state-at s e q = ap (λ (x : Element). x .state) (element-is ∙ ap (elementIn m) q)
 
+  pub place-at : (s e : ℕ) → elementAt m a ≡ At s e → (found m a .element .start ≡ s) × (found m a .element .end ≡ e)
+  place-at s e q =
+      let i = element-is ∙ ap (elementIn m) q in
+      (ap (λ (x : Element). x .start) i, ap (λ (x : Element). x .end) i)
+
   -- its state says that it is absent exactly where it stands nowhere
   pub absent-nowhere : (found m a .element .state ≡ no-part) ↔ (elementAt m a ≡ Absent)
   absent-nowhere = (at (elementAt m a) refl, λ q. ap (λ (x : Element). x .state) (element-is ∙ ap (elementIn m) q))
@@ -88,3 +95,18 @@ module _ (m : List ℕ) (a : Address) (done : found m a .answer .kind ≡ None) 
       at (At s e) q =
           let bytes : between m s e ≡ levels m a = ap (partBytes m) (sym q) ∙ level-bytes m a four-long further in
           subst₂ (Means (delimitersOf m)) bytes (sym (state-at s e q)) (state-means (delimitersOf m) (between m s e))
+
+  pub place-by-levels : SplitFurther a → (Past m a → ⊥) → (found m a .element .start ≡ startOf m a) × (found m a .element .end ≡ startOf m a + length (levels m a))
+  place-by-levels further there = at (elementAt m a) refl
+    where
+      at : (p : Part) → elementAt m a ≡ p → (found m a .element .start ≡ startOf m a) × (found m a .element .end ≡ startOf m a + length (levels m a))
+      at Absent q = absurd (there (absent-by-levels further .0 (absent-nowhere .1 q)))
+      at (At s e) q =
+          let start : s ≡ startOf m a = subst (λ (p : Part). Begins p (startOf m a)) q (element-begins m a four-long further) in
+          let w = stands-within s e q in
+          let w0 = w .0 in
+          let n = between-length m s e w0 (w .1) in
+          let bytes : length (between m s e) ≡ length (levels m a) = ap (λ (p : Part). length (partBytes m p)) (sym q) ∙ ap length (level-bytes m a four-long further) in
+          let end : e ≡ startOf m a + length (levels m a) = omega arith in
+          let place = place-at s e q in
+          (place .0 ∙ start, place .1 ∙ end)

@@ -23,7 +23,7 @@ use Rattle.element.proofs.LevelLaws.{below-whole, below-own, below-past}
 use Rattle.laws.specs.Elements.{NoneBeyondOne}
 use Rattle.laws.specs.Means.{Separator, component, subcomponent, repetition, OnlySeparators, present}
 use Rattle.laws.proofs.ElementLaws.{state-means, one-state}
-use Rattle.laws.proofs.FoundLaws.{was-read, four-long, shown-is, state-at, absent-nowhere}
+use Rattle.laws.proofs.FoundLaws.{was-read, four-long, shown-is, state-at, place-at, absent-nowhere}
 use Rattle.laws.proofs.HeaderFields.{first-field, second-field, one-byte, four-bytes}
 
 -- ---- a level of a part that is not split
@@ -143,6 +143,12 @@ module _ (m : List ℕ) (a : Address) (done : found m a .answer .kind ≡ None) 
       let n = was-read m a done .opened .nine-bytes in
       at-place 4 8 (getD m 4 0 ∷ getD m 5 0 ∷ getD m 6 0 ∷ getD m 7 0 ∷ []) (encoding-at m a header (omega arith) (was-read m a done) e h) (four-bytes m (omega arith))
       (encoding-present m (was-read m a done))
+
+  pub separator-place : a .field ≡ 1 → NoneBeyondOne a → (found m a .element .start ≡ 3) × (found m a .element .end ≡ 4)
+  separator-place e h = place-at m a done 3 4 (separator-at m a header (omega arith) e h)
+
+  pub encoding-place : a .field ≡ 2 → NoneBeyondOne a → (found m a .element .start ≡ 4) × (found m a .element .end ≡ 8)
+  encoding-place e h = place-at m a done 4 8 (encoding-at m a header (omega arith) (was-read m a done) e h)
 
   pub more-absent : a .field ≤ 2 → (NoneBeyondOne a → ⊥) → found m a .element .state ≡ no-part
   more-absent early more = absent-nowhere m a done .1 (no-more m a header early more)

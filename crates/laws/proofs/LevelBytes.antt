@@ -1,10 +1,10 @@
--- An element of a field that is split further, level by level: its bytes are those of its part of the split, and it is absent exactly where a level has
--- fewer parts than the number asked for. Assumes nothing.
-use mathlib.Core.Path.{_≡_, refl, sym, ap, _∙_}
+-- An element of a field that is split further, level by level: its bytes are those of its part of the split, it begins behind the parts before it, and it is
+-- absent exactly where a level has fewer parts than the number asked for. Assumes nothing.
+use mathlib.Core.Path.{_≡_, refl, sym, ap, subst, subst₂, _∙_}
 use mathlib.Core.Bool.{Bool, true, false, cond}
 use mathlib.Core.List.{List, []}
 use mathlib.Core.Logic.{_⊎_, inl, inr, ⊎-elim, _↔_}
-use Prim.Native.Nat.{ℕ, zero, suc, _-_, _≤_, _<_}
+use Prim.Native.Nat.{ℕ, zero, suc, _+_, _-_, _≤_, _<_}
 use native.Mathlib.Omega.{arith}
 use lib.Dec.{eqb}
 use lib.ListN.{length, getD}
@@ -17,8 +17,9 @@ use Rattle.element.specs.Finding.{partBytes}
 use Rattle.element.specs.Levels.{Within, fixed, partIn, fieldIn, below, repetitionAt, componentAt, elementAt}
 use Rattle.element.specs.declared.address.Address.{Address}
 use Rattle.element.proofs.LevelLaws.{in-absent, field-header, field-other, below-whole, below-split, within-segment, within-field, within-below}
-use Rattle.laws.specs.Elements.{level, segmentBytes, fieldPlace, fieldBytes, repetitionBytes, componentBytes, levels, Past, no-field, no-repetition, no-component, no-subcomponent, SplitFurther}
+use Rattle.laws.specs.Elements.{level, segmentBytes, fieldPlace, fieldBytes, repetitionBytes, componentBytes, levels, before, beforeLevel, segmentStart, fieldStart, repetitionStart, componentStart, startOf, Past, no-field, no-repetition, no-component, no-subcomponent, SplitFurther}
 use Rattle.laws.proofs.ElementLaws.{absent-means, means-absent}
+use Rattle.laws.proofs.LevelStarts.{Begins, begins-segment, begins-in, begins-below}
 use Rattle.laws.proofs.RawLaws.{part-in-bytes, segment-part-bytes}
 
 -- ---- one level
@@ -117,6 +118,27 @@ module _ (m : List ℕ) (a : Address) (four : 4 ≤ length m) (further : SplitFu
   level-bytes =
       ap (partBytes m) element-part ∙ below-bytes m (getD (delimitersOf m) 4 0) componentPart (a .subcomponent) in-component
       ∙ ap (level (getD (delimitersOf m) 4 0) (a .subcomponent)) component-is
+
+  -- where it begins
+  field-begins : Begins fieldPart (fieldStart m a)
+  field-begins =
+      subst₂ Begins (sym field-part) (ap (λ (b : List ℕ). segmentStart m a + before (fieldSeparator m) (fieldPlace a) b) segment-is)
+      (begins-in (fieldSeparator m) m segmentPart (fieldPlace a) (segmentStart m a) (begins-segment m (a .segment)))
+
+  repetition-begins : Begins repetitionPart (repetitionStart m a)
+  repetition-begins =
+      subst (Begins repetitionPart) (ap (λ (b : List ℕ). fieldStart m a + beforeLevel (getD (delimitersOf m) 2 0) (a .repetition) b) field-is)
+      (begins-below (getD (delimitersOf m) 2 0) m fieldPart (a .repetition) (fieldStart m a) field-begins)
+
+  component-begins : Begins componentPart (componentStart m a)
+  component-begins =
+      subst (Begins componentPart) (ap (λ (b : List ℕ). repetitionStart m a + beforeLevel (getD (delimitersOf m) 1 0) (a .component) b) repetition-is)
+      (begins-below (getD (delimitersOf m) 1 0) m repetitionPart (a .component) (repetitionStart m a) repetition-begins)
+
+  pub element-begins : Begins (elementAt m a) (startOf m a)
+  element-begins =
+      subst₂ Begins (sym element-part) (ap (λ (b : List ℕ). componentStart m a + beforeLevel (getD (delimitersOf m) 4 0) (a .subcomponent) b) component-is)
+      (begins-below (getD (delimitersOf m) 4 0) m componentPart (a .subcomponent) (componentStart m a) component-begins)
 
   -- how many parts a level has
   count : (sep : ℕ) {b c : List ℕ} → b ≡ c → length (split sep b) ≡ length (split sep c)

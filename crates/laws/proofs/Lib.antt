@@ -3,6 +3,7 @@ pub mod HeaderLaws
 pub mod HeaderFields
 pub mod ElementLaws
 pub mod RawLaws
+pub mod LevelStarts
 pub mod LevelBytes
 pub mod Asking
 pub mod FoundLaws

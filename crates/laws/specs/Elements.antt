@@ -2,11 +2,12 @@
 -- that look for an element's place are not their own meaning.
 use mathlib.Core.Path.{_≡_}
 use mathlib.Core.Bool.{cond}
-use mathlib.Core.List.{List, []}
-use Prim.Native.Nat.{ℕ, _-_, _≤_, _<_}
+use mathlib.Core.List.{List, [], _∷_}
+use Prim.Native.Nat.{ℕ, _+_, _-_, _≤_, _<_}
 use lib.Dec.{eqb}
-use lib.ListN.{length, getD}
+use lib.ListN.{length, getD, take}
 use Rattle.alphabet.specs.Parts.{split}
+use Rattle.reading.specs.Message.{ended}
 use Rattle.reading.specs.Segments.{delimitersOf, fieldSeparator, segments}
 use Rattle.element.specs.declared.address.Address.{Address}
 
@@ -48,6 +49,40 @@ componentBytes m a = level (getD (delimitersOf m) 1 0) (a .component) (repetitio
 -- down to the subcomponent
 abbrev pub levels : List ℕ → Address → List ℕ
 levels m a = level (getD (delimitersOf m) 4 0) (a .subcomponent) (componentBytes m a)
+
+-- ---- where they begin
+
+-- the bytes of some parts, each with the separator behind it
+unfoldable pub spanned : List (List ℕ) → ℕ
+spanned [] = 0
+spanned (p ∷ ps) = length p + 1 + spanned ps
+
+-- "splits the part above it at its own separator": before part k, from 0, stand the parts of lower number, each with its separator
+abbrev pub before : ℕ → ℕ → List ℕ → ℕ
+before sep k bytes = spanned (take k (split sep bytes))
+
+-- "(from 1; 0 means the whole": the whole begins where the part above does
+abbrev pub beforeLevel : ℕ → ℕ → List ℕ → ℕ
+beforeLevel sep number bytes = cond (eqb number 0) 0 (before sep (number - 1) bytes)
+
+-- "Each segment, the last included, ends with CR": the segments before this one, each with its CR
+abbrev pub segmentStart : List ℕ → Address → ℕ
+segmentStart m a = length (ended (take (a .segment) (segments m)))
+
+abbrev pub fieldStart : List ℕ → Address → ℕ
+fieldStart m a = segmentStart m a + before (fieldSeparator m) (fieldPlace a) (segmentBytes m a)
+
+abbrev pub repetitionStart : List ℕ → Address → ℕ
+repetitionStart m a = fieldStart m a + beforeLevel (getD (delimitersOf m) 2 0) (a .repetition) (fieldBytes m a)
+
+abbrev pub componentStart : List ℕ → Address → ℕ
+componentStart m a = repetitionStart m a + beforeLevel (getD (delimitersOf m) 1 0) (a .component) (repetitionBytes m a)
+
+-- "the part of the message where it stands": its first byte, and behind it those of `levels`
+abbrev pub startOf : List ℕ → Address → ℕ
+startOf m a = componentStart m a + beforeLevel (getD (delimitersOf m) 4 0) (a .subcomponent) (componentBytes m a)
+
+-- ---- past the last part
 
 -- "absent, past the last part": some level has fewer parts than the number asked for. "An absent [part splits] into none": below it all is absent
 pub data Past (m : List ℕ) (a : Address) : Type 0 where

@@ -2,7 +2,7 @@
 use mathlib.Core.Path.{_≡_, refl, sym, ap, subst, _∙_}
 use mathlib.Core.List.{List, [], _∷_}
 use mathlib.Core.Logic.{_⊎_, _↔_}
-use Prim.Native.Nat.{ℕ, _≤_, _<_}
+use Prim.Native.Nat.{ℕ, _+_, _≤_, _<_}
 use lib.ListN.{length, getD}
 use Rattle.alphabet.specs.Answers.{numberOf}
 use Rattle.alphabet.specs.declared.answers.Check.the-variants.{Passes}
@@ -16,14 +16,14 @@ use Rattle.element.specs.Levels.{between, elementAt}
 use Rattle.element.specs.States.{stateOf}
 use Rattle.element.specs.declared.address.Address.{Address}
 use Rattle.element.specs.declared.states.State.the-variants.{Absent as IsAbsent, Present as IsPresent}
-use Rattle.laws.specs.Elements.{Asks, levels, Past, SplitFurther, NoneBeyondOne}
+use Rattle.laws.specs.Elements.{Asks, levels, startOf, Past, SplitFurther, NoneBeyondOne}
 use Rattle.laws.specs.Held.{JudgedByElements}
 use Rattle.laws.specs.Means.{Means}
 use Rattle.laws.proofs.Agreement.{judged-by-elements}
 use Rattle.laws.proofs.Asking.{answered-exactly, refused-exactly}
 use Rattle.laws.proofs.ElementLaws.{state-means}
-use Rattle.laws.proofs.FoundLaws.{element-is, stands-within, shown-is, bytes-by-levels, absent-by-levels, state-by-levels}
-use Rattle.laws.proofs.HeaderElements.{separator-found, encoding-found, more-absent}
+use Rattle.laws.proofs.FoundLaws.{element-is, stands-within, shown-is, bytes-by-levels, absent-by-levels, state-by-levels, place-by-levels}
+use Rattle.laws.proofs.HeaderElements.{separator-found, encoding-found, separator-place, encoding-place, more-absent}
 use Rattle.promises.specs.Elements.{StateIs, absent, stands}
 
 -- ---- "An element is asked for by segment (from 0), field (from 1), repetition, component, subcomponent"
@@ -62,6 +62,10 @@ module _ (m : List ℕ) (a : Address) (done : found m a .answer .kind ≡ None) 
   pub state-exactly : SplitFurther a → (Past m a → ⊥) → Means (delimitersOf m) (levels m a) (found m a .element .state)
   state-exactly = state-by-levels m a done
 
+  -- and it stands where that part does: the same bytes can stand in another part too, so that they alone do not say where
+  pub place-exactly : SplitFurther a → (Past m a → ⊥) → (found m a .element .start ≡ startOf m a) × (found m a .element .end ≡ startOf m a + length (levels m a))
+  place-exactly = place-by-levels m a done
+
   -- ---- "Field 1 of MSH is the separator byte, field 2 the four encoding bytes, neither split further"
 
   -- "(repetition, component and subcomponent 0 or 1 give the whole"
@@ -71,6 +75,13 @@ module _ (m : List ℕ) (a : Address) (done : found m a .answer .kind ≡ None) 
   pub encoding-field : a .segment ≡ 0 → a .field ≡ 2 → NoneBeyondOne a
       → (elementBytes m a ≡ getD m 4 0 ∷ getD m 5 0 ∷ getD m 6 0 ∷ getD m 7 0 ∷ []) × (found m a .element .state ≡ IsPresent)
   encoding-field = encoding-found m a done
+
+  -- they stand behind the name: byte 3, and bytes 4 to 7
+  pub separator-stands : a .segment ≡ 0 → a .field ≡ 1 → NoneBeyondOne a → (found m a .element .start ≡ 3) × (found m a .element .end ≡ 4)
+  separator-stands = separator-place m a done
+
+  pub encoding-stands : a .segment ≡ 0 → a .field ≡ 2 → NoneBeyondOne a → (found m a .element .start ≡ 4) × (found m a .element .end ≡ 8)
+  encoding-stands = encoding-place m a done
 
   -- "more is absent)"
   pub no-more-parts : a .segment ≡ 0 → a .field ≤ 2 → (NoneBeyondOne a → ⊥) → found m a .element .state ≡ IsAbsent

@@ -1,5 +1,5 @@
--- What demand 2 says of an element: its state, where it stands, and its own bytes. What an address asks for, which bytes are those of its levels and when
--- it is past them is said in crates/laws/specs/Elements.antt, and what each state says of bytes in Means.antt beside it.
+-- What demand 2 says of an element: its state, where it stands, and its own bytes. What an address asks for, which bytes are those of its levels, where
+-- they begin and when it is past them is said in crates/laws/specs/Elements.antt, and what each state says of bytes in Means.antt beside it.
 use Prim.Native.Nat.{ℕ, _≤_}
 use mathlib.Core.Path.{_≡_}
 use mathlib.Core.List.{List}
