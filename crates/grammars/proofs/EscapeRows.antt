@@ -36,7 +36,7 @@ module _ (field component repetition escape subcomponent : ℕ) where
   letter-known E = (refl, refl)
 
   -- and nothing else of one letter
-  row-at : (i l : ℕ) → i < 5 → getD letters i 0 ≡ l → Letter field component repetition escape subcomponent l (getD ds i 0)
+  pub row-at : (i l : ℕ) → i < 5 → getD letters i 0 ≡ l → Letter field component repetition escape subcomponent l (getD ds i 0)
   row-at zero l h e = subst (λ (x : ℕ). Letter field component repetition escape subcomponent x field) e F
   row-at (suc zero) l h e = subst (λ (x : ℕ). Letter field component repetition escape subcomponent x component) e S
   row-at (suc (suc zero)) l h e = subst (λ (x : ℕ). Letter field component repetition escape subcomponent x repetition) e R

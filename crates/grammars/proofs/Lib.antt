@@ -5,4 +5,5 @@ pub mod SpeltClocks
 pub mod SpeltTimesLaws
 pub mod TableLaws
 pub mod EscapeRows
+pub mod Writing
 pub mod FaultyLaws

@@ -7,3 +7,4 @@ pub mod NoSecondAnswer
 pub mod Values
 pub mod ForC
 pub mod Texts
+pub mod Refusals

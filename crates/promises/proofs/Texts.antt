@@ -1,5 +1,5 @@
--- Demand 2, of text beside the round trip: what is read is what document 01's grammar and its escape table say, each outcome exactly where they have it, and each
--- delimiter is written by its own row of the table. Assumes nothing.
+-- Demand 2, of text beside the round trip: what is read is what document 01's grammar and its escape table say, each outcome exactly where they have it, and a
+-- text is written exactly as its rules say, each delimiter by its own row of the table. Assumes nothing.
 use mathlib.Core.Path.{_≡_, subst}
 use mathlib.Core.Logic.{_↔_}
 use mathlib.Core.Bool.{true}
@@ -8,13 +8,15 @@ use Prim.Native.Nat.{ℕ}
 use lib.ListN.{length}
 use Rattle.alphabet.specs.Delimiters.{wrongDelimiter}
 use Rattle.text.specs.Escape.{escapeByte}
+use Rattle.text.specs.Escape as Text
 use Rattle.text.specs.Unescape.{known, meaning, Outcome}
 use Rattle.text.specs.Answers.{unescaping}
 use Rattle.text.specs.Reads.{Unescapes}
 use Rattle.laws.proofs.Grammar.{unescapes, unescapes-only}
 use Rattle.laws.proofs.RoundTrip.{AreBytes}
-use Rattle.grammars.specs.Escapes.{Letter, Escapes}
+use Rattle.grammars.specs.Escapes.{Letter, Escapes, Writes}
 use Rattle.grammars.proofs.EscapeRows as Rows
+use Rattle.grammars.proofs.Writing as Writing
 
 -- "Unescaping: 3, then 15, then the leftmost of 4, 11, 12, 13, then 14.": each outcome exactly where the grammar has it
 pub unescapes-exactly : (ds : List ℕ) → length ds ≡ 5 → (s : List ℕ) (room : ℕ) (o : Outcome) → Unescapes ds s room o ↔ (unescaping ds s room ≡ o)
@@ -35,3 +37,11 @@ module _ (field component repetition escape subcomponent : ℕ) where
   -- "Escaping writes the five delimiters by letter"
   pub delimiter-written : wrongDelimiter ds ≡ 5 → {l b : ℕ} → Letter field component repetition escape subcomponent l b → escapeByte ds b ≡ escape ∷ l ∷ escape ∷ []
   delimiter-written fine r = Rows.row-written field component repetition escape subcomponent fine r
+
+  -- "Escaping writes the five delimiters by letter, every byte that isn't allowed and CR as its own `\Xhh\` with capital digits, the rest plainly. House: text that
+  -- is exactly two quotes is written `\X2222\`, so that it isn't null.": what is written is what these rules write, and nothing else
+  pub writes-exactly : wrongDelimiter ds ≡ 5 → (t w : List ℕ) → AreBytes t → Writes field component repetition escape subcomponent t w ↔ (Text.escape ds t ≡ w)
+  writes-exactly fine t w small = (
+    Writing.writes-is field component repetition escape subcomponent fine small,
+    λ e. subst (Writes field component repetition escape subcomponent t) e (Writing.escape-writes field component repetition escape subcomponent fine t small),
+  )

@@ -1,14 +1,17 @@
--- What demand 2 says of an acknowledgement: looked up in the bytes w that were written, and in the message m that was sent.
-use Prim.Native.Nat.{ℕ, _≤_}
+-- What demand 2 says of an acknowledgement: looked up in the bytes w that were written, and in the message m that was sent. And when demand 1 has one refused.
+use Prim.Native.Nat.{ℕ, _≤_, _<_}
 use mathlib.Core.Path.{_≡_}
 use mathlib.Core.Logic.{_↔_}
 use mathlib.Core.List.{List, [], _∷_, _++_}
 use lib.ListN.{length, getD}
-use Rattle.alphabet.specs.Bytes.{ascii}
+use Rattle.alphabet.specs.Bytes.{carriageReturn, ascii}
 use Rattle.alphabet.specs.Limits.{idLimit}
 use Rattle.alphabet.specs.Parts.{split}
 use Rattle.alphabet.specs.declared.answers.Check.the-variants.{Passes}
-use Rattle.alphabet.specs.declared.answers.Refusal.the-variants.{None}
+use Rattle.alphabet.specs.declared.answers.Refusal.{Refusal}
+use Rattle.alphabet.specs.declared.answers.Refusal.the-variants.{None, NotAcknowledgeable, CallersTime, CallersId}
+use Rattle.calendar.specs.declared.figures.Time.{Time}
+use Rattle.reading.specs.Message.{Opened}
 use Rattle.reading.specs.Reading.{reading}
 use Rattle.reading.specs.Segments.{delimitersOf, fieldSeparator, segments}
 use Rattle.element.specs.Finding.{rawBytes}
@@ -23,7 +26,9 @@ use Rattle.structure.specs.Structures.{ack, typeAddress, structureOf}
 use Rattle.structure.specs.Judged.{plain, Judged, Answers}
 use Rattle.structure.specs.declared.structures.Structure.the-variants.{Acknowledgement}
 use Rattle.verdict.specs.Verdicts.{Accepts}
+use Rattle.acknowledgement.specs.Acknowledgement.{header}
 use Rattle.acknowledgement.specs.Acknowledgement.{fieldAddress as inHeader}
+use Rattle.grammars.specs.SpeltTimes.{Ts}
 
 -- the whole of a field of the second segment, which is MSA; `inHeader` is that of a field of MSH
 abbrev pub inAnswer : ℕ → Address
@@ -67,3 +72,27 @@ pub record Carries (m time id w : List ℕ) : Type 0 where
   -- "Code AA exactly when reading, structure and fields all accept; else AE."
   pub accepted-exactly : (rawBytes w (inAnswer 1) ≡ ascii "AA") ↔ Accepts m
   pub refused-exactly : (rawBytes w (inAnswer 1) ≡ ascii "AE") ↔ (Accepts m → ⊥)
+
+-- ---- refusals
+
+-- 17: "caller's ID not 1 to 20 bytes"
+abbrev pub GoodId : List ℕ → Type 0
+GoodId id = (1 ≤ length id) × (length id ≤ idLimit)
+
+-- 9, each case of it, in the header's own bytes: nothing behind the header is looked at
+pub data Unacknowledgeable (m : List ℕ) : Type 0 where
+  -- "the header (through the first CR) is missing that CR"
+  no-return : ((i : ℕ) → i < length m → getD m i 0 ≡ carriageReturn → ⊥) → Unacknowledgeable m
+  -- "or has fault 1 to 4 itself"
+  unsound : (Opened (header m) → ⊥) → Unacknowledgeable m
+  -- "type ACK"
+  of-type-ack : rawBytes (header m) (typeAddress 1) ≡ ascii "ACK" → Unacknowledgeable m
+  -- "MSH-10, the whole field, not present or over 20 bytes"
+  no-control-id : (stateOf (delimitersOf (header m)) (rawBytes (header m) (inHeader 10)) ≡ Present → ⊥) → Unacknowledgeable m
+  long-control-id : idLimit < length (rawBytes (header m) (inHeader 10)) → Unacknowledgeable m
+
+-- "Acknowledging: 16, 17, 9, 10.": the first three, which are refused whatever the buffer, each where those before it are not; 16: "caller's time isn't TS"
+pub data RefusedBy (m time id : List ℕ) : Refusal → Type 0 where
+  bad-time : ((t : Time) → Ts time t → ⊥) → RefusedBy m time id CallersTime
+  bad-id : (t : Time) → Ts time t → (GoodId id → ⊥) → RefusedBy m time id CallersId
+  bad-header : (t : Time) → Ts time t → GoodId id → Unacknowledgeable m → RefusedBy m time id NotAcknowledgeable
