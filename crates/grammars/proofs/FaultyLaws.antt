@@ -25,6 +25,7 @@ use Rattle.alphabet.proofs.ListLaws.{first-passes, first-before, find-is, first
 use Rattle.reading.specs.Segments.{segments, delimitersOf, fieldSeparator, named, isHeader}
 use Rattle.reading.specs.Reading.{lengthCheck, headed, headerCheck, delimiterCheck, byteCheck, opening, endCheck, segmentCheck, segmentChecks, segmentsCheck, reading}
 use Rattle.reading.specs.Message.{ended}
+use Rattle.laws.proofs.OneSpelling.{or-cases}
 use Rattle.grammars.specs.Faulty.{Sized, Headed, Wrong, unlisted, again, BadSegment, one-too-many, second, Faulty}
 
 -- ---- checks one after another
@@ -43,10 +44,6 @@ none-fails : (kind : Refusal) (place : ℕ) → Passes ≡ Fails kind place → 
 none-fails kind place e = let z : _≡_ {A = ℕ} 0 1 = cc in omega arith
 
 -- ---- 1 and 2
-
-or-cases : (s t : Bool) → (s || t) ≡ true → (s ≡ true) ⊎ (t ≡ true)
-or-cases true t e = inl refl
-or-cases false t e = inr e
 
 not-sized : (m : List ℕ) → (eqb (length m) 0 || ltb messageLimit (length m)) ≡ true → Sized m → ⊥
 not-sized m e s = at (or-cases (eqb (length m) 0) (ltb messageLimit (length m)) e)

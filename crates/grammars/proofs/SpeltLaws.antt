@@ -36,14 +36,14 @@ append-one : (l r : List ℕ) (x : ℕ) → (l ++ (x ∷ [])) ++ r ≡ l ++ (x �
 append-one [] r x = refl
 append-one (y ∷ l) r x = ap (λ (z : List ℕ). y ∷ z) (append-one l r x)
 
+pub append-none : (l : List ℕ) → l ++ [] ≡ l
+append-none [] = refl
+append-none (y ∷ l) = ap (λ (z : List ℕ). y ∷ z) (append-none l)
+
 -- digits behind digits say more
 says-on : {k n : ℕ} {l : List ℕ} (r : List ℕ) → Says k l n → allDigits r ≡ true → Says (k + length r) (l ++ r) (counted n r)
 unfolding allDigits counted
 says-on {k} {n} {l} [] s e = subst (λ (x : List ℕ). Says (k + 0) x n) (sym (append-none l)) (subst (λ (j : ℕ). Says j l n) (let z : k ≡ k + 0 = omega arith in z) s)
-  where
-    append-none : (l : List ℕ) → l ++ [] ≡ l
-    append-none [] = refl
-    append-none (y ∷ l) = ap (λ (z : List ℕ). y ∷ z) (append-none l)
 says-on {k} {n} {l} (x ∷ r) s e =
     let b = and-both (digit x) (allDigits r) e in
     let t = from-to 48 57 x (b .0) in

@@ -24,7 +24,7 @@ use Rattle.numbers.specs.declared.numerals.ReadNumber.{ReadNumber}
 use Rattle.numbers.proofs.NumberLaws.{unsigned-drop, unsigned-same, si-read, si-refused}
 use Rattle.grammars.specs.Spelt.{Says}
 use Rattle.grammars.specs.SpeltNumbers.{Unsigned, whole, pointed, Nm, bare, plus, minus, NmSays, Si, few, SiSays}
-use Rattle.grammars.proofs.SpeltLaws.{says-decimal, decimal-says}
+use Rattle.grammars.proofs.SpeltLaws.{says-decimal, decimal-says, append-none}
 
 -- ---- a byte that is no digit, among digits
 
@@ -95,10 +95,6 @@ pub record Read (u : List ℕ) (n decimals digits : ℕ) : Type 0 where
   pub places : length (fractionOf u) ≡ decimals
   pub count : length (wholeOf u ++ fractionOf u) ≡ digits
   pub unsigned-so : isSign (getD u 0 0) ≡ false
-
-append-none : (l : List ℕ) → l ++ [] ≡ l
-append-none [] = refl
-append-none (x ∷ l) = ap (λ (r : List ℕ). x ∷ r) (append-none l)
 
 unsigned-read : {u : List ℕ} {n decimals digits : ℕ} → Unsigned u n decimals digits → Read u n decimals digits
 unsigned-read {u} (whole s) =
