@@ -38,7 +38,8 @@ enum {
     TURRETHOG_SEPARATOR = 11,                /* a delimiter that stands as itself */
     TURRETHOG_UNKNOWN_ESCAPE = 12,           /* an escape that is not in the table */
     TURRETHOG_UNCLOSED_ESCAPE = 13,          /* an escape that never ends */
-    TURRETHOG_TEXT_TOO_LONG = 14,            /* the result is longer than the buffer; place 0 */
+    TURRETHOG_NO_ROOM = 14,                  /* the result is longer than the buffer; place 0 */
+    TURRETHOG_TEXT_TOO_LONG = 14,            /* the same, by its older name */
     TURRETHOG_NULL_TEXT = 15,                /* two quotes are null, and no text; place 0 */
     /* acknowledging: place 0 */
     TURRETHOG_CALLERS_TIME = 16,             /* the caller's time is no TS */

@@ -1,10 +1,11 @@
--- Laws of checks in order: what a check that passes or fails makes of the whole. Assumes nothing.
+-- Laws of checks in order: what a check that passes or fails makes of the whole; and that number 0 is no refusal's. Assumes nothing.
 use mathlib.Core.Path.{_≡_, refl, sym, _∙_, subst}
 use mathlib.Core.Bool.{Bool, true, false}
 use Prim.Native.Nat.{ℕ, _≤_}
 use native.Mathlib.Omega.{arith}
 use Rattle.alphabet.specs.Answers.{numberOf, failsIf, orElse}
 use Rattle.alphabet.specs.declared.answers.Refusal.{Refusal}
+use Rattle.alphabet.specs.declared.answers.Refusal.the-variants.{None, Length, Header, Delimiter, NotAllowed, NotEnded, SegmentName, SecondHeader, TooManySegments, NotAcknowledgeable, AcknowledgementTooLong, Separator, UnknownEscape, UnclosedEscape, NoRoom, NullText, CallersTime, CallersId, Address, NoStructure, SegmentMisplaced, EndedEarly, RequiredMissing, BreaksForm, NotListed, RequiredNull, ValueWithoutType, Repeated, ValueTooLong, StructureName, BrokenFrame, FrameTooLong, Layout, BookVersion, BookMalformed, BookHeader, WrongCount, BrokenBatch}
 use Rattle.alphabet.specs.declared.answers.Check.{Check}
 use Rattle.alphabet.specs.declared.answers.Check.the-variants.{Passes, Fails}
 
@@ -67,3 +68,44 @@ module _ (lo hi : ℕ) where
 
   pub numbered-fails : (c : Check) (kind : Refusal) (place : ℕ) → Numbered lo hi c → c ≡ Fails kind place → NumberFromTo lo hi kind
   numbered-fails c kind place n e = subst (Numbered lo hi) e n
+
+-- number 0 is that of no refusal
+pub number-none : (k : Refusal) → numberOf k ≡ 0 → k ≡ None
+number-none None e = refl
+number-none Length e = absurd (omega arith)
+number-none Header e = absurd (omega arith)
+number-none Delimiter e = absurd (omega arith)
+number-none NotAllowed e = absurd (omega arith)
+number-none NotEnded e = absurd (omega arith)
+number-none SegmentName e = absurd (omega arith)
+number-none SecondHeader e = absurd (omega arith)
+number-none TooManySegments e = absurd (omega arith)
+number-none NotAcknowledgeable e = absurd (omega arith)
+number-none AcknowledgementTooLong e = absurd (omega arith)
+number-none Separator e = absurd (omega arith)
+number-none UnknownEscape e = absurd (omega arith)
+number-none UnclosedEscape e = absurd (omega arith)
+number-none NoRoom e = absurd (omega arith)
+number-none NullText e = absurd (omega arith)
+number-none CallersTime e = absurd (omega arith)
+number-none CallersId e = absurd (omega arith)
+number-none Address e = absurd (omega arith)
+number-none NoStructure e = absurd (omega arith)
+number-none SegmentMisplaced e = absurd (omega arith)
+number-none EndedEarly e = absurd (omega arith)
+number-none RequiredMissing e = absurd (omega arith)
+number-none BreaksForm e = absurd (omega arith)
+number-none NotListed e = absurd (omega arith)
+number-none RequiredNull e = absurd (omega arith)
+number-none ValueWithoutType e = absurd (omega arith)
+number-none Repeated e = absurd (omega arith)
+number-none ValueTooLong e = absurd (omega arith)
+number-none StructureName e = absurd (omega arith)
+number-none BrokenFrame e = absurd (omega arith)
+number-none FrameTooLong e = absurd (omega arith)
+number-none Layout e = absurd (omega arith)
+number-none BookVersion e = absurd (omega arith)
+number-none BookMalformed e = absurd (omega arith)
+number-none BookHeader e = absurd (omega arith)
+number-none WrongCount e = absurd (omega arith)
+number-none BrokenBatch e = absurd (omega arith)

@@ -3,7 +3,7 @@ use Prim.Native.Nat.{ℕ}
 use mathlib.Core.List.{List, [], _∷_}
 use mathlib.Core.Bool.{Bool, cond}
 use Rattle.alphabet.specs.declared.answers.Refusal.{Refusal}
-use Rattle.alphabet.specs.declared.answers.Refusal.the-variants.{None, Length, Header, Delimiter, NotAllowed, NotEnded, SegmentName, SecondHeader, TooManySegments, NotAcknowledgeable, AcknowledgementTooLong, Separator, UnknownEscape, UnclosedEscape, TextTooLong, NullText, CallersTime, CallersId, Address, NoStructure, SegmentMisplaced, EndedEarly, RequiredMissing, BreaksForm, NotListed, RequiredNull, ValueWithoutType, Repeated, ValueTooLong}
+use Rattle.alphabet.specs.declared.answers.Refusal.the-variants.{None, Length, Header, Delimiter, NotAllowed, NotEnded, SegmentName, SecondHeader, TooManySegments, NotAcknowledgeable, AcknowledgementTooLong, Separator, UnknownEscape, UnclosedEscape, NoRoom, NullText, CallersTime, CallersId, Address, NoStructure, SegmentMisplaced, EndedEarly, RequiredMissing, BreaksForm, NotListed, RequiredNull, ValueWithoutType, Repeated, ValueTooLong, StructureName, BrokenFrame, FrameTooLong, Layout, BookVersion, BookMalformed, BookHeader, WrongCount, BrokenBatch}
 use Rattle.alphabet.specs.declared.answers.Check.{Check}
 use Rattle.alphabet.specs.declared.answers.Check.the-variants.{Passes, Fails}
 use Rattle.alphabet.specs.declared.answers.Answer.{Answer}
@@ -24,7 +24,7 @@ numberOf AcknowledgementTooLong = 10
 numberOf Separator = 11
 numberOf UnknownEscape = 12
 numberOf UnclosedEscape = 13
-numberOf TextTooLong = 14
+numberOf NoRoom = 14
 numberOf NullText = 15
 numberOf CallersTime = 16
 numberOf CallersId = 17
@@ -39,6 +39,15 @@ numberOf RequiredNull = 34
 numberOf ValueWithoutType = 35
 numberOf Repeated = 36
 numberOf ValueTooLong = 37
+numberOf StructureName = 23
+numberOf BrokenFrame = 40
+numberOf FrameTooLong = 41
+numberOf Layout = 42
+numberOf BookVersion = 50
+numberOf BookMalformed = 51
+numberOf BookHeader = 52
+numberOf WrongCount = 60
+numberOf BrokenBatch = 61
 
 -- a check that fails where its test holds
 abbrev pub failsIf : Bool → Refusal → ℕ → Check

@@ -2,7 +2,7 @@
 ghost use mathlib.Core.Path.{_≡_};
 ghost use Rattle.alphabet.specs.Answers.{numberOf, failsIf, orElse, answered};
 
-// Each case is one number of the table in document 01; `number` gives it.
+// Each case is one number of the table in document 01, and from `StructureName` on of document 02; `number` gives it.
 pub enum Refusal {
     None,
     Length,
@@ -18,7 +18,7 @@ pub enum Refusal {
     Separator,
     UnknownEscape,
     UnclosedEscape,
-    TextTooLong,
+    NoRoom,
     NullText,
     CallersTime,
     CallersId,
@@ -33,6 +33,15 @@ pub enum Refusal {
     ValueWithoutType,
     Repeated,
     ValueTooLong,
+    StructureName,
+    BrokenFrame,
+    FrameTooLong,
+    Layout,
+    BookVersion,
+    BookMalformed,
+    BookHeader,
+    WrongCount,
+    BrokenBatch,
 }
 
 // What a check finds: nothing wrong, or the first fault and its place.
@@ -67,7 +76,7 @@ pub fn number(kind: Refusal) -> u8
         Refusal::Separator => 11,
         Refusal::UnknownEscape => 12,
         Refusal::UnclosedEscape => 13,
-        Refusal::TextTooLong => 14,
+        Refusal::NoRoom => 14,
         Refusal::NullText => 15,
         Refusal::CallersTime => 16,
         Refusal::CallersId => 17,
@@ -82,6 +91,15 @@ pub fn number(kind: Refusal) -> u8
         Refusal::ValueWithoutType => 35,
         Refusal::Repeated => 36,
         Refusal::ValueTooLong => 37,
+        Refusal::StructureName => 23,
+        Refusal::BrokenFrame => 40,
+        Refusal::FrameTooLong => 41,
+        Refusal::Layout => 42,
+        Refusal::BookVersion => 50,
+        Refusal::BookMalformed => 51,
+        Refusal::BookHeader => 52,
+        Refusal::WrongCount => 60,
+        Refusal::BrokenBatch => 61,
     }
 }
 

@@ -9,7 +9,7 @@ use Rattle.alphabet.specs.Lists.{find}
 use Rattle.alphabet.specs.Bytes.{printable, isNull}
 use Rattle.alphabet.specs.Delimiters.{wrongDelimiter}
 use Rattle.alphabet.specs.Answers.{numberOf}
-use Rattle.alphabet.specs.declared.answers.Refusal.the-variants.{Delimiter, NotAllowed, Separator, UnknownEscape, UnclosedEscape, TextTooLong, NullText}
+use Rattle.alphabet.specs.declared.answers.Refusal.the-variants.{Delimiter, NotAllowed, Separator, UnknownEscape, UnclosedEscape, NoRoom, NullText}
 use Rattle.text.specs.Escape.{escapeOf, escape}
 use Rattle.text.specs.Unescape.{known, meaning, Step, stop, emit, sequence, step, Outcome, text, fault, before, after, scan}
 use Rattle.text.specs.Answers.{fitting, escaping, unescaping, answer}
@@ -64,7 +64,7 @@ unfolding fitting
 fitting-told l room (fault k p) i h = h
 fitting-told l room (text t) i h = at (leb (length t) room)
   where
-    at : (u : Bool) → Told l (cond u (text t) (fault TextTooLong 0))
+    at : (u : Bool) → Told l (cond u (text t) (fault NoRoom 0))
     at true = tt
     at false = i
 

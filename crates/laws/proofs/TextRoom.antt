@@ -9,7 +9,7 @@ use lib.ListN.{length, drop, length-append, length-drop}
 use borrow.Author.Tests.{leb-true}
 use Rattle.alphabet.specs.Delimiters.{wrongDelimiter}
 use Rattle.alphabet.specs.Filling.{over}
-use Rattle.alphabet.specs.declared.answers.Refusal.the-variants.{Delimiter, TextTooLong}
+use Rattle.alphabet.specs.declared.answers.Refusal.the-variants.{Delimiter, NoRoom}
 use Rattle.text.specs.Escape.{escape}
 use Rattle.text.specs.Unescape.{text, fault}
 use Rattle.text.specs.Answers.{fitting, escaping, answer, filled}
@@ -25,8 +25,8 @@ escape-within ds t d = at (ltb (wrongDelimiter ds) 5) (leb (length (escape ds t)
     nothing n = omega arith
 
     at : (b c : Bool) → leb (length (escape ds t)) (length d) ≡ c
-        → answer (cond b (fault Delimiter (wrongDelimiter ds)) (cond c (text (escape ds t)) (fault TextTooLong 0))) .length
-        ≤ length (filled (cond b (fault Delimiter (wrongDelimiter ds)) (cond c (text (escape ds t)) (fault TextTooLong 0))) d)
+        → answer (cond b (fault Delimiter (wrongDelimiter ds)) (cond c (text (escape ds t)) (fault NoRoom 0))) .length
+        ≤ length (filled (cond b (fault Delimiter (wrongDelimiter ds)) (cond c (text (escape ds t)) (fault NoRoom 0))) d)
     at true c e = nothing (length d)
     at false false e = nothing (length d)
     at false true e =

@@ -21,7 +21,7 @@ use Rattle.structure.specs.declared.judging.Judgement.{Judgement}
 use Rattle.structure.specs.declared.listing.Names.{Names}
 use Rattle.structure.proofs.OnlyOne.{only-one}
 use Rattle.verdict.specs.Verdicts.{Accepts}
-use Rattle.verdict.proofs.VerdictLaws.{number-none}
+use Rattle.alphabet.proofs.CheckLaws.{number-none}
 use Rattle.verdict.proofs.VerdictLaws.{accepts-exactly as verdict-accepts}
 use Rattle.boundary.specs.Seen.{seen, structureSeen, StructureSeen, VerdictSeen, NameSeen, AcknowledgeSeen}
 use Rattle.boundary.specs.declared.answers.CAnswer.{CAnswer}

@@ -11,7 +11,7 @@ use Rattle.alphabet.specs.Lists.{find}
 use Rattle.alphabet.specs.Bytes.{printable, hexDigit, isNull}
 use Rattle.alphabet.specs.Delimiters.{wrongDelimiter}
 use Rattle.alphabet.specs.declared.answers.Refusal.{Refusal}
-use Rattle.alphabet.specs.declared.answers.Refusal.the-variants.{Delimiter, TextTooLong, NullText}
+use Rattle.alphabet.specs.declared.answers.Refusal.the-variants.{Delimiter, NoRoom, NullText}
 use Rattle.alphabet.proofs.NullLaws.{two-quotes}
 use Rattle.text.specs.Escape.{letters, escapeOf, escapeByte, escapeBytes, twoQuotes, escape}
 use Rattle.text.specs.Unescape.{Outcome, text, fault, scan}
@@ -91,7 +91,7 @@ pub escaping-fits : (ds t w : List ℕ) (room : ℕ) → 5 ≤ wrongDelimiter ds
 unfolding escaping fitting
 escaping-fits ds t w room h e l = rw (le-ltb _ _ h) (rw e (rw (le-leb _ _ l)))
 
-pub escaping-long : (ds t w : List ℕ) (room : ℕ) → 5 ≤ wrongDelimiter ds → escape ds t ≡ w → room < length w → escaping ds t room ≡ fault TextTooLong 0
+pub escaping-long : (ds t w : List ℕ) (room : ℕ) → 5 ≤ wrongDelimiter ds → escape ds t ≡ w → room < length w → escaping ds t room ≡ fault NoRoom 0
 unfolding escaping fitting
 escaping-long ds t w room h e l = rw (le-ltb _ _ h) (rw e (rw (lt-leb _ _ l)))
 
@@ -130,6 +130,6 @@ module _ (ds s : List ℕ) (room : ℕ) where
       unfolding fitting
       unescaping-fits t e l = other ∙ ap (fitting room) e ∙ rw (le-leb _ _ l)
 
-      pub unescaping-long : (t : List ℕ) → scan ds 0 0 s ≡ text t → room < length t → unescaping ds s room ≡ fault TextTooLong 0
+      pub unescaping-long : (t : List ℕ) → scan ds 0 0 s ≡ text t → room < length t → unescaping ds s room ≡ fault NoRoom 0
       unfolding fitting
       unescaping-long t e l = other ∙ ap (fitting room) e ∙ rw (lt-leb _ _ l)

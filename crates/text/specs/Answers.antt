@@ -8,7 +8,7 @@ use lib.Dec.{leb, ltb}
 use Rattle.alphabet.specs.Bytes.{isNull}
 use Rattle.alphabet.specs.Filling.{over}
 use Rattle.alphabet.specs.Delimiters.{wrongDelimiter}
-use Rattle.alphabet.specs.declared.answers.Refusal.the-variants.{None, Delimiter, TextTooLong, NullText}
+use Rattle.alphabet.specs.declared.answers.Refusal.the-variants.{None, Delimiter, NoRoom, NullText}
 use Rattle.alphabet.specs.declared.answers.Answer.{Answer}
 use Rattle.text.specs.Escape.{escape}
 use Rattle.text.specs.Unescape.{Step, stop, emit, Outcome, text, fault, scan}
@@ -20,7 +20,7 @@ use Rattle.text.specs.declared.unescaping.Judged.{Judged}
 -- "result longer than the buffer", which has room for `room` bytes; its place is "else 0"
 unfoldable pub fitting : ℕ → Outcome → Outcome
 fitting room (fault k p) = fault k p
-fitting room (text t) = cond (leb (length t) room) (text t) (fault TextTooLong 0)
+fitting room (text t) = cond (leb (length t) room) (text t) (fault NoRoom 0)
 
 -- "Escaping: 3, then 14."
 unfoldable pub escaping : List ℕ → List ℕ → ℕ → Outcome

@@ -9,7 +9,7 @@ use Rattle.alphabet.specs.Lists.{find}
 use Rattle.alphabet.specs.Bytes.{printable}
 use Rattle.alphabet.specs.Delimiters.{wrongDelimiter}
 use Rattle.alphabet.specs.declared.answers.Refusal.{Refusal}
-use Rattle.alphabet.specs.declared.answers.Refusal.the-variants.{Delimiter, NotAllowed, Separator, UnknownEscape, UnclosedEscape, TextTooLong, NullText}
+use Rattle.alphabet.specs.declared.answers.Refusal.the-variants.{Delimiter, NotAllowed, Separator, UnknownEscape, UnclosedEscape, NoRoom, NullText}
 use Rattle.text.specs.Escape.{escapeOf}
 use Rattle.text.specs.Unescape.{known, meaning, Outcome, text, fault}
 
@@ -43,5 +43,5 @@ pub data Unescapes (ds s : List ℕ) (room : ℕ) : Outcome → Type 0 where
   delimiter : wrongDelimiter ds < 5 → Unescapes ds s room (fault Delimiter (wrongDelimiter ds))
   null : 5 ≤ wrongDelimiter ds → s ≡ 34 ∷ 34 ∷ [] → Unescapes ds s room (fault NullText 0)
   refused : 5 ≤ wrongDelimiter ds → (s ≡ 34 ∷ 34 ∷ [] → ⊥) → (k : Refusal) (p : ℕ) → Refuses ds s k p → Unescapes ds s room (fault k p)
-  long : 5 ≤ wrongDelimiter ds → (s ≡ 34 ∷ 34 ∷ [] → ⊥) → (t : List ℕ) → Reads ds s t → room < length t → Unescapes ds s room (fault TextTooLong 0)
+  long : 5 ≤ wrongDelimiter ds → (s ≡ 34 ∷ 34 ∷ [] → ⊥) → (t : List ℕ) → Reads ds s t → room < length t → Unescapes ds s room (fault NoRoom 0)
   written : 5 ≤ wrongDelimiter ds → (s ≡ 34 ∷ 34 ∷ [] → ⊥) → (t : List ℕ) → Reads ds s t → length t ≤ room → Unescapes ds s room (text t)

@@ -69,7 +69,7 @@ pub fn escape(delimiters: Delimiters, text: &[u8], buffer: &mut [u8]) -> Answer
     }
     if alphabet::is_null(text) {
         if buffer.len() < 7 {
-            return refused(Refusal::TextTooLong, 0);
+            return refused(Refusal::NoRoom, 0);
         }
         let five = delimiters.bytes;
         let mark = five[3];
@@ -83,7 +83,7 @@ pub fn escape(delimiters: Delimiters, text: &[u8], buffer: &mut [u8]) -> Answer
     }
     let size = escaped_length(delimiters, text, buffer.len());
     match size {
-        Room::Short => refused(Refusal::TextTooLong, 0),
+        Room::Short => refused(Refusal::NoRoom, 0),
         Room::Takes(n) => {
             write_escaped(delimiters, text, buffer);
             Answer {

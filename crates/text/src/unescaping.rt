@@ -143,7 +143,7 @@ pub fn unescape(delimiters: Delimiters, text: &[u8], buffer: &mut [u8]) -> Answe
         Judged::Fault { kind, place } => refused(kind, place),
         Judged::Text(n) => {
             if buffer.len() < n {
-                return refused(Refusal::TextTooLong, 0);
+                return refused(Refusal::NoRoom, 0);
             }
             write_text(delimiters, text, buffer);
             Answer {

@@ -9,7 +9,7 @@ use lib.Dec.{ltb}
 use lib.ListN.{length}
 use Rattle.alphabet.specs.Answers.{numberOf}
 use Rattle.alphabet.specs.declared.answers.Refusal.{Refusal}
-use Rattle.alphabet.specs.declared.answers.Refusal.the-variants.{None, Length, Header, Delimiter, NotAllowed, NotEnded, SegmentName, SecondHeader, TooManySegments, NotAcknowledgeable, AcknowledgementTooLong, Separator, UnknownEscape, UnclosedEscape, TextTooLong, NullText, CallersTime, CallersId, Address, NoStructure, SegmentMisplaced, EndedEarly, RequiredMissing, BreaksForm, NotListed, RequiredNull, ValueWithoutType, Repeated, ValueTooLong}
+use Rattle.alphabet.specs.declared.answers.Refusal.the-variants.{None}
 use Rattle.alphabet.specs.declared.answers.Check.the-variants.{Passes}
 use Rattle.reading.specs.Reading.{reading}
 use Rattle.structure.specs.Shapes.{Shape, Yields, names}
@@ -17,6 +17,7 @@ use Rattle.structure.specs.SegmentNames.{segmentNames, kept}
 use Rattle.structure.specs.Structures.{listed, structureOf, grammarOf}
 use Rattle.structure.specs.Judged.{plain, Judged, accepted, refused, Structured, no-structure, by, Answers, unread, read}
 use Rattle.structure.specs.declared.judging.Judgement.{Judgement}
+use Rattle.alphabet.proofs.CheckLaws.{number-none}
 use Rattle.reading.proofs.Honest.{reading-fails}
 use Rattle.structure.proofs.OnlyOne.{only-one}
 use Rattle.rules.specs.Table.{rows}
@@ -24,38 +25,6 @@ use Rattle.fields.specs.Judging.{faultAnswer, judging}
 use Rattle.verdict.specs.Verdicts.{ofStructure, ofFields, Verdicts, Accepts}
 use Rattle.verdict.specs.Verdicts.Verdicts.{refused as by-structure, judged as by-fields}
 use Rattle.verdict.specs.declared.FaultRecord.{FaultRecord}
-
--- number 0 is that of no refusal
-pub number-none : (k : Refusal) → numberOf k ≡ 0 → k ≡ None
-number-none None e = refl
-number-none Length e = absurd (omega arith)
-number-none Header e = absurd (omega arith)
-number-none Delimiter e = absurd (omega arith)
-number-none NotAllowed e = absurd (omega arith)
-number-none NotEnded e = absurd (omega arith)
-number-none SegmentName e = absurd (omega arith)
-number-none SecondHeader e = absurd (omega arith)
-number-none TooManySegments e = absurd (omega arith)
-number-none NotAcknowledgeable e = absurd (omega arith)
-number-none AcknowledgementTooLong e = absurd (omega arith)
-number-none Separator e = absurd (omega arith)
-number-none UnknownEscape e = absurd (omega arith)
-number-none UnclosedEscape e = absurd (omega arith)
-number-none TextTooLong e = absurd (omega arith)
-number-none NullText e = absurd (omega arith)
-number-none CallersTime e = absurd (omega arith)
-number-none CallersId e = absurd (omega arith)
-number-none Address e = absurd (omega arith)
-number-none NoStructure e = absurd (omega arith)
-number-none SegmentMisplaced e = absurd (omega arith)
-number-none EndedEarly e = absurd (omega arith)
-number-none RequiredMissing e = absurd (omega arith)
-number-none BreaksForm e = absurd (omega arith)
-number-none NotListed e = absurd (omega arith)
-number-none RequiredNull e = absurd (omega arith)
-number-none ValueWithoutType e = absurd (omega arith)
-number-none Repeated e = absurd (omega arith)
-number-none ValueTooLong e = absurd (omega arith)
 
 -- no second verdict
 pub one-verdict : (m : List ℕ) {r t : FaultRecord} → Verdicts m r → Verdicts m t → r ≡ t

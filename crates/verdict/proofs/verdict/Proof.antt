@@ -4,7 +4,7 @@ use borrow.Author.Needs.{needs}
 use denote.Ref.{now}
 use Rattle.alphabet.specs.Answers.{numberOf}
 use Rattle.verdict.specs.Verdicts.{ofFields, Verdicts, refused, judged}
-use Rattle.verdict.proofs.VerdictLaws.{number-none}
+use Rattle.alphabet.proofs.CheckLaws.{number-none}
 use Rattle.verdict.proofs.verdict.Statement.{statement}
 use Rattle.verdict.proofs.verdict.Tie as tie
 

@@ -13,7 +13,7 @@ use Rattle.alphabet.specs.Delimiters.{wrongDelimiter}
 use Rattle.reading.specs.Segments.{delimitersOf}
 use Rattle.text.specs.Unescape.{fault}
 use Rattle.text.specs.Answers.{answer}
-use Rattle.verdict.proofs.VerdictLaws.{number-none}
+use Rattle.alphabet.proofs.CheckLaws.{number-none}
 use Rattle.acknowledgement.specs.Acknowledgement.{refusing, Acknowledges}
 use Rattle.acknowledgement.specs.Acknowledgement.Acknowledges.{not-written}
 use Rattle.acknowledgement.proofs.AnswerLaws.{meets}

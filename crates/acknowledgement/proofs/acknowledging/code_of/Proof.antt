@@ -1,7 +1,8 @@
 -- Rests on the verdict accepting exactly where reading, structure and fields all accept.
 use mathlib.Core.Path.{sym, ap, _∙_}
 use borrow.Author.Needs.{needs}
-use Rattle.verdict.proofs.VerdictLaws.{number-none, accepts-exactly}
+use Rattle.alphabet.proofs.CheckLaws.{number-none}
+use Rattle.verdict.proofs.VerdictLaws.{accepts-exactly}
 use Rattle.alphabet.specs.Answers.{numberOf}
 use Rattle.acknowledgement.specs.Acknowledgement.Coded.{accepted, refused}
 use Rattle.acknowledgement.proofs.acknowledging.code_of.Statement.{statement}
