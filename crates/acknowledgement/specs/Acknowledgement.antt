@@ -18,9 +18,8 @@ use Rattle.reading.specs.Segments.{delimitersOf, fieldSeparator}
 use Rattle.reading.specs.Reading.{opening}
 use Rattle.reading.specs.Message.{ended}
 use Rattle.element.specs.Finding.{rawBytes}
-use Rattle.element.specs.States.{stateOf}
+use Rattle.element.specs.States.{stateOf, isPresent}
 use Rattle.element.specs.declared.address.Address.{Address}
-use Rattle.value.specs.Asked.{isPresent}
 use Rattle.times.specs.Times.{isTs}
 use Rattle.text.specs.Escape.{escape}
 use Rattle.text.specs.Unescape.{Outcome, text, fault}

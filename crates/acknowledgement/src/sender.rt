@@ -2,7 +2,6 @@
 // acknowledged at all. Nothing behind the header is looked at.
 use alphabet::Check;
 use element::Address;
-use element::State;
 ghost use mathlib.Core.Path.{_≡_};
 ghost use Rattle.acknowledgement.specs.Acknowledgement.{header, sent, typePart, present, acknowledgeable};
 
@@ -51,13 +50,7 @@ pub fn is_present(header: &[u8], bytes: &[u8]) -> bool
     ensures { λ r. ⌜ r ≡ present (now (header .entry)) (now (bytes .entry)) ⌝ }
 {
     let delimiters = reading::delimiters_of(header);
-    let state = element::state_of(delimiters, bytes);
-    match state {
-        State::Absent => false,
-        State::Empty => false,
-        State::Null => false,
-        State::Present => true,
-    }
+    element::is_present(element::state_of(delimiters, bytes))
 }
 
 // Whether a message can be acknowledged: its header is there and sound, it is no acknowledgement itself, and its control ID is

@@ -16,6 +16,7 @@ ghost use lib.ListN.{length};
 ghost use Rattle.element.specs.Finding.{lookupCheck, elementOf, found, bytesAt, elementBytes, rawBytes};
 pub use address::Address;
 pub use states::State;
+pub use states::is_present;
 pub use states::state_of;
 
 // An element: its state, and the bytes of the message that it is, from `start` up to and without `end`.

@@ -1,7 +1,7 @@
 // The four states of an element.
 use alphabet::Delimiters;
 ghost use mathlib.Core.Path.{_≡_};
-ghost use Rattle.element.specs.States.{stateOf, isEmpty};
+ghost use Rattle.element.specs.States.{stateOf, isEmpty, isPresent};
 
 pub enum State {
     Absent,
@@ -41,4 +41,16 @@ pub fn state_of(delimiters: Delimiters, bytes: &[u8]) -> State
         return State::Empty;
     }
     State::Present
+}
+
+// Whether there is something to read: neither absent nor empty nor null.
+pub fn is_present(state: State) -> bool
+    ensures { λ r. ⌜ r ≡ isPresent state ⌝ }
+{
+    match state {
+        State::Absent => false,
+        State::Empty => false,
+        State::Null => false,
+        State::Present => true,
+    }
 }

@@ -36,10 +36,9 @@ use Rattle.text.specs.Escape.{escape}
 use Rattle.text.specs.Unescape.{text, fault}
 use Rattle.text.specs.Answers.{fitting, unescaping, answer, filled}
 use Rattle.laws.proofs.RoundTrip.{AreBytes, round-trip}
-use Rattle.element.specs.States.{stateOf}
+use Rattle.element.specs.States.{stateOf, isPresent}
 use Rattle.element.specs.declared.states.State.{State}
 use Rattle.element.specs.declared.states.State.the-variants.{Absent, Empty, Null, Present}
-use Rattle.value.specs.Asked.{isPresent}
 use Rattle.rules.specs.Table.{rows}
 use Rattle.laws.proofs.FaultNumbers.{none-sound}
 use Rattle.laws.proofs.ControlId.{control-id}

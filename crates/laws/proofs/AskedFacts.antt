@@ -8,7 +8,8 @@ use Rattle.element.specs.declared.states.State.{State}
 use Rattle.element.specs.declared.states.State.the-variants.{Absent, Empty, Null, Present}
 use Rattle.numbers.specs.declared.numerals.ReadNumber.{ReadNumber}
 use Rattle.times.specs.declared.moments.ReadTime.{ReadTime}
-use Rattle.value.specs.Asked.{isPresent, numberFrom, timeFrom}
+use Rattle.value.specs.Asked.{numberFrom, timeFrom}
+use Rattle.element.specs.States.{isPresent}
 use Rattle.value.specs.declared.asked.NumberFound.{NumberFound}
 use Rattle.value.specs.declared.asked.TimeFound.{TimeFound}
 use Rattle.value.proofs.AskedLaws.{number-present, number-other, time-present, time-other}

@@ -20,11 +20,10 @@ use Rattle.alphabet.specs.declared.parts.Part.the-variants.{At, Absent}
 use Rattle.reading.specs.Segments.{delimitersOf, segments, segmentAt}
 use Rattle.element.specs.Finding.{partBytes, rawBytes}
 use Rattle.element.specs.Levels.{fieldIn, between}
-use Rattle.element.specs.States.{stateOf}
+use Rattle.element.specs.States.{stateOf, isPresent}
 use Rattle.element.specs.declared.states.State.{State}
 use Rattle.element.specs.declared.states.State.the-variants.{Absent as no-part, Empty, Null, Present}
 use Rattle.laws.proofs.RawLaws.{raw-whole}
-use Rattle.value.specs.Asked.{isPresent}
 use Rattle.rules.specs.Table.{row, rows, noRow, R, no}
 use Rattle.rules.specs.Rules.{formCheck, judgedPart, placed, repetitionCheck, repetitionChecks, firstState, requiredCheck, repeatedCheck, saidCheck, rowCheck}
 use Rattle.fields.specs.Judging.{Fault, Sound, Faulty, repetitionsIn, repetitionsOf, located, orFault, firstFault, rowFault, segmentFault, segmentFaults, judging}

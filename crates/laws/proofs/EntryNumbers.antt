@@ -28,7 +28,8 @@ use Rattle.element.specs.declared.address.Address.{Address}
 use Rattle.numbers.specs.Numbers.{nmForm, nmDigits, mostDigits, nmCheck, nmValue, fraction, unsigned, nmRead, isSi, siRead, numberIf}
 use Rattle.calendar.specs.Calendar.{noTime}
 use Rattle.times.specs.Times.{isDt, isTs, isTime, dtTime, timeOf, dtRead, timeRead, timeIf}
-use Rattle.value.specs.Asked.{isPresent, numberFrom, timeFrom, nmFound, siFound, dtFound, tmFound, tsFound}
+use Rattle.value.specs.Asked.{numberFrom, timeFrom, nmFound, siFound, dtFound, tmFound, tsFound}
+use Rattle.element.specs.States.{isPresent}
 use Rattle.calendar.specs.declared.figures.Time.{Time}
 use Rattle.numbers.specs.declared.numerals.ReadNumber.{ReadNumber}
 use Rattle.times.specs.declared.moments.ReadTime.{ReadTime}

@@ -15,10 +15,9 @@ use Rattle.alphabet.specs.declared.answers.Check.the-variants.{Passes, Fails}
 use Rattle.alphabet.specs.declared.answers.Refusal.the-variants.{None, RequiredMissing, BreaksForm, NotListed, RequiredNull, ValueWithoutType, Repeated, ValueTooLong}
 use Rattle.alphabet.specs.declared.parts.Part.{Part}
 use Rattle.reading.specs.Segments.{delimitersOf, segments}
-use Rattle.element.specs.States.{stateOf}
+use Rattle.element.specs.States.{stateOf, isPresent}
 use Rattle.element.specs.declared.states.State.{State}
 use Rattle.element.specs.declared.states.State.the-variants.{Absent, Empty, Null, Present}
-use Rattle.value.specs.Asked.{isPresent}
 use Rattle.numbers.specs.Numbers.{nmCheck, nmForm, nmDigits, mostDigits, isSi}
 use Rattle.times.specs.Times.{isDt, isTm, isTs}
 use Rattle.rules.specs.Table.{valuesOf}

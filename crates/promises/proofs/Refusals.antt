@@ -22,7 +22,7 @@ use Rattle.reading.specs.Reading.{opening}
 use Rattle.reading.proofs.Accepted.{opening-if}
 use Rattle.element.specs.declared.states.State.{State}
 use Rattle.element.specs.declared.states.State.the-variants.{Absent, Empty, Null, Present}
-use Rattle.value.specs.Asked.{isPresent}
+use Rattle.element.specs.States.{isPresent}
 use Rattle.times.specs.Times.{isTs}
 use Rattle.text.specs.Unescape.{text, fault}
 use Rattle.text.specs.Answers.{answer}

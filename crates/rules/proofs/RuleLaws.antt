@@ -13,10 +13,9 @@ use Rattle.alphabet.specs.Parts.{split}
 use Rattle.alphabet.proofs.PartLaws.{split-some}
 use Rattle.alphabet.specs.declared.answers.Check.the-variants.{Passes}
 use Rattle.alphabet.specs.declared.answers.Refusal.the-variants.{ValueWithoutType}
-use Rattle.element.specs.States.{stateOf}
+use Rattle.element.specs.States.{stateOf, isPresent}
 use Rattle.element.specs.declared.states.State.{State}
 use Rattle.element.specs.declared.states.State.the-variants.{Absent, Empty, Null, Present}
-use Rattle.value.specs.Asked.{isPresent}
 use Rattle.rules.specs.Rules.{formCheck, judgedPart, partState, placed, repetitionCheck, firstState, requiredCheck, somePresent, isSaid, saidCheck, kindSaid, kindOf, portionOf}
 use Rattle.rules.specs.declared.table.Portion.{Portion}
 use Rattle.rules.specs.declared.table.Portion.the-variants.{Component}

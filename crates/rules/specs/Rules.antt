@@ -13,10 +13,9 @@ use Rattle.alphabet.specs.Parts.{split}
 use Rattle.alphabet.specs.declared.answers.Check.{Check}
 use Rattle.alphabet.specs.declared.answers.Check.the-variants.{Passes, Fails}
 use Rattle.alphabet.specs.declared.answers.Refusal.the-variants.{RequiredMissing, RequiredNull, BreaksForm, NotListed, ValueWithoutType, Repeated, ValueTooLong}
-use Rattle.element.specs.States.{stateOf}
+use Rattle.element.specs.States.{stateOf, isPresent}
 use Rattle.element.specs.declared.states.State.{State}
 use Rattle.element.specs.declared.states.State.the-variants.{Absent, Empty, Null, Present}
-use Rattle.value.specs.Asked.{isPresent}
 use Rattle.numbers.specs.Numbers.{nmCheck, isSi}
 use Rattle.times.specs.Times.{isDt, isTm, isTs}
 use Rattle.rules.specs.Table.{valuesOf}

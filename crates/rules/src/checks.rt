@@ -11,8 +11,7 @@ use element::State;
 ghost use mathlib.Core.Path.{_≡_};
 ghost use lib.ListN.{getD};
 ghost use Rattle.alphabet.specs.Parts.{split};
-ghost use Rattle.element.specs.States.{stateOf};
-ghost use Rattle.value.specs.Asked.{isPresent};
+ghost use Rattle.element.specs.States.{stateOf, isPresent};
 ghost use Rattle.rules.specs.Rules.{formCheck, openingCheck, judgedPart, repetitionCheck, requiredCheck, somePresent, isSaid, saidField, saidCheck, kindSaid, kindOf, portionOf};
 
 // The bytes of a part that is present, against a type.
@@ -51,13 +50,7 @@ fn judged_part(delimiters: Delimiters, portion: Portion, repetition: &[u8]) -> &
 fn is_present(delimiters: Delimiters, bytes: &[u8]) -> bool
     ensures { λ r. ⌜ r ≡ isPresent (stateOf (delimiters .bytes) (now (bytes .entry))) ⌝ }
 {
-    let state = element::state_of(delimiters, bytes);
-    match state {
-        State::Absent => false,
-        State::Empty => false,
-        State::Null => false,
-        State::Present => true,
-    }
+    element::is_present(element::state_of(delimiters, bytes))
 }
 
 // One repetition, of the given number, against a type: what is empty or null passes.

@@ -5,7 +5,8 @@ use lib.IntN.{ℤ, pos}
 use Rattle.element.specs.declared.Found.{Found}
 use Rattle.calendar.specs.Calendar.{noTime}
 use Rattle.calendar.specs.declared.figures.Time.{Time}
-use Rattle.value.specs.Asked.{isPresent, numberFrom, timeFrom}
+use Rattle.value.specs.Asked.{numberFrom, timeFrom}
+use Rattle.element.specs.States.{isPresent}
 use Rattle.numbers.specs.declared.numerals.ReadNumber.{ReadNumber}
 use Rattle.times.specs.declared.moments.ReadTime.{ReadTime}
 

@@ -7,8 +7,7 @@ use lib.IntN.{pos}
 use Rattle.element.specs.Finding.{found, elementBytes}
 use Rattle.element.specs.declared.Found.{Found}
 use Rattle.element.specs.declared.address.Address.{Address}
-use Rattle.element.specs.declared.states.State.{State}
-use Rattle.element.specs.declared.states.State.the-variants.{Absent, Empty, Null, Present}
+use Rattle.element.specs.States.{isPresent}
 use Rattle.numbers.specs.Numbers.{nmRead, siRead}
 use Rattle.calendar.specs.Calendar.{noTime}
 use Rattle.times.specs.Times.{dtRead, timeRead}
@@ -16,12 +15,6 @@ use Rattle.numbers.specs.declared.numerals.ReadNumber.{ReadNumber}
 use Rattle.times.specs.declared.moments.ReadTime.{ReadTime}
 use Rattle.value.specs.declared.asked.NumberFound.{NumberFound}
 use Rattle.value.specs.declared.asked.TimeFound.{TimeFound}
-
-abbrev pub isPresent : State → Bool
-isPresent Absent = false
-isPresent Empty = false
-isPresent Null = false
-isPresent Present = true
 
 -- of an element that is present what its bytes say, and of any other its state alone
 unfoldable pub numberFrom : Found → ReadNumber → NumberFound

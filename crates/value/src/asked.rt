@@ -8,7 +8,8 @@ use element::State;
 use numbers::ReadNumber;
 use times::ReadTime;
 ghost use mathlib.Core.Path.{_≡_};
-ghost use Rattle.value.specs.Asked.{isPresent, numberFrom, timeFrom, nmFound, siFound, dtFound, tmFound, tsFound};
+ghost use Rattle.value.specs.Asked.{numberFrom, timeFrom, nmFound, siFound, dtFound, tmFound, tsFound};
+ghost use Rattle.element.specs.States.{isPresent};
 
 // The answer: a refusal, or the element's state and, where it is present, its number.
 pub struct NumberFound {
@@ -25,24 +26,12 @@ pub struct TimeFound {
     pub time: Time,
 }
 
-// Whether there is something to read.
-fn is_present(state: State) -> bool
-    ensures { λ r. ⌜ r ≡ isPresent state ⌝ }
-{
-    match state {
-        State::Absent => false,
-        State::Empty => false,
-        State::Null => false,
-        State::Present => true,
-    }
-}
-
 fn number_from(found: Found, read: ReadNumber) -> NumberFound
     ensures { λ r. ⌜ r ≡ numberFrom found read ⌝ }
 {
     let element = found.element;
     let state = element.state;
-    if is_present(state) {
+    if element::is_present(state) {
         let kind = read.kind;
         let answer = Answer {
             kind: kind,
@@ -70,7 +59,7 @@ fn time_from(found: Found, read: ReadTime) -> TimeFound
 {
     let element = found.element;
     let state = element.state;
-    if is_present(state) {
+    if element::is_present(state) {
         let kind = read.kind;
         let time = read.time;
         let answer = Answer {
