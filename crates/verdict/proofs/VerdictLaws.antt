@@ -1,4 +1,4 @@
--- The verdict by the numbers of its kind, that no second verdict meets the contract, and that it accepts exactly where all judges do. Assumes nothing.
+-- That no second verdict meets the contract, and that it accepts exactly where all judges do. Assumes nothing.
 use mathlib.Core.Path.{_≡_, refl, sym, ap, _∙_, subst}
 use mathlib.Core.Logic.{_↔_}
 use mathlib.Core.Bool.{Bool, true, false, cond}
@@ -7,9 +7,7 @@ use Prim.Native.Nat.{ℕ}
 use native.Mathlib.Omega.{arith}
 use lib.Dec.{ltb}
 use lib.ListN.{length}
-use Rattle.alphabet.specs.Answers.{numberOf}
-use Rattle.alphabet.specs.declared.answers.Refusal.{Refusal}
-use Rattle.alphabet.specs.declared.answers.Refusal.the-variants.{None}
+use Rattle.alphabet.specs.declared.answers.Refusal.the-variants.{None, SegmentMisplaced, EndedEarly}
 use Rattle.alphabet.specs.declared.answers.Check.the-variants.{Passes}
 use Rattle.reading.specs.Reading.{reading}
 use Rattle.structure.specs.Shapes.{Shape, Yields, names}
@@ -17,7 +15,6 @@ use Rattle.structure.specs.SegmentNames.{segmentNames, kept}
 use Rattle.structure.specs.Structures.{listed, structureOf, grammarOf}
 use Rattle.structure.specs.Judged.{plain, Judged, accepted, refused, Structured, no-structure, by, Answers, unread, read}
 use Rattle.structure.specs.declared.judging.Judgement.{Judgement}
-use Rattle.alphabet.proofs.CheckLaws.{number-none}
 use Rattle.reading.proofs.Honest.{reading-fails}
 use Rattle.structure.proofs.OnlyOne.{only-one}
 use Rattle.rules.specs.Table.{rows}
