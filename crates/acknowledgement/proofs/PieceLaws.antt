@@ -14,7 +14,7 @@ use Rattle.alphabet.proofs.LimitLaws.{id-limit-small}
 use Rattle.alphabet.proofs.ListLaws.{drop-next}
 use Rattle.alphabet.proofs.HexLaws.{drop-two}
 use Rattle.alphabet.specs.Bytes.{carriageReturn, ascii}
-use Rattle.alphabet.specs.Delimiters.{wrongDelimiter}
+use Rattle.alphabet.specs.Delimiters.{firstWrongDelimiter}
 use Rattle.alphabet.specs.Limits.{messageLimit, idLimit}
 use Rattle.alphabet.specs.Parts.{join}
 use Rattle.alphabet.specs.declared.answers.Refusal.the-variants.{AcknowledgementTooLong}
@@ -95,7 +95,7 @@ unfolding roomy
 roomy-short room w h = rw (least-over room messageLimit (length w) h)
 
 -- the caller's ID, written as text, goes into a buffer of five times the longest
-pub id-fits : (ds id : List ℕ) (room : ℕ) → wrongDelimiter ds ≡ 5 → length id ≤ idLimit → room ≡ 1000 → (escaping ds id room ≡ text (escape ds id)) × (length (escape ds id) ≤ room)
+pub id-fits : (ds id : List ℕ) (room : ℕ) → firstWrongDelimiter ds ≡ 5 → length id ≤ idLimit → room ≡ 1000 → (escaping ds id room ≡ text (escape ds id)) × (length (escape ds id) ≤ room)
 id-fits ds id room d l e =
     let fits : length (escape ds id) ≤ room = omega (arith, escape-most ds id, id-limit-small) in
     (escaping-fits ds id (escape ds id) room (omega arith) refl fits, fits)

@@ -17,6 +17,7 @@ use Rattle.alphabet.specs.declared.answers.Refusal.the-variants.{None, NotAckno
 use Rattle.reading.specs.Segments.{delimitersOf, fieldSeparator}
 use Rattle.reading.specs.Reading.{opening}
 use Rattle.reading.specs.Message.{ended}
+use Rattle.element.specs.Addresses.{typeAddress}
 use Rattle.element.specs.Finding.{rawBytes}
 use Rattle.element.specs.States.{stateOf, isPresent}
 use Rattle.element.specs.declared.address.Address.{Address}
@@ -43,7 +44,7 @@ sent h f = rawBytes h (fieldAddress f)
 
 -- component k of "MSH-9, repetition 1"
 abbrev pub typePart : List ℕ → ℕ → List ℕ
-typePart h k = rawBytes h (record { segment = 0; field = 9; repetition = 1; component = k; subcomponent = 0 })
+typePart h k = rawBytes h (typeAddress k)
 
 abbrev pub present : List ℕ → List ℕ → Bool
 present h bytes = isPresent (stateOf (delimitersOf h) bytes)

@@ -9,7 +9,7 @@ use alphabet::Answer;
 use alphabet::Refusal;
 use text::Room;
 ghost use mathlib.Core.Path.{_≡_};
-ghost use Rattle.alphabet.specs.Delimiters.{wrongDelimiter};
+ghost use Rattle.alphabet.specs.Delimiters.{firstWrongDelimiter};
 ghost use Rattle.alphabet.specs.Limits.{idLimit};
 ghost use mathlib.Core.List.{map};
 ghost use Prim.Native.Nat.{_≤_};
@@ -234,7 +234,7 @@ pub fn write<'a>(
     buffer: &mut [u8],
 ) -> Answer
     requires { ⌜ 8 ≤ length (now header) ⌝ }
-    requires { ⌜ wrongDelimiter (delimitersOf (now header)) ≡ 5 ⌝ }
+    requires { ⌜ firstWrongDelimiter (delimitersOf (now header)) ≡ 5 ⌝ }
     requires { ⌜ length (now id) ≤ idLimit ⌝ }
     ensures { λ r. ⌜ r ≡ answer (roomy (length (now (buffer .entry))) (acknowledgement (now (header .entry)) (now (time .entry)) (now (id .entry)) code)) ⌝ }
     ensures { λ _. ⌜ now (buffer .exit) ≡ filled (roomy (length (now (buffer .entry))) (acknowledgement (now (header .entry)) (now (time .entry)) (now (id .entry)) code)) (now (buffer .entry)) ⌝ }

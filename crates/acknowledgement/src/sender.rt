@@ -35,14 +35,7 @@ pub fn field_of(header: &[u8], field: usize) -> &[u8]
 pub fn type_part(header: &[u8], component: usize) -> &[u8]
     ensures { λ r. ⌜ now r ≡ typePart (now (header .entry)) component ⌝ }
 {
-    let address = Address {
-        segment: 0,
-        field: 9,
-        repetition: 1,
-        component: component,
-        subcomponent: 0,
-    };
-    element::raw(header, address)
+    element::raw(header, element::type_address(component))
 }
 
 // Whether bytes taken from the header are present.

@@ -8,7 +8,7 @@ use lib.Dec.{ltb}
 use lib.ListN.{length, getD, drop}
 use borrow.Author.Tests.{not-false, lt-ltb, le-ltb, ltb-false}
 use Rattle.alphabet.specs.Lists.{first, find}
-use Rattle.alphabet.specs.Delimiters.{permitted, wrong, places, wrongDelimiter}
+use Rattle.alphabet.specs.Delimiters.{permitted, wrong, places, firstWrongDelimiter}
 use Rattle.alphabet.proofs.BoolLaws.{or-neither}
 use Rattle.alphabet.proofs.ListLaws.{first-here, first-past, first-end, first-before, first-le, find-own}
 
@@ -43,15 +43,15 @@ module _ (ds : List ℕ) (i : ℕ) (h : i < 5) where
 pub wrong-end : (ds : List ℕ) (i : ℕ) → 5 ≤ i → first (wrong ds) (drop i places) ≡ 0
 wrong-end ds i h = first-end (wrong ds) places i h
 
-pub wrong-most : (ds : List ℕ) → wrongDelimiter ds ≤ 5
-unfolding wrongDelimiter
+pub wrong-most : (ds : List ℕ) → firstWrongDelimiter ds ≤ 5
+unfolding firstWrongDelimiter
 wrong-most ds = first-le (wrong ds) places
 
 -- ---- five delimiters that pass are permitted and differ
 
-module _ (ds : List ℕ) (five : length ds ≡ 5) (passes : wrongDelimiter ds ≡ 5) (i : ℕ) (h : i < 5) where
+module _ (ds : List ℕ) (five : length ds ≡ 5) (passes : firstWrongDelimiter ds ≡ 5) (i : ℕ) (h : i < 5) where
   both : (permitted (getD ds i 0) ≡ true) × (i ≤ find (getD ds i 0) ds)
-  unfolding wrongDelimiter
+  unfolding firstWrongDelimiter
   both =
       let e = ap (wrong ds) (sym (place-own i h)) ∙ first-before (wrong ds) places i (omega arith) in
       let b = or-neither (not (permitted (getD ds i 0))) (ltb (find (getD ds i 0) ds) i) e in
@@ -68,6 +68,6 @@ module _ (ds : List ℕ) (five : length ds ≡ 5) (passes : wrongDelimiter ds �
       omega arith
 
 -- "the five differ"
-pub delimiters-differ : (ds : List ℕ) → length ds ≡ 5 → wrongDelimiter ds ≡ 5 → (i j : ℕ) → i < 5 → j < 5 → getD ds i 0 ≡ getD ds j 0 → i ≡ j
+pub delimiters-differ : (ds : List ℕ) → length ds ≡ 5 → firstWrongDelimiter ds ≡ 5 → (i j : ℕ) → i < 5 → j < 5 → getD ds i 0 ≡ getD ds j 0 → i ≡ j
 delimiters-differ ds five p i j h k e =
     sym (delimiter-own ds five p i h) ∙ ap (λ (b : ℕ). find b ds) e ∙ delimiter-own ds five p j k

@@ -24,8 +24,8 @@ printable b = fromTo 32 126 b || fromTo 160 255 b
 abbrev pub allowed : ℕ → Bool
 allowed b = eqb b carriageReturn || printable b
 
-abbrev pub forbidden : ℕ → Bool
-forbidden b = not (allowed b)
+abbrev pub notAllowed : ℕ → Bool
+notAllowed b = not (allowed b)
 
 -- "a capital", "digits": those of ASCII
 abbrev pub capital : ℕ → Bool

@@ -12,12 +12,12 @@ abbrev pub punctuation : ℕ → Bool
 punctuation b = fromTo 33 47 b || (fromTo 58 64 b || (fromTo 91 96 b || fromTo 123 126 b))
 
 -- "none of `"` `+` `-` `.`"
-abbrev pub kept : ℕ → Bool
-kept b = eqb b 34 || (eqb b 43 || (eqb b 45 || eqb b 46))
+abbrev pub neverDelimiter : ℕ → Bool
+neverDelimiter b = eqb b 34 || (eqb b 43 || (eqb b 45 || eqb b 46))
 
 -- "each is ASCII punctuation but none of `"` `+` `-` `.`"
 abbrev pub permitted : ℕ → Bool
-permitted b = punctuation b && not (kept b)
+permitted b = punctuation b && not (neverDelimiter b)
 
 -- "not permitted or equal to an earlier one": of the delimiter at place i
 abbrev pub wrong : List ℕ → ℕ → Bool
@@ -28,5 +28,5 @@ abbrev pub places : List ℕ
 places = 0 ∷ 1 ∷ 2 ∷ 3 ∷ 4 ∷ []
 
 -- number 3, "first delimiter byte not permitted or equal to an earlier one": its place, or 5 where all are right
-unfoldable pub wrongDelimiter : List ℕ → ℕ
-wrongDelimiter ds = first (wrong ds) places
+unfoldable pub firstWrongDelimiter : List ℕ → ℕ
+firstWrongDelimiter ds = first (wrong ds) places

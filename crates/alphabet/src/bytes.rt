@@ -4,7 +4,7 @@ ghost use mathlib.Core.Path.{_≡_};
 ghost use Prim.Native.Nat.{_%_, _≤_};
 ghost use lib.Dec.{leb};
 ghost use lib.ListN.{length, getD};
-ghost use Rattle.alphabet.specs.Bytes.{printable, allowed, forbidden, capital, digit, hexOf, hexDigit, isNull};
+ghost use Rattle.alphabet.specs.Bytes.{printable, allowed, notAllowed, capital, digit, hexOf, hexDigit, isNull};
 ghost use Rattle.alphabet.specs.Lists.{first, find, same};
 
 // CR, which ends every segment.
@@ -136,7 +136,7 @@ pub fn find_far(bytes: &[u8], b: u8) -> usize
 
 // Whether all bytes may stand in a message. As in `is_without`, nothing branches.
 fn is_all_allowed(bytes: &[u8]) -> bool
-    ensures { λ r. ⌜ r ≡ leb (length (now (bytes .entry))) (first forbidden (now (bytes .entry))) ⌝ }
+    ensures { λ r. ⌜ r ≡ leb (length (now (bytes .entry))) (first notAllowed (now (bytes .entry))) ⌝ }
 {
     let mut all = true;
     let mut i = 0;
@@ -149,7 +149,7 @@ fn is_all_allowed(bytes: &[u8]) -> bool
 
 // The place of the first byte that may not stand in a message, or the length where there is none, which is the usual case and told first.
 pub fn first_not_allowed(bytes: &[u8]) -> usize
-    ensures { λ r. ⌜ r ≡ first forbidden (now (bytes .entry)) ⌝ }
+    ensures { λ r. ⌜ r ≡ first notAllowed (now (bytes .entry)) ⌝ }
 {
     if is_all_allowed(bytes) {
         return bytes.len();

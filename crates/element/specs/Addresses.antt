@@ -1,4 +1,5 @@
 -- The address of an element, by document 01, 'Elements'.
+use Prim.Native.Nat.{ℕ}
 use mathlib.Core.Bool.{Bool, not, _&&_, _||_}
 use lib.Dec.{leb, eqb}
 use Rattle.alphabet.specs.Answers.{failsIf}
@@ -15,3 +16,7 @@ wellFormed a =
 -- 19: "bad address"
 abbrev pub addressCheck : Address → Check
 addressCheck a = failsIf (not (wellFormed a)) Refusal.Address 0
+
+-- "components 1 and 2 of MSH-9, repetition 1": where component k of a message's type stands
+abbrev pub typeAddress : ℕ → Address
+typeAddress k = record { segment = 0; field = 9; repetition = 1; component = k; subcomponent = 0 }

@@ -15,6 +15,7 @@ ghost use Prim.Native.Nat.{_≤_};
 ghost use lib.ListN.{length};
 ghost use Rattle.element.specs.Finding.{lookupCheck, elementOf, found, bytesAt, elementBytes, rawBytes};
 pub use address::Address;
+pub use address::type_address;
 pub use states::State;
 pub use states::is_present;
 pub use states::state_of;

@@ -18,12 +18,12 @@ use Rattle.alphabet.specs.declared.parts.Part.the-variants.{At, Absent}
 use Rattle.alphabet.proofs.BoolLaws.{false-true, and-both}
 use Rattle.alphabet.proofs.ListLaws.{piece-of-piece}
 use Rattle.alphabet.proofs.PartLaws.{split-nothing, part-bytes, past-none, none-past}
-use Rattle.reading.specs.Segments.{delimitersOf, fieldSeparator}
+use Rattle.reading.specs.Segments.{delimitersOf, fieldSeparator, name}
 use Rattle.element.specs.States.{stateOf}
 use Rattle.element.specs.declared.states.State.the-variants.{Absent, Empty}
 use Rattle.element.specs.Levels.{between, partIn, fieldIn}
 use Rattle.element.proofs.LevelLaws.{between-length, in-at, in-none, field-other, field-header}
-use Rattle.rules.specs.Table.{nameOf, rows, noRow}
+use Rattle.rules.specs.Table.{rows, noRow}
 use Rattle.rules.specs.Rules.{judgedPart, partState, repetitionCheck, repetitionChecks, requiredCheck, somePresent, isSaid, saidField, kindOf, portionOf, rowCheck}
 use Rattle.fields.specs.Judging.{repetitionsIn, repetitionsOf, saidIn}
 use Rattle.fields.specs.Walk.{partNumber, fieldBytes, saidBytes}
@@ -135,7 +135,7 @@ module _ (m : List ℕ) (st en : ℕ) (ordered : st ≤ en) (inside : en ≤ len
 -- ---- no row is of MSH-1, and no row of MSH has a type that is said
 
 unfoldable headed : Row → Bool
-headed row = not (eqb (row .segment) (nameOf (ascii "MSH"))) || (leb 2 (row .field) && not (isSaid (row .kind)))
+headed row = not (eqb (row .segment) (name "MSH")) || (leb 2 (row .field) && not (isSaid (row .kind)))
 
 unfoldable every : List Row → Bool
 every [] = true
@@ -155,12 +155,12 @@ or-second : (x y : Bool) → x ≡ false → (x || y) ≡ true → y ≡ true
 or-second false y e h = h
 or-second true y e h = false-true (sym e)
 
-header-fits : (row : Row) → row .segment ≡ nameOf (ascii "MSH") → headed row ≡ true → (row .field ≡ 1 → ⊥) × (isSaid (row .kind) ≡ false)
+header-fits : (row : Row) → row .segment ≡ name "MSH" → headed row ≡ true → (row .field ≡ 1 → ⊥) × (isSaid (row .kind) ≡ false)
 unfolding headed
 header-fits row e h =
-    let b = and-both (leb 2 (row .field)) (not (isSaid (row .kind))) (or-second _ _ (ap not (eq-eqb (row .segment) (nameOf (ascii "MSH")) e)) h) in
+    let b = and-both (leb 2 (row .field)) (not (isSaid (row .kind))) (or-second _ _ (ap not (eq-eqb (row .segment) (name "MSH") e)) h) in
     let l = leb-true 2 (row .field) (b .0) in
     ((λ q. omega arith), not-true (isSaid (row .kind)) (b .1))
 
-pub header-row : (i : ℕ) → i < length rows → getD rows i noRow .segment ≡ nameOf (ascii "MSH") → (getD rows i noRow .field ≡ 1 → ⊥) × (isSaid (getD rows i noRow .kind) ≡ false)
+pub header-row : (i : ℕ) → i < length rows → getD rows i noRow .segment ≡ name "MSH" → (getD rows i noRow .field ≡ 1 → ⊥) × (isSaid (getD rows i noRow .kind) ≡ false)
 header-row i h e = header-fits (getD rows i noRow) e (every-at rows i every-row h)

@@ -16,9 +16,9 @@ use Rattle.alphabet.specs.declared.answers.Check.{Check}
 use Rattle.alphabet.specs.declared.answers.Check.the-variants.{Passes, Fails}
 use Rattle.alphabet.specs.declared.answers.Refusal.{Refusal}
 use Rattle.alphabet.specs.declared.parts.Part.the-variants.{At}
-use Rattle.reading.specs.Segments.{allButLast, segments, delimitersOf}
+use Rattle.reading.specs.Segments.{allButLast, segments, delimitersOf, nameOf, name}
 use Rattle.reading.proofs.SegmentLaws.{segments-walk, segments-over}
-use Rattle.rules.specs.Table.{rows, noRow, nameOf}
+use Rattle.rules.specs.Table.{rows, noRow}
 use Rattle.rules.specs.Rules.{isSaid, rowCheck}
 use Rattle.fields.specs.Judging.{Fault, Sound, Faulty, nameAt, saidIn, repetitionsOf, located, orFault, firstFault, rowFault, segmentFault, segmentFaults, judging}
 use Rattle.fields.specs.Walk.{fieldBytes, saidBytes}
@@ -86,7 +86,7 @@ module _ (m : List ℕ) (number start : ℕ) (s : List ℕ) (index : ℕ) (h : i
 
     fits : row .segment ≡ nameAt number s → number ≡ 0 → (row .field ≡ 1 → ⊥) × (isSaid (row .kind) ≡ false)
     fits q z =
-        let r = header-row index h (ap (λ (r : Row). r .segment) (sym e) ∙ q ∙ ap (λ (t : Bool). cond t (nameOf (ascii "MSH")) (nameOf s)) (eq-eqb number 0 z)) in
+        let r = header-row index h (ap (λ (r : Row). r .segment) (sym e) ∙ q ∙ ap (λ (t : Bool). cond t (name "MSH") (nameOf s)) (eq-eqb number 0 z)) in
         ((λ w. r .0 (ap (λ (r : Row). r .field) (sym e) ∙ w)), ap (λ (r : Row). isSaid (r .kind)) e ∙ r .1)
 
     -- a row of this segment, by the segment's bytes

@@ -13,9 +13,8 @@ use Rattle.alphabet.specs.declared.answers.Refusal.{Refusal}
 use Rattle.alphabet.specs.declared.answers.Refusal.the-variants.{None}
 use Rattle.alphabet.specs.declared.parts.Part.{Part}
 use Rattle.alphabet.specs.declared.parts.Part.the-variants.{At, Absent}
-use Rattle.reading.specs.Segments.{delimitersOf, segments}
+use Rattle.reading.specs.Segments.{delimitersOf, segments, nameOf, name}
 use Rattle.element.specs.Levels.{between, fieldIn}
-use Rattle.rules.specs.Table.{nameOf}
 use Rattle.rules.specs.Rules.{isSaid, saidField, rowCheck}
 use Rattle.rules.specs.declared.table.Kind.{Kind}
 use Rattle.rules.specs.declared.table.Row.{Row}
@@ -37,7 +36,7 @@ saidIn m number part kind = cond (isSaid kind) (getD (repetitionsOf m number par
 
 -- the name of a segment: the first is MSH, as a message that was read has it
 abbrev pub nameAt : ℕ → List ℕ → ℕ
-nameAt number s = cond (eqb number 0) (nameOf (ascii "MSH")) (nameOf s)
+nameAt number s = cond (eqb number 0) (name "MSH") (nameOf s)
 
 -- ---- faults
 

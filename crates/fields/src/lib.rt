@@ -48,10 +48,7 @@ fn name_of(number: usize, segment: &[u8]) -> u32
     if number == 0 {
         return rules::MSH;
     }
-    let first = alphabet::byte_at(segment, 0) as u32;
-    let second = alphabet::byte_at(segment, 1) as u32;
-    let third = alphabet::byte_at(segment, 2) as u32;
-    first * 65536 + (second * 256 + third)
+    reading::name_of(segment)
 }
 
 // The first fault of the fields. Segments are taken as they were sent, rows as the table has them, repetitions in turn, and the

@@ -9,7 +9,7 @@ use lib.Dec.{ltb, eqb}
 use lib.ListN.{getD}
 use borrow.Author.Tests.{lt-ltb, ltb-true, eqb-true}
 use Rattle.alphabet.specs.Bytes.{hexOf}
-use Rattle.alphabet.specs.Delimiters.{wrongDelimiter}
+use Rattle.alphabet.specs.Delimiters.{firstWrongDelimiter}
 use Rattle.alphabet.specs.Hex.{allHex, pairsOf}
 use Rattle.alphabet.specs.Lists.{first, find}
 use Rattle.alphabet.proofs.BoolLaws.{and-both, both-and, false-true}
@@ -45,7 +45,7 @@ module _ (field component repetition escape subcomponent : ℕ) where
   row-at (suc (suc (suc (suc (suc i))))) l h e = absurd (omega arith)
 
   -- each delimiter is written by its own row
-  pub row-written : wrongDelimiter ds ≡ 5 → {l b : ℕ} → Letter field component repetition escape subcomponent l b → escapeByte ds b ≡ escape ∷ l ∷ escape ∷ []
+  pub row-written : firstWrongDelimiter ds ≡ 5 → {l b : ℕ} → Letter field component repetition escape subcomponent l b → escapeByte ds b ≡ escape ∷ l ∷ escape ∷ []
   row-written fine F = written-letter ds field 0 (sym (delimiter-own ds refl fine 0 (omega arith))) (omega arith)
   row-written fine S = written-letter ds component 1 (sym (delimiter-own ds refl fine 1 (omega arith))) (omega arith)
   row-written fine R = written-letter ds repetition 2 (sym (delimiter-own ds refl fine 2 (omega arith))) (omega arith)

@@ -10,8 +10,8 @@ use lib.Dec.{leb, ltb, eqb}
 use lib.ListN.{length, getD, take, length-append}
 use borrow.Author.Tests.{leb-true, leb-false, ltb-true, ltb-false, eqb-true, eqb-false, not-true, not-false, le-leb, lt-ltb, eq-eqb, ne-eqb}
 use Rattle.alphabet.specs.Answers.{failsIf, orElse, inOrder}
-use Rattle.alphabet.specs.Bytes.{carriageReturn, allowed, forbidden}
-use Rattle.alphabet.specs.Delimiters.{permitted, wrong, places, wrongDelimiter}
+use Rattle.alphabet.specs.Bytes.{carriageReturn, allowed, notAllowed}
+use Rattle.alphabet.specs.Delimiters.{permitted, wrong, places, firstWrongDelimiter}
 use Rattle.alphabet.specs.Limits.{messageLimit, segmentLimit}
 use Rattle.alphabet.specs.Lists.{first, find}
 use Rattle.alphabet.specs.declared.answers.Check.{Check}
@@ -137,14 +137,14 @@ at-wrong m i h e w = at w
         let n = ltb-false (find (getD (delimitersOf m) i 0) (delimitersOf m)) i (b .1) in
         omega arith
 
-wrong-here : (m : List ℕ) → wrongDelimiter (delimitersOf m) < 5 → Wrong m (3 + wrongDelimiter (delimitersOf m))
-unfolding wrongDelimiter
+wrong-here : (m : List ℕ) → firstWrongDelimiter (delimitersOf m) < 5 → Wrong m (3 + firstWrongDelimiter (delimitersOf m))
+unfolding firstWrongDelimiter
 wrong-here m h =
     let i = first (wrong (delimitersOf m)) places in
     wrong-at m i h (ap (wrong (delimitersOf m)) (sym (place-own i h)) ∙ first-passes (wrong (delimitersOf m)) places h)
 
-right-before : (m : List ℕ) (q : ℕ) → 3 ≤ q → q < 3 + wrongDelimiter (delimitersOf m) → q < 8 → Wrong m q → ⊥
-unfolding wrongDelimiter
+right-before : (m : List ℕ) (q : ℕ) → 3 ≤ q → q < 3 + firstWrongDelimiter (delimitersOf m) → q < 8 → Wrong m q → ⊥
+unfolding firstWrongDelimiter
 right-before m q l h k w =
     let i = q - 3 in
     let j : q ≡ 3 + (q - 3) = omega arith in
@@ -255,11 +255,11 @@ first-failing m (s ∷ ss) k at kind place e = by (either (segmentCheck (fieldSe
 -- ---- the reader's refusal
 
 module _ (m : List ℕ) (kind : Refusal) (place : ℕ) where
-  sound-bytes : ltb (first forbidden m) (length m) ≡ false → (q : ℕ) → q < length m → allowed (getD m q 0) ≡ true
-  sound-bytes e q h = let n = ltb-false (first forbidden m) (length m) e in not-false _ (first-before forbidden m q (omega arith))
+  sound-bytes : ltb (first notAllowed m) (length m) ≡ false → (q : ℕ) → q < length m → allowed (getD m q 0) ≡ true
+  sound-bytes e q h = let n = ltb-false (first notAllowed m) (length m) e in not-false _ (first-before notAllowed m q (omega arith))
 
-  sound-delimiters : ltb (wrongDelimiter (delimitersOf m)) 5 ≡ false → (q : ℕ) → 3 ≤ q → q < 8 → Wrong m q → ⊥
-  sound-delimiters e q l h = let n = ltb-false (wrongDelimiter (delimitersOf m)) 5 e in right-before m q l (omega arith) h
+  sound-delimiters : ltb (firstWrongDelimiter (delimitersOf m)) 5 ≡ false → (q : ℕ) → 3 ≤ q → q < 8 → Wrong m q → ⊥
+  sound-delimiters e q l h = let n = ltb-false (firstWrongDelimiter (delimitersOf m)) 5 e in right-before m q l (omega arith) h
 
   -- what an opening that passes says
   pub record Sound : Type 0 where
@@ -278,8 +278,8 @@ module _ (m : List ℕ) (kind : Refusal) (place : ℕ) where
       record {
         sized = is-sized m (passes-not _ Length 0 (a .0));
         header = headed-is m (not-false (headed m) (passes-not _ Header 0 (b .0)));
-        delimiters = sound-delimiters (passes-not _ Delimiter (3 + wrongDelimiter (delimitersOf m)) (c .0));
-        bytes = sound-bytes (passes-not _ NotAllowed (first forbidden m) (d .0));
+        delimiters = sound-delimiters (passes-not _ Delimiter (3 + firstWrongDelimiter (delimitersOf m)) (c .0));
+        bytes = sound-bytes (passes-not _ NotAllowed (first notAllowed m) (d .0));
       }
 
   in-opening : opening m ≡ Fails kind place → Faulty m kind place
@@ -289,19 +289,19 @@ module _ (m : List ℕ) (kind : Refusal) (place : ℕ) where
       is : {k : Refusal} {p : ℕ} → k ≡ kind → p ≡ place → Faulty m k p → Faulty m kind place
       is {k} {p} q r f = subst (λ (x : Refusal). Faulty m x place) q (subst (λ (x : ℕ). Faulty m k x) r f)
 
-      four : Sized m → Headed m → (ltb (wrongDelimiter (delimitersOf m)) 5 ≡ false) → (byteCheck m ≡ Fails kind place) ⊎ ((byteCheck m ≡ Passes) × (Passes ≡ Fails kind place)) → Faulty m kind place
+      four : Sized m → Headed m → (ltb (firstWrongDelimiter (delimitersOf m)) 5 ≡ false) → (byteCheck m ≡ Fails kind place) ⊎ ((byteCheck m ≡ Passes) × (Passes ≡ Fails kind place)) → Faulty m kind place
       four s h g (inl f) =
-          let d = failed (ltb (first forbidden m) (length m)) NotAllowed kind (first forbidden m) place f in
-          let l = ltb-true (first forbidden m) (length m) (d .0) in
-          is (d .1) (d .2) (Faulty.byte s h (sound-delimiters g) (first forbidden m) l (not-true _ (first-passes forbidden m l)) (λ q k. not-false _ (first-before forbidden m q k)))
+          let d = failed (ltb (first notAllowed m) (length m)) NotAllowed kind (first notAllowed m) place f in
+          let l = ltb-true (first notAllowed m) (length m) (d .0) in
+          is (d .1) (d .2) (Faulty.byte s h (sound-delimiters g) (first notAllowed m) l (not-true _ (first-passes notAllowed m l)) (λ q k. not-false _ (first-before notAllowed m q k)))
       four s h g (inr f) = absurd (none-fails kind place (f .1))
 
       three : Sized m → Headed m → (delimiterCheck m ≡ Fails kind place) ⊎ ((delimiterCheck m ≡ Passes) × (inOrder (byteCheck m ∷ []) ≡ Fails kind place)) → Faulty m kind place
       three s h (inl f) =
-          let d = failed (ltb (wrongDelimiter (delimitersOf m)) 5) Delimiter kind (3 + wrongDelimiter (delimitersOf m)) place f in
-          let l = ltb-true (wrongDelimiter (delimitersOf m)) 5 (d .0) in
-          is (d .1) (d .2) (Faulty.delimiter s h (3 + wrongDelimiter (delimitersOf m)) (omega arith) (omega arith) (wrong-here m l) (λ q k j. right-before m q k j (omega arith)))
-      three s h (inr f) = four s h (passes-not _ Delimiter (3 + wrongDelimiter (delimitersOf m)) (f .0)) (either (byteCheck m) Passes kind place (f .1))
+          let d = failed (ltb (firstWrongDelimiter (delimitersOf m)) 5) Delimiter kind (3 + firstWrongDelimiter (delimitersOf m)) place f in
+          let l = ltb-true (firstWrongDelimiter (delimitersOf m)) 5 (d .0) in
+          is (d .1) (d .2) (Faulty.delimiter s h (3 + firstWrongDelimiter (delimitersOf m)) (omega arith) (omega arith) (wrong-here m l) (λ q k j. right-before m q k j (omega arith)))
+      three s h (inr f) = four s h (passes-not _ Delimiter (3 + firstWrongDelimiter (delimitersOf m)) (f .0)) (either (byteCheck m) Passes kind place (f .1))
 
       two : Sized m → (headerCheck m ≡ Fails kind place) ⊎ ((headerCheck m ≡ Passes) × (inOrder (delimiterCheck m ∷ byteCheck m ∷ []) ≡ Fails kind place)) → Faulty m kind place
       two s (inl f) =
@@ -385,11 +385,11 @@ module _ (m : List ℕ) where
   headed-passes h = passes-if (ap not (is-headed m h)) Header 0
 
   right-passes : ((q : ℕ) → 3 ≤ q → q < 8 → Wrong m q → ⊥) → delimiterCheck m ≡ Passes
-  right-passes n = passes-if (is-false _ (λ e. let l = ltb-true (wrongDelimiter (delimitersOf m)) 5 e in n _ (omega arith) (omega arith) (wrong-here m l))) Delimiter _
+  right-passes n = passes-if (is-false _ (λ e. let l = ltb-true (firstWrongDelimiter (delimitersOf m)) 5 e in n _ (omega arith) (omega arith) (wrong-here m l))) Delimiter _
 
   clean-passes : ((q : ℕ) → q < length m → allowed (getD m q 0) ≡ true) → byteCheck m ≡ Passes
   clean-passes n =
-      passes-if (is-false _ (λ e. let l = ltb-true (first forbidden m) (length m) e in false-true (sym (not-true _ (first-passes forbidden m l)) ∙ n _ l))) NotAllowed _
+      passes-if (is-false _ (λ e. let l = ltb-true (first notAllowed m) (length m) e in false-true (sym (not-true _ (first-passes notAllowed m l)) ∙ n _ l))) NotAllowed _
 
   opened : Sized m → Headed m → ((q : ℕ) → 3 ≤ q → q < 8 → Wrong m q → ⊥) → ((q : ℕ) → q < length m → allowed (getD m q 0) ≡ true) → opening m ≡ Passes
   unfolding opening
@@ -422,12 +422,12 @@ module _ (m : List ℕ) where
   faulty-so (Faulty.header s n) = rw (sized-passes s, fails-if (ap not (is-false (headed m) (λ e. n (headed-is m e)))) Header 0)
   faulty-so (Faulty.delimiter s h p l k w n) =
       let most = wrong-most (delimitersOf m) in
-      let same : 3 + wrongDelimiter (delimitersOf m) ≡ p = same-place (3 + wrongDelimiter (delimitersOf m)) p (λ q. n _ (omega arith) q (wrong-here m (omega arith))) (λ q. right-before m p l q k w) in
-      let d = fails-if (lt-ltb (wrongDelimiter (delimitersOf m)) 5 (omega arith)) Delimiter (3 + wrongDelimiter (delimitersOf m)) in
+      let same : 3 + firstWrongDelimiter (delimitersOf m) ≡ p = same-place (3 + firstWrongDelimiter (delimitersOf m)) p (λ q. n _ (omega arith) q (wrong-here m (omega arith))) (λ q. right-before m p l q k w) in
+      let d = fails-if (lt-ltb (firstWrongDelimiter (delimitersOf m)) 5 (omega arith)) Delimiter (3 + firstWrongDelimiter (delimitersOf m)) in
       rw (sized-passes s, headed-passes h, d, same)
   faulty-so (Faulty.byte s h d p l f n) =
-      let same : first forbidden m ≡ p = same-place (first forbidden m) p (λ q. false-true (sym (not-true _ (first-passes forbidden m (omega arith))) ∙ n _ q)) (λ q. false-true (sym f ∙ not-false _ (first-before forbidden m p q))) in
-      let b = fails-if (lt-ltb (first forbidden m) (length m) (omega arith)) NotAllowed (first forbidden m) in
+      let same : first notAllowed m ≡ p = same-place (first notAllowed m) p (λ q. false-true (sym (not-true _ (first-passes notAllowed m (omega arith))) ∙ n _ q)) (λ q. false-true (sym f ∙ not-false _ (first-before notAllowed m p q))) in
+      let b = fails-if (lt-ltb (first notAllowed m) (length m) (omega arith)) NotAllowed (first notAllowed m) in
       rw (sized-passes s, headed-passes h, right-passes d, b, same)
   faulty-so (Faulty.unended s h d b n) =
       let e = fails-if (ap not (ne-eqb (getD m (length m - 1) 0) carriageReturn n)) NotEnded (length m - 1) in

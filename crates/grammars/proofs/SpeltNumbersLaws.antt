@@ -19,11 +19,11 @@ use Rattle.alphabet.proofs.BoolLaws.{and-both, both-and, from-to, or-neither, f
 use Rattle.alphabet.proofs.DigitLaws.{digits-append}
 use Rattle.alphabet.proofs.ListLaws.{find-is, first-le, drop-next}
 use Rattle.numbers.specs.Numbers.{someDigits, isSign, isNegative, unsigned, nmForm, nmDigits, nmCheck, signed, nmValue, numberIf, nmRead, isSi, siRead, hasPoint, mostDigits}
-use Rattle.numbers.specs.Numbers.{whole as wholeOf, fraction as fractionOf}
+use Rattle.numbers.specs.Numbers.{beforePoint as wholeOf, fraction as fractionOf}
 use Rattle.numbers.specs.declared.numerals.ReadNumber.{ReadNumber}
 use Rattle.numbers.proofs.NumberLaws.{unsigned-drop, unsigned-same, si-read, si-refused}
 use Rattle.grammars.specs.Spelt.{Says}
-use Rattle.grammars.specs.SpeltNumbers.{Unsigned, whole, pointed, Nm, bare, plus, minus, NmSays, Si, few, SiSays}
+use Rattle.grammars.specs.SpeltNumbers.{Unsigned, unpointed, pointed, Nm, bare, plus, minus, NmSays, Si, few, SiSays}
 use Rattle.grammars.proofs.SpeltLaws.{says-decimal, decimal-says, append-none}
 
 -- ---- a byte that is no digit, among digits
@@ -97,7 +97,7 @@ pub record Read (u : List ℕ) (n decimals digits : ℕ) : Type 0 where
   pub unsigned-so : isSign (getD u 0 0) ≡ false
 
 unsigned-read : {u : List ℕ} {n decimals digits : ℕ} → Unsigned u n decimals digits → Read u n decimals digits
-unsigned-read {u} (whole s) =
+unsigned-read {u} (unpointed s) =
     let d = says-decimal s in
     let many = d .1 in
     let a = apart-whole u (d .0) in
@@ -149,7 +149,7 @@ read-unsigned u b c = at (hasPoint u) refl c
         let n = ap length w in
         let l = before .0 in
         let j : suc (length u - 1) ≡ length u = omega arith in
-        let s = whole (said u (omega arith) (sym (ap allDigits w) ∙ before .1)) in
+        let s = unpointed (said u (omega arith) (sym (ap allDigits w) ∙ before .1)) in
         subst (λ (x : List ℕ). Unsigned u (decimal x) (length (fractionOf u)) (length x)) (sym both)
         (subst (λ (x : List ℕ). Unsigned u (decimal u) (length x) (length u)) (sym f) (subst (λ (x : ℕ). Unsigned u (decimal u) 0 x) j s))
     at true p c =

@@ -8,7 +8,7 @@ use lib.Dec.{ltb, eqb}
 use lib.ListN.{getD}
 use borrow.Author.Tests.{ltb-true, ltb-false, eqb-true, ne-eqb}
 use Rattle.alphabet.specs.Bytes.{carriageReturn, printable, hexDigit, isNull}
-use Rattle.alphabet.specs.Delimiters.{wrongDelimiter}
+use Rattle.alphabet.specs.Delimiters.{firstWrongDelimiter}
 use Rattle.alphabet.specs.Lists.{find}
 use Rattle.alphabet.proofs.BoolLaws.{false-true, or-neither, neither-or}
 use Rattle.alphabet.proofs.ListLaws.{find-is, find-own}
@@ -44,7 +44,7 @@ own-hex escape b h =
     let y = hex-written (b % 16) (omega arith) in
     λ i. escape ∷ 88 ∷ x i ∷ y i ∷ escape ∷ []
 
-module _ (field component repetition escape subcomponent : ℕ) (fine : wrongDelimiter (field ∷ component ∷ repetition ∷ escape ∷ subcomponent ∷ []) ≡ 5) where
+module _ (field component repetition escape subcomponent : ℕ) (fine : firstWrongDelimiter (field ∷ component ∷ repetition ∷ escape ∷ subcomponent ∷ []) ≡ 5) where
   abbrev ds : List ℕ
   ds = field ∷ component ∷ repetition ∷ escape ∷ subcomponent ∷ []
 

@@ -10,10 +10,10 @@ use Rattle.grammars.specs.Spelt.{Says}
 -- "digits, optionally a point and digits; a digit on each side of a point": `Unsigned l n decimals digits`. Both sides together say the number, and those
 -- behind the point are the decimals. The point is byte 46
 pub data Unsigned : List ℕ → ℕ → ℕ → ℕ → Type 0 where
-  whole : {k n : ℕ} {l : List ℕ} → Says (suc k) l n → Unsigned l n 0 (suc k)
+  unpointed : {k n : ℕ} {l : List ℕ} → Says (suc k) l n → Unsigned l n 0 (suc k)
   pointed : {j k a b n : ℕ} {w f : List ℕ} → Says (suc j) w a → Says (suc k) f b → Says (suc j + suc k) (w ++ f) n → Unsigned (w ++ (46 ∷ f)) n (suc k) (suc j + suc k)
 
--- "NM: optional sign": `+` is byte 43, `-` is 45. "The result is a signed whole number and a count of decimals."
+-- "NM: optional sign": `+` is byte 43, `-` is 45. "The result is a signed unpointed number and a count of decimals."
 pub data Nm : List ℕ → ℤ → ℕ → ℕ → Type 0 where
   bare : {n decimals digits : ℕ} {l : List ℕ} → Unsigned l n decimals digits → Nm l (pos n) decimals digits
   plus : {n decimals digits : ℕ} {l : List ℕ} → Unsigned l n decimals digits → Nm (43 ∷ l) (pos n) decimals digits

@@ -12,7 +12,7 @@ use lib.ListN.{length, getD, take, drop, length-append, length-drop}
 use lib.Seq.{getD-take, take-take, length-take-le}
 use borrow.Author.Tests.{lt-ltb, le-leb, leb-true}
 use Rattle.alphabet.specs.Bytes.{carriageReturn, allowed, ascii}
-use Rattle.alphabet.specs.Delimiters.{wrongDelimiter}
+use Rattle.alphabet.specs.Delimiters.{firstWrongDelimiter}
 use Rattle.alphabet.proofs.BoolLaws.{and-both, false-true}
 use Rattle.alphabet.proofs.ListLaws.{same-is}
 use Rattle.alphabet.specs.Limits.{messageLimit, idLimit}
@@ -21,7 +21,7 @@ use Rattle.alphabet.specs.Parts.{split}
 use Rattle.alphabet.specs.declared.answers.Answer.{Answer}
 use Rattle.alphabet.specs.declared.answers.Check.the-variants.{Passes}
 use Rattle.alphabet.specs.declared.answers.Refusal.the-variants.{None, NotAcknowledgeable, AcknowledgementTooLong}
-use Rattle.reading.specs.Segments.{segments, delimitersOf, fieldSeparator}
+use Rattle.reading.specs.Segments.{segments, delimitersOf, fieldSeparator, name}
 use Rattle.reading.specs.Reading.{reading, opening}
 use Rattle.reading.specs.Message.{Opened, Message}
 use Rattle.reading.proofs.Accepted.{opening-if}
@@ -42,7 +42,7 @@ use Rattle.element.specs.declared.states.State.the-variants.{Absent, Empty, Nul
 use Rattle.rules.specs.Table.{rows}
 use Rattle.laws.proofs.FaultNumbers.{none-sound}
 use Rattle.laws.proofs.ControlId.{control-id}
-use Rattle.structure.specs.SegmentNames.{name, segmentNames}
+use Rattle.structure.specs.SegmentNames.{segmentNames}
 use Rattle.structure.specs.Structures.{ack, structureOf}
 use Rattle.structure.specs.Judged.{plain, Judged, Answers}
 use Rattle.structure.specs.declared.structures.Structure.the-variants.{Acknowledgement}
@@ -335,7 +335,7 @@ module _ (m : List ℕ) (accepts : Accepts m) where
         header = (λ i. eqb (near 0 (omega arith) i) 77 && (eqb (near 1 (omega arith) i) 83 && eqb (near 2 (omega arith) i) 72)) ∙ o .header;
         byte-eight = (λ i. eqb (near 8 (omega arith) i) (near 3 (omega arith) i) || eqb (near 8 (omega arith) i) carriageReturn) ∙ o .byte-eight;
         delimiters-right =
-            (λ i. wrongDelimiter (near 3 (omega arith) i ∷ near 4 (omega arith) i ∷ near 5 (omega arith) i ∷ near 6 (omega arith) i ∷ near 7 (omega arith) i ∷ [])) ∙ o .delimiters-right;
+            (λ i. firstWrongDelimiter (near 3 (omega arith) i ∷ near 4 (omega arith) i ∷ near 5 (omega arith) i ∷ near 6 (omega arith) i ∷ near 7 (omega arith) i ∷ [])) ∙ o .delimiters-right;
         all-allowed = λ i l. ap allowed (own-byte i l) ∙ o .all-allowed i (omega arith);
       }
 

@@ -23,7 +23,7 @@ use Rattle.reading.specs.Message.{Message}
 use Rattle.reading.specs.Reading.{reading}
 use Rattle.reading.proofs.Accepted.{accepted}
 use Rattle.reading.proofs.SegmentLaws.{segment-bytes}
-use Rattle.reading.specs.Segments.{delimitersOf, segments, segmentAt}
+use Rattle.reading.specs.Segments.{delimitersOf, segments, segmentAt, nameOf, name}
 use Rattle.element.specs.Levels.{between, Within, partIn, fieldIn, fixed, below, repetitionAt, componentAt, elementAt}
 use Rattle.element.specs.Finding.{partBytes, found, elementBytes}
 use Rattle.element.proofs.LevelLaws.{in-absent, below-whole, below-split, within-field, within-in, within-segment}
@@ -35,7 +35,7 @@ use Rattle.laws.proofs.RawLaws.{part-in-bytes}
 use Rattle.laws.proofs.LevelBytes.{split-further}
 use Rattle.laws.proofs.Asking.{answered-exactly}
 use Rattle.laws.proofs.FoundLaws.{shown-is, absent-nowhere}
-use Rattle.rules.specs.Table.{nameOf, rows, noRow}
+use Rattle.rules.specs.Table.{rows, noRow}
 use Rattle.rules.specs.Rules.{judgedPart, isSaid, saidField, rowCheck}
 use Rattle.fields.specs.Judging.{Fault, Sound, nameAt, repetitionsIn, repetitionsOf, saidIn, located, firstFault, rowFault, segmentFaults, judging}
 use Rattle.rules.specs.declared.table.Row.{Row}
@@ -150,7 +150,7 @@ unfoldable fits : Row → Bool
 fits row =
     leb 1 (row .field)
     && ((not (isSaid (row .kind)) || leb 1 (saidField (row .kind)))
-    && (not (eqb (row .segment) (nameOf (ascii "MSH"))) || (leb 3 (row .field) && not (isSaid (row .kind)))))
+    && (not (eqb (row .segment) (name "MSH")) || (leb 3 (row .field) && not (isSaid (row .kind)))))
 
 unfoldable every : List Row → Bool
 every [] = true
@@ -173,7 +173,7 @@ or-second true y e h = false-true (sym e)
 record Fits (row : Row) : Type 0 where
   pub of-field : 1 ≤ row .field
   pub said-field : isSaid (row .kind) ≡ true → 1 ≤ saidField (row .kind)
-  pub header : row .segment ≡ nameOf (ascii "MSH") → (3 ≤ row .field) × (isSaid (row .kind) ≡ false)
+  pub header : row .segment ≡ name "MSH" → (3 ≤ row .field) × (isSaid (row .kind) ≡ false)
 
 row-fits : (i : ℕ) → i < length rows → Fits (getD rows i noRow)
 unfolding fits
@@ -187,7 +187,7 @@ row-fits i h = at (getD rows i noRow) (every-at rows i every-row h)
           of-field = leb-true 1 (row .field) (a .0);
           said-field = λ q. leb-true 1 (saidField (row .kind)) (or-second (not (isSaid (row .kind))) _ (ap not q) (b .0));
           header = λ q. (
-              let c = and-both (leb 3 (row .field)) (not (isSaid (row .kind))) (or-second _ _ (ap not (eq-eqb (row .segment) (nameOf (ascii "MSH")) q)) (b .1)) in
+              let c = and-both (leb 3 (row .field)) (not (isSaid (row .kind))) (or-second _ _ (ap not (eq-eqb (row .segment) (name "MSH") q)) (b .1)) in
               (leb-true 3 (row .field) (c .0), not-true (isSaid (row .kind)) (c .1))
               );
         }
@@ -203,7 +203,8 @@ module _ (m : List ℕ) (g : Message m) where
       ap (λ (x : List ℕ). getD x i 0) (sym (segment-bytes m 0 0 (find carriageReturn m) (f .0) .3)) ∙ getD-take (find carriageReturn m - 0) (drop 0 m) i 0 (omega arith)
       ∙ eqb-true (getD m i 0) b e
 
-  header-name : nameOf (ascii "MSH") ≡ nameOf (getD (segments m) 0 [])
+  header-name : name "MSH" ≡ nameOf (getD (segments m) 0 [])
+  unfolding nameOf
   header-name =
       let h = and-both (eqb (getD m 0 0) 77) (eqb (getD m 1 0) 83 && eqb (getD m 2 0) 72) (g .opened .header) in
       let k = and-both (eqb (getD m 1 0) 83) (eqb (getD m 2 0) 72) (h .1) in
@@ -232,7 +233,7 @@ module _ (m : List ℕ) (done : reading m ≡ Passes) (k : ℕ) (there : k < len
 
   module _ (row : Row) (fit : Fits row) (named : row .segment ≡ nameAt k bytes) where
     header-row : k ≡ 0 → (3 ≤ row .field) × (isSaid (row .kind) ≡ false)
-    header-row z = fit .header (named ∙ ap (λ (t : Bool). cond t (nameOf (ascii "MSH")) (nameOf bytes)) (eq-eqb k 0 z))
+    header-row z = fit .header (named ∙ ap (λ (t : Bool). cond t (name "MSH") (nameOf bytes)) (eq-eqb k 0 z))
 
     free-field : fixed k (row .field) ≡ false
     free-field = split-further (address k (row .field) 0 0 0) (λ z. header-row z .0)
@@ -257,7 +258,7 @@ module _ (m : List ℕ) (done : reading m ≡ Passes) (k : ℕ) (there : k < len
   own-name : nameAt k bytes ≡ nameOf bytes
   own-name = at (eqb k 0) refl
     where
-      at : (t : Bool) → eqb k 0 ≡ t → cond t (nameOf (ascii "MSH")) (nameOf bytes) ≡ nameOf bytes
+      at : (t : Bool) → eqb k 0 ≡ t → cond t (name "MSH") (nameOf bytes) ≡ nameOf bytes
       at true e = header-name m (accepted m done) ∙ ap (λ (n : ℕ). nameOf (getD (segments m) n [])) (sym (eqb-true k 0 e))
       at false e = refl
 

@@ -16,7 +16,8 @@ use Rattle.element.specs.Finding.{found, nowhere, lookupCheck, rawBytes}
 use Rattle.element.specs.declared.address.Address.{Address}
 use Rattle.structure.specs.Shapes.{Shape}
 use Rattle.laws.specs.Types.{ListedAs, oru, acknowledgement, merge, admission, transfer, cancelled}
-use Rattle.structure.specs.Structures.{listed, unlisted, structureOf, chosen, admissionOf, grammarOf, oruR01, ack, adtA40, adtA01, adtA02, typeAddress}
+use Rattle.element.specs.Addresses.{typeAddress}
+use Rattle.structure.specs.Structures.{listed, unlisted, structureOf, chosen, admissionOf, grammarOf, oruR01, ack, adtA40, adtA01, adtA02}
 use Rattle.structure.specs.Judged.{plain, Answers, unread, read, no-structure, by}
 use Rattle.structure.specs.declared.judging.Judgement.{Judgement}
 use Rattle.structure.specs.declared.structures.Structure.the-variants.{ObservationReport, Acknowledgement, Merge, Admission, Transfer, Unlisted}

@@ -14,7 +14,7 @@ use Rattle.alphabet.proofs.DelimiterLaws.{delimiter-permitted}
 use Rattle.laws.proofs.EachLaws.{Each, each-append, each-at}
 use Rattle.alphabet.specs.Lists.{find}
 use Rattle.alphabet.specs.Bytes.{fromTo, printable, hexDigit, isNull}
-use Rattle.alphabet.specs.Delimiters.{punctuation, kept, permitted, wrongDelimiter}
+use Rattle.alphabet.specs.Delimiters.{punctuation, neverDelimiter, permitted, firstWrongDelimiter}
 use Rattle.alphabet.specs.declared.answers.Refusal.the-variants.{None}
 use Rattle.text.specs.Escape.{letters, escapeOf, escapeByte, escapeBytes, twoQuotes, escape}
 use Rattle.text.specs.Unescape.{Outcome, text}
@@ -34,7 +34,7 @@ within lo hi b l h e =
 
 pub permitted-printable : (b : ℕ) → permitted b ≡ true → printable b ≡ true
 permitted-printable b e =
-    at (fromTo 33 47 b) refl (fromTo 58 64 b) refl (fromTo 91 96 b) refl (and-both (punctuation b) (not (kept b)) e .0)
+    at (fromTo 33 47 b) refl (fromTo 58 64 b) refl (fromTo 91 96 b) refl (and-both (punctuation b) (not (neverDelimiter b)) e .0)
   where
     at : (t : Bool) → fromTo 33 47 b ≡ t → (u : Bool) → fromTo 58 64 b ≡ u → (v : Bool) → fromTo 91 96 b ≡ v
         → (t || (u || (v || fromTo 123 126 b))) ≡ true → printable b ≡ true
@@ -47,7 +47,7 @@ permitted-printable b e =
 abbrev pub MayStand : List ℕ → ℕ → Type 0
 MayStand ds b = (printable b ≡ true) × (find b ds < 5 → b ≡ escapeOf ds)
 
-module _ (ds : List ℕ) (five : length ds ≡ 5) (fine : wrongDelimiter ds ≡ 5) where
+module _ (ds : List ℕ) (five : length ds ≡ 5) (fine : firstWrongDelimiter ds ≡ 5) where
   escape-stands : MayStand ds (escapeOf ds)
   escape-stands = (permitted-printable (escapeOf ds) (delimiter-permitted ds five fine 3 (omega arith)), λ h. refl)
 
@@ -104,8 +104,8 @@ module _ (ds : List ℕ) (five : length ds ≡ 5) (fine : wrongDelimiter ds ≡ 
   escaping-fits : (t : List ℕ) (room : ℕ) → length (escape ds t) ≤ room → escaping ds t room ≡ text (escape ds t)
   unfolding escaping
   escaping-fits t room h =
-      let b : 5 ≤ wrongDelimiter ds = omega arith in
-      rw (le-ltb (wrongDelimiter ds) 5 b) (fits (escape ds t) room h)
+      let b : 5 ≤ firstWrongDelimiter ds = omega arith in
+      rw (le-ltb (firstWrongDelimiter ds) 5 b) (fits (escape ds t) room h)
 
   -- the front of the buffer d, as long as `escape` said, after `escape` wrote t there
   abbrev pub written : List ℕ → List ℕ → List ℕ

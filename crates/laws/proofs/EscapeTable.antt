@@ -11,7 +11,7 @@ use Rattle.alphabet.proofs.BoolLaws.{false-true, and-both}
 use Rattle.alphabet.proofs.DelimiterLaws.{delimiter-permitted}
 use Rattle.alphabet.specs.Lists.{first, find}
 use Rattle.alphabet.specs.Bytes.{printable, hexOf, hexDigit}
-use Rattle.alphabet.specs.Delimiters.{permitted, wrongDelimiter}
+use Rattle.alphabet.specs.Delimiters.{permitted, firstWrongDelimiter}
 use Rattle.text.specs.Escape.{letters, escapeOf}
 
 -- ---- a test of every number below n, computed
@@ -59,7 +59,7 @@ digit-printable n h = every-at 16 (λ (k : ℕ). printable (hexDigit k)) refl n 
 
 -- ---- five delimiters with no fault
 
-module _ (ds : List ℕ) (five : length ds ≡ 5) (fine : wrongDelimiter ds ≡ 5) where
+module _ (ds : List ℕ) (five : length ds ≡ 5) (fine : firstWrongDelimiter ds ≡ 5) where
   -- the escape delimiter is no byte that may not be one
   pub escape-not : (x : ℕ) → permitted x ≡ false → escapeOf ds ≡ x → ⊥
   escape-not x f e =

@@ -15,14 +15,14 @@ use Rattle.alphabet.proofs.NullLaws.{two-quotes, not-quotes, other-quotes}
 use Rattle.alphabet.proofs.PartLaws.{free-find}
 use Rattle.alphabet.specs.Lists.{first, find}
 use Rattle.alphabet.specs.Bytes.{printable, isNull}
-use Rattle.alphabet.specs.Delimiters.{wrongDelimiter}
+use Rattle.alphabet.specs.Delimiters.{firstWrongDelimiter}
 use Rattle.alphabet.specs.declared.answers.Refusal.{Refusal}
 use Rattle.alphabet.specs.declared.answers.Refusal.the-variants.{NotAllowed, Separator, UnknownEscape, UnclosedEscape}
 use Rattle.text.specs.Escape.{escapeOf, escape}
 use Rattle.text.specs.Unescape.{known, meaning, Outcome, text, fault, before, scan}
 use Rattle.text.specs.Answers.{unescaping}
-use Rattle.text.specs.Reads.{Reads, done, plain, escaped, Stops, forbidden, separator, unknown, unclosed, Refuses, Unescapes, delimiter, null, refused, long, written}
-use Rattle.text.proofs.StepLaws.{step-unknown, step-unclosed, step-forbidden, step-separator, step-plain, scan-emit, scan-stop, before-before, before-none}
+use Rattle.text.specs.Reads.{Reads, done, plain, escaped, Stops, unprintable, separator, unknown, unclosed, Refuses, Unescapes, delimiter, null, refused, long, written}
+use Rattle.text.proofs.StepLaws.{step-unknown, step-unclosed, step-unprintable, step-separator, step-plain, scan-emit, scan-stop, before-before, before-none}
 use Rattle.text.proofs.OutcomeLaws.{unescaping-bad, unescaping-null, unescaping-fault, unescaping-fits, unescaping-long}
 use Rattle.laws.proofs.RoundTrip.{no-delimiter, AreBytes, sequence-back, scan-back}
 
@@ -54,7 +54,7 @@ module _ (ds : List ℕ) (five : length ds ≡ 5) where
       sequence-back ds at c r (meaning ds c) (free-find (escapeOf ds) c r f) k refl ∙ ap (before (meaning ds c)) (reads-from m (at + (length c + 2)))
 
   stops-at : {v : List ℕ} {k : Refusal} → Stops ds v k → (at : ℕ) → scan ds at 0 v ≡ fault k at
-  stops-at (forbidden b r n a) at = scan-stop ds at b r NotAllowed (step-forbidden ds b r n a)
+  stops-at (unprintable b r n a) at = scan-stop ds at b r NotAllowed (step-unprintable ds b r n a)
   stops-at (separator b r n a h) at = scan-stop ds at b r Separator (step-separator ds b r n a h)
   stops-at (unknown c r f k) at =
       let e = escapeOf ds in
@@ -67,7 +67,7 @@ module _ (ds : List ℕ) (five : length ds ≡ 5) where
 
   pub refuses-scan : (s : List ℕ) (k : Refusal) (p : ℕ) → Refuses ds s k p → scan ds 0 0 s ≡ fault k p
   refuses-scan s k p f =
-      ap (scan ds 0 0) (f .whole) ∙ reads-before (f .reads) (f .rest) 0 ∙ ap (before (f .said)) (stops-at (f .stops) (0 + length (f .front)))
+      ap (scan ds 0 0) (f .made-of) ∙ reads-before (f .reads) (f .rest) 0 ∙ ap (before (f .said)) (stops-at (f .stops) (0 + length (f .front)))
       ∙ ap (fault k) (zero-add (length (f .front)) ∙ f .there)
 
   -- ---- each list of bytes either reads or is refused
@@ -77,7 +77,7 @@ module _ (ds : List ℕ) (five : length ds ≡ 5) where
     refuses : (k : Refusal) (p : ℕ) → Refuses ds s k p → Said s
 
   stopped : (v : List ℕ) (k : Refusal) → Stops ds v k → Said v
-  stopped v k m = refuses k 0 (record { front = []; rest = v; said = []; whole = refl; reads = done; stops = m; there = refl })
+  stopped v k m = refuses k 0 (record { front = []; rest = v; said = []; made-of = refl; reads = done; stops = m; there = refl })
 
   past-plain : (b : ℕ) (r : List ℕ) → printable b ≡ true → 5 ≤ find b ds → Said r → Said (b ∷ r)
   past-plain b r a h (says t m) = says (b ∷ t) (plain b a h m)
@@ -86,7 +86,7 @@ module _ (ds : List ℕ) (five : length ds ≡ 5) where
         front = b ∷ f .front;
         rest = f .rest;
         said = b ∷ f .said;
-        whole = ap (λ (l : List ℕ). b ∷ l) (f .whole);
+        made-of = ap (λ (l : List ℕ). b ∷ l) (f .made-of);
         reads = plain b a h (f .reads);
         stops = f .stops;
         there = ap suc (f .there);
@@ -99,7 +99,7 @@ module _ (ds : List ℕ) (five : length ds ≡ 5) where
         front = escapeOf ds ∷ (c ++ escapeOf ds ∷ f .front);
         rest = f .rest;
         said = meaning ds c ++ f .said;
-        whole = ap (λ (l : List ℕ). escapeOf ds ∷ (c ++ escapeOf ds ∷ l)) (f .whole) ∙ ap (λ (l : List ℕ). escapeOf ds ∷ l) (sym (append-assoc c (escapeOf ds ∷ f .front) (f .rest)));
+        made-of = ap (λ (l : List ℕ). escapeOf ds ∷ (c ++ escapeOf ds ∷ l)) (f .made-of) ∙ ap (λ (l : List ℕ). escapeOf ds ∷ l) (sym (append-assoc c (escapeOf ds ∷ f .front) (f .rest)));
         reads = escaped c e k (f .reads);
         stops = f .stops;
         there = refl;
@@ -147,7 +147,7 @@ module _ (ds : List ℕ) (five : length ds ≡ 5) where
       at : (t : Bool) → printable b ≡ t → (u : Bool) → ltb (find b ds) 5 ≡ u → Said (b ∷ r)
       at true e true f = stopped (b ∷ r) Separator (separator b r n e (ltb-true (find b ds) 5 f))
       at true e false f = past-plain b r e (ltb-false (find b ds) 5 f) more
-      at false e u f = stopped (b ∷ r) NotAllowed (forbidden b r n e)
+      at false e u f = stopped (b ∷ r) NotAllowed (unprintable b r n e)
 
   turn : (s : List ℕ) → ((v : List ℕ) → length v < length s → Said v) → Said s
   turn [] more = says [] done
@@ -185,7 +185,7 @@ module _ (ds : List ℕ) (five : length ds ≡ 5) where
           subst (Refuses ds s k) r (subst (λ (j : Refusal). Refuses ds s j p′) q f)
 
   -- what is written reads as the text that it was written for
-  pub escape-reads : wrongDelimiter ds ≡ 5 → (t : List ℕ) → AreBytes t → Reads ds (escape ds t) t
+  pub escape-reads : firstWrongDelimiter ds ≡ 5 → (t : List ℕ) → AreBytes t → Reads ds (escape ds t) t
   escape-reads fine t small = scan-reads (escape ds t) t (scan-back ds five fine t small)
 
   -- ---- the outcome of unescaping is the one that the grammar says, and no other
@@ -198,17 +198,17 @@ module _ (ds : List ℕ) (five : length ds ≡ 5) where
   unescapes-only s room o (written h n t m l) = unescaping-fits ds s room h (other-quotes s n) t (reads-scan s t m) l
 
   pub unescapes : (s : List ℕ) (room : ℕ) → Unescapes ds s room (unescaping ds s room)
-  unescapes s room = by (ltb (wrongDelimiter ds) 5) refl (isNull s) refl (either s)
+  unescapes s room = by (ltb (firstWrongDelimiter ds) 5) refl (isNull s) refl (either s)
     where
       is : (o : Outcome) → Unescapes ds s room o → Unescapes ds s room (unescaping ds s room)
       is o m = subst (Unescapes ds s room) (sym (unescapes-only s room o m)) m
 
-      fits : (b : Bool) (t : List ℕ) → leb (length t) room ≡ b → 5 ≤ wrongDelimiter ds → (s ≡ 34 ∷ 34 ∷ [] → ⊥) → Reads ds s t → Unescapes ds s room (unescaping ds s room)
+      fits : (b : Bool) (t : List ℕ) → leb (length t) room ≡ b → 5 ≤ firstWrongDelimiter ds → (s ≡ 34 ∷ 34 ∷ [] → ⊥) → Reads ds s t → Unescapes ds s room (unescaping ds s room)
       fits true t e h n m = is (text t) (written h n t m (leb-true (length t) room e))
       fits false t e h n m = is _ (long h n t m (leb-false (length t) room e))
 
-      by : (a : Bool) → ltb (wrongDelimiter ds) 5 ≡ a → (b : Bool) → isNull s ≡ b → Said s → Unescapes ds s room (unescaping ds s room)
-      by true e b f d = is _ (delimiter (ltb-true (wrongDelimiter ds) 5 e))
-      by false e true f d = is _ (null (ltb-false (wrongDelimiter ds) 5 e) (two-quotes s f))
-      by false e false f (says t m) = fits (leb (length t) room) t refl (ltb-false (wrongDelimiter ds) 5 e) (not-quotes s f) m
-      by false e false f (refuses k p m) = is (fault k p) (refused (ltb-false (wrongDelimiter ds) 5 e) (not-quotes s f) k p m)
+      by : (a : Bool) → ltb (firstWrongDelimiter ds) 5 ≡ a → (b : Bool) → isNull s ≡ b → Said s → Unescapes ds s room (unescaping ds s room)
+      by true e b f d = is _ (delimiter (ltb-true (firstWrongDelimiter ds) 5 e))
+      by false e true f d = is _ (null (ltb-false (firstWrongDelimiter ds) 5 e) (two-quotes s f))
+      by false e false f (says t m) = fits (leb (length t) room) t refl (ltb-false (firstWrongDelimiter ds) 5 e) (not-quotes s f) m
+      by false e false f (refuses k p m) = is (fault k p) (refused (ltb-false (firstWrongDelimiter ds) 5 e) (not-quotes s f) k p m)

@@ -14,7 +14,7 @@ use Rattle.alphabet.proofs.DelimiterLaws.{delimiter-permitted}
 use Rattle.alphabet.proofs.NullLaws.{two-quotes}
 use Rattle.alphabet.specs.Lists.{first, find}
 use Rattle.alphabet.specs.Bytes.{printable, hexOf, hexDigit, isNull}
-use Rattle.alphabet.specs.Delimiters.{permitted, wrongDelimiter}
+use Rattle.alphabet.specs.Delimiters.{permitted, firstWrongDelimiter}
 use Rattle.text.specs.Escape.{letters, escapeOf, escapeByte, escapeBytes, twoQuotes, escape}
 use Rattle.alphabet.specs.Hex.{allHex, pairsOf}
 use Rattle.text.specs.Unescape.{known, meaning, text, before, scan}
@@ -67,7 +67,7 @@ no-delimiter ds five b h e =
     let q : find b ds ≡ find (escapeOf ds) ds = ap (λ (x : ℕ). find x ds) e in
     omega arith
 
-module _ (ds : List ℕ) (five : length ds ≡ 5) (fine : wrongDelimiter ds ≡ 5) where
+module _ (ds : List ℕ) (five : length ds ≡ 5) (fine : firstWrongDelimiter ds ≡ 5) where
   escape-at : (x : ℕ) (r : List ℕ) → permitted x ≡ false → find (escapeOf ds) (x ∷ r) ≡ suc (find (escapeOf ds) r)
   escape-at x r f = find-other (escapeOf ds) x r (escape-not ds five fine x f)
 
@@ -175,5 +175,5 @@ module _ (ds : List ℕ) (five : length ds ≡ 5) (fine : wrongDelimiter ds ≡ 
   pub round-trip : (t : List ℕ) (room : ℕ) → AreBytes t → unescaping ds (escape ds t) room ≡ fitting room (text t)
   unfolding unescaping
   round-trip t room small =
-      let b : 5 ≤ wrongDelimiter ds = omega arith in
-      rw (le-ltb (wrongDelimiter ds) 5 b) (rw (never-null t small) (rw (scan-back t small)))
+      let b : 5 ≤ firstWrongDelimiter ds = omega arith in
+      rw (le-ltb (firstWrongDelimiter ds) 5 b) (rw (never-null t small) (rw (scan-back t small)))

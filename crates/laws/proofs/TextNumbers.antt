@@ -7,7 +7,7 @@ use lib.Dec.{leb, ltb, eqb}
 use lib.ListN.{length, take}
 use Rattle.alphabet.specs.Lists.{find}
 use Rattle.alphabet.specs.Bytes.{printable, isNull}
-use Rattle.alphabet.specs.Delimiters.{wrongDelimiter}
+use Rattle.alphabet.specs.Delimiters.{firstWrongDelimiter}
 use Rattle.alphabet.specs.Answers.{numberOf}
 use Rattle.alphabet.specs.declared.answers.Refusal.the-variants.{Delimiter, NotAllowed, Separator, UnknownEscape, UnclosedEscape, NoRoom, NullText}
 use Rattle.text.specs.Escape.{escapeOf, escape}
@@ -75,17 +75,17 @@ answer-told l (fault k p) z h = h
 
 pub escaping-numbers : (ds t : List ℕ) (room : ℕ) → In (numberOf (answer (escaping ds t room) .kind)) ofEscaping
 unfolding escaping
-escaping-numbers ds t room = answer-told ofEscaping (escaping ds t room) (among ofEscaping 0 refl) (at (ltb (wrongDelimiter ds) 5))
+escaping-numbers ds t room = answer-told ofEscaping (escaping ds t room) (among ofEscaping 0 refl) (at (ltb (firstWrongDelimiter ds) 5))
   where
-    at : (u : Bool) → Told ofEscaping (cond u (fault Delimiter (wrongDelimiter ds)) (fitting room (text (escape ds t))))
+    at : (u : Bool) → Told ofEscaping (cond u (fault Delimiter (firstWrongDelimiter ds)) (fitting room (text (escape ds t))))
     at true = among ofEscaping 3 refl
     at false = fitting-told ofEscaping room (text (escape ds t)) (among ofEscaping 14 refl) tt
 
 pub unescaping-numbers : (ds s : List ℕ) (room : ℕ) → In (numberOf (answer (unescaping ds s room) .kind)) ofUnescaping
 unfolding unescaping
-unescaping-numbers ds s room = answer-told ofUnescaping (unescaping ds s room) (among ofUnescaping 0 refl) (at (ltb (wrongDelimiter ds) 5) (isNull s))
+unescaping-numbers ds s room = answer-told ofUnescaping (unescaping ds s room) (among ofUnescaping 0 refl) (at (ltb (firstWrongDelimiter ds) 5) (isNull s))
   where
-    at : (u v : Bool) → Told ofUnescaping (cond u (fault Delimiter (wrongDelimiter ds)) (cond v (fault NullText 0) (fitting room (scan ds 0 0 s))))
+    at : (u v : Bool) → Told ofUnescaping (cond u (fault Delimiter (firstWrongDelimiter ds)) (cond v (fault NullText 0) (fitting room (scan ds 0 0 s))))
     at true v = among ofUnescaping 3 refl
     at false true = among ofUnescaping 15 refl
     at false false = fitting-told ofUnescaping room (scan ds 0 0 s) (among ofUnescaping 14 refl) (scan-told ds 0 0 s)

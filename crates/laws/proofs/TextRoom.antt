@@ -7,7 +7,7 @@ use native.Mathlib.Omega.{arith}
 use lib.Dec.{leb, ltb}
 use lib.ListN.{length, drop, length-append, length-drop}
 use borrow.Author.Tests.{leb-true}
-use Rattle.alphabet.specs.Delimiters.{wrongDelimiter}
+use Rattle.alphabet.specs.Delimiters.{firstWrongDelimiter}
 use Rattle.alphabet.specs.Filling.{over}
 use Rattle.alphabet.specs.declared.answers.Refusal.the-variants.{Delimiter, NoRoom}
 use Rattle.text.specs.Escape.{escape}
@@ -19,14 +19,14 @@ over-length t d h = let a = length-append t (drop (length t) d) in let n = lengt
 
 pub escape-within : (ds t d : List ℕ) → answer (escaping ds t (length d)) .length ≤ length (filled (escaping ds t (length d)) d)
 unfolding escaping fitting answer filled
-escape-within ds t d = at (ltb (wrongDelimiter ds) 5) (leb (length (escape ds t)) (length d)) refl
+escape-within ds t d = at (ltb (firstWrongDelimiter ds) 5) (leb (length (escape ds t)) (length d)) refl
   where
     nothing : (n : ℕ) → 0 ≤ n
     nothing n = omega arith
 
     at : (b c : Bool) → leb (length (escape ds t)) (length d) ≡ c
-        → answer (cond b (fault Delimiter (wrongDelimiter ds)) (cond c (text (escape ds t)) (fault NoRoom 0))) .length
-        ≤ length (filled (cond b (fault Delimiter (wrongDelimiter ds)) (cond c (text (escape ds t)) (fault NoRoom 0))) d)
+        → answer (cond b (fault Delimiter (firstWrongDelimiter ds)) (cond c (text (escape ds t)) (fault NoRoom 0))) .length
+        ≤ length (filled (cond b (fault Delimiter (firstWrongDelimiter ds)) (cond c (text (escape ds t)) (fault NoRoom 0))) d)
     at true c e = nothing (length d)
     at false false e = nothing (length d)
     at false true e =

@@ -17,7 +17,7 @@ use Rattle.alphabet.specs.Lists.{find}
 use Rattle.alphabet.proofs.BoolLaws.{and-both, from-to}
 use Rattle.alphabet.proofs.ListLaws.{drop-next, find-is}
 use Rattle.laws.proofs.EachLaws.{Each, each-append, at-each}
-use Rattle.numbers.specs.Numbers.{someDigits, unsigned, whole, hasPoint, fraction, nmForm, isSi}
+use Rattle.numbers.specs.Numbers.{someDigits, unsigned, beforePoint, hasPoint, fraction, nmForm, isSi}
 use Rattle.times.specs.Times.{bodyOf, zoneOf, frontOf, tailOf, isDt, isTime}
 use Rattle.acknowledgement.specs.Acknowledgement.{version}
 use Rattle.times.proofs.TimeLaws.{dt-digits, time-formed, front-digits, tail-holds, zone-held}
@@ -76,10 +76,10 @@ module _ (P : ℕ → Type 0) (digits : (b : ℕ) → digit b ≡ true → P b) 
   unfolding nmForm
   unsigned-each point l e =
       let u = unsigned l in
-      let b = and-both (someDigits (whole u)) (not (hasPoint u) || someDigits (fraction u)) e in
-      let digits-before = and-both (leb 1 (length (whole u))) (allDigits (whole u)) (b .0) .1 in
+      let b = and-both (someDigits (beforePoint u)) (not (hasPoint u) || someDigits (fraction u)) e in
+      let digits-before = and-both (leb 1 (length (beforePoint u))) (allDigits (beforePoint u)) (b .0) .1 in
       subst (Each P) (take-append-drop (find 46 u) u)
-      (each-append P (whole u) (drop (find 46 u) u) (digits-each (whole u) digits-before) (point-each point u (either (hasPoint u) (someDigits (fraction u)) (b .1))))
+      (each-append P (beforePoint u) (drop (find 46 u) u) (digits-each (beforePoint u) digits-before) (point-each point u (either (hasPoint u) (someDigits (fraction u)) (b .1))))
     where
       either : (x y : Bool) → (not x || y) ≡ true → (x ≡ false) ⊎ (y ≡ true)
       either true y q = inr q

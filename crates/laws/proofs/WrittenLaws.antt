@@ -8,7 +8,7 @@ use lib.Dec.{eqb}
 use lib.ListN.{length, getD}
 use borrow.Author.Tests.{eq-eqb, le-leb}
 use Rattle.alphabet.specs.Bytes.{carriageReturn, printable, allowed, digit, ascii}
-use Rattle.alphabet.specs.Delimiters.{permitted, wrongDelimiter}
+use Rattle.alphabet.specs.Delimiters.{permitted, firstWrongDelimiter}
 use Rattle.alphabet.specs.Limits.{messageLimit}
 use Rattle.alphabet.specs.Lists.{find, same}
 use Rattle.alphabet.specs.Parts.{split, join}
@@ -18,7 +18,7 @@ use Rattle.alphabet.proofs.DelimiterLaws.{delimiter-own}
 use Rattle.alphabet.proofs.LimitLaws.{segment-limit-two}
 use Rattle.laws.proofs.EachLaws.{Each, Every, each-append, each-at, at-each, each-weaken, each-join, every-weaken, each-free, every-at}
 use Rattle.alphabet.proofs.PartLaws.{split-join, split-cons, split-last}
-use Rattle.reading.specs.Segments.{segments, delimitersOf, fieldSeparator, named, isHeader}
+use Rattle.reading.specs.Segments.{segments, delimitersOf, fieldSeparator, named, isHeader, name, nameOf}
 use Rattle.reading.specs.Reading.{reading}
 use Rattle.reading.specs.Message.{ended, Opened, Message}
 use Rattle.reading.proofs.SegmentLaws.{segments-ended}
@@ -33,8 +33,9 @@ use Rattle.laws.proofs.Clean.{MayStand, never-separator}
 use Rattle.alphabet.specs.declared.answers.Refusal.the-variants.{None}
 use Rattle.structure.specs.Shapes.{Yields, names}
 use Rattle.structure.specs.Shapes.Spans.{stand, skip, ended as ended-shape}
-use Rattle.structure.specs.SegmentNames.{name, nameOf, segmentNames, among, passedOver, kept}
-use Rattle.structure.specs.Structures.{ack, typeAddress, structureOf, grammarOf}
+use Rattle.structure.specs.SegmentNames.{segmentNames, among, passedOver, kept}
+use Rattle.element.specs.Addresses.{typeAddress}
+use Rattle.structure.specs.Structures.{ack, structureOf, grammarOf}
 use Rattle.structure.specs.Judged.{plain, Judged, accepted, by, Answers, read}
 use Rattle.structure.specs.declared.structures.Structure.the-variants.{Acknowledgement}
 use Rattle.structure.proofs.NameLaws.{is-acknowledgement}
@@ -271,7 +272,7 @@ module _ (h : List ℕ) (o : Opened h) (one : find carriageReturn h + 1 ≡ leng
         nine-bytes = is-long;
         header = header-written;
         byte-eight = byte-eight-written;
-        delimiters-right = ap wrongDelimiter same-delimiters ∙ o .delimiters-right;
+        delimiters-right = ap firstWrongDelimiter same-delimiters ∙ o .delimiters-right;
         all-allowed = each-at (λ (b : ℕ). allowed b ≡ true) written all-allowed-written;
       }
 

@@ -6,10 +6,10 @@ use mathlib.Core.List.{List, [], _∷_, map}
 use mathlib.Core.Logic.{_↔_}
 use Prim.Native.Nat.{ℕ, zero, suc, _+_, _<_}
 use lib.ListN.{length, getD}
-use Rattle.reading.specs.Segments.{delimitersOf, segments}
+use Rattle.reading.specs.Segments.{delimitersOf, segments, nameOf, name}
 use Rattle.element.specs.Finding.{found, elementBytes}
 use Rattle.element.specs.declared.states.State.the-variants.{Absent}
-use Rattle.rules.specs.Table.{nameOf, rows, noRow}
+use Rattle.rules.specs.Table.{rows, noRow}
 use Rattle.rules.specs.Rules.{judgedPart, isSaid, saidField, rowCheck}
 use Rattle.rules.specs.declared.table.Portion.{Portion}
 use Rattle.rules.specs.declared.table.Portion.the-variants.{Whole, Component}

@@ -26,7 +26,7 @@ use Rattle.alphabet.proofs.BoolLaws.{and-both, both-and}
 use Rattle.alphabet.proofs.CheckLaws.{both-pass, passes-not}
 use Rattle.alphabet.proofs.DigitLaws.{counted-append, counted-below, digits-append}
 use Rattle.alphabet.proofs.ListLaws.{first-le}
-use Rattle.numbers.specs.Numbers.{someDigits, isSign, unsigned, whole, hasPoint, fraction, nmForm, nmDigits, mostDigits, nmCheck, signed, isNegative, nmValue, nmRead, isSi, siValue, siRead}
+use Rattle.numbers.specs.Numbers.{someDigits, isSign, unsigned, beforePoint, hasPoint, fraction, nmForm, nmDigits, mostDigits, nmCheck, signed, isNegative, nmValue, nmRead, isSi, siValue, siRead}
 
 -- ---- the sign
 
@@ -45,8 +45,8 @@ unsigned-none (b ∷ r) h = absurd (omega arith)
 
 -- ---- the parts
 
-pub whole-length : (l : List ℕ) → length (whole l) ≡ find 46 l
-whole-length l = length-take-le (find 46 l) l (first-le (eqb 46) l)
+pub point-length : (l : List ℕ) → length (beforePoint l) ≡ find 46 l
+point-length l = length-take-le (find 46 l) l (first-le (eqb 46) l)
 
 -- an NM that passes: digits before and behind the point, at most so many
 pub nm-form : (l : List ℕ) → nmCheck l ≡ Passes → nmForm l ≡ true
@@ -59,9 +59,9 @@ nm-short l e =
     ltb-false mostDigits (length (nmDigits l))
     (passes-not _ ValueTooLong 0 (both-pass (failsIf (ltb mostDigits (length (nmDigits l))) ValueTooLong 0) Passes (both-pass (failsIf (not (nmForm l)) BreaksForm 0) _ e .1) .0))
 
-pub nm-whole : (l : List ℕ) → nmCheck l ≡ Passes → allDigits (whole (unsigned l)) ≡ true
+pub nm-before : (l : List ℕ) → nmCheck l ≡ Passes → allDigits (beforePoint (unsigned l)) ≡ true
 unfolding nmForm
-nm-whole l e = and-both (leb 1 (length (whole (unsigned l)))) (allDigits (whole (unsigned l))) (and-both (someDigits (whole (unsigned l))) _ (nm-form l e) .0) .1
+nm-before l e = and-both (leb 1 (length (beforePoint (unsigned l)))) (allDigits (beforePoint (unsigned l))) (and-both (someDigits (beforePoint (unsigned l))) _ (nm-form l e) .0) .1
 
 fraction-digits : (l : List ℕ) → (not (hasPoint l) || someDigits (fraction l)) ≡ true → allDigits (fraction l) ≡ true
 unfolding allDigits
@@ -76,7 +76,7 @@ fraction-digits l e = at (hasPoint l) refl e
 
 pub nm-fraction : (l : List ℕ) → nmCheck l ≡ Passes → allDigits (fraction (unsigned l)) ≡ true
 unfolding nmForm
-nm-fraction l e = fraction-digits (unsigned l) (and-both (someDigits (whole (unsigned l))) _ (nm-form l e) .1)
+nm-fraction l e = fraction-digits (unsigned l) (and-both (someDigits (beforePoint (unsigned l))) _ (nm-form l e) .1)
 
 -- ---- how large
 
@@ -84,12 +84,12 @@ nm-fraction l e = fraction-digits (unsigned l) (and-both (someDigits (whole (uns
 pub short-below : (l : List ℕ) → allDigits l ≡ true → length l ≤ 18 → decimal l < 10 ^ 18
 short-below l e h = lt-of-lt-of-le (counted-below 0 l e) (rw (one-mul (10 ^ length l)) (pow-le-pow-right (omega arith) h))
 
-pub nm-below : (l : List ℕ) → nmCheck l ≡ Passes → counted (decimal (whole (unsigned l))) (fraction (unsigned l)) < 10 ^ 18
+pub nm-below : (l : List ℕ) → nmCheck l ≡ Passes → counted (decimal (beforePoint (unsigned l))) (fraction (unsigned l)) < 10 ^ 18
 nm-below l e =
-    let both : (allDigits (whole (unsigned l)) && allDigits (fraction (unsigned l))) ≡ true = both-and (nm-whole l e) (nm-fraction l e) in
-    let d = digits-append (whole (unsigned l)) (fraction (unsigned l)) ∙ both in
+    let both : (allDigits (beforePoint (unsigned l)) && allDigits (fraction (unsigned l))) ≡ true = both-and (nm-before l e) (nm-fraction l e) in
+    let d = digits-append (beforePoint (unsigned l)) (fraction (unsigned l)) ∙ both in
     let b = short-below (nmDigits l) d (nm-short l e) in
-    rw (counted-append 0 (whole (unsigned l)) (fraction (unsigned l))) at b
+    rw (counted-append 0 (beforePoint (unsigned l)) (fraction (unsigned l))) at b
 
 -- ---- the sign applied
 
@@ -114,9 +114,9 @@ signed-fits true n h = sfits-of (minus-small n h)
 signed-fits false n h = sfits-of (lt-of-lt-of-le h (lit≤ tt))
 
 -- the value of an NM that passes, from its parts, and that it fits
-pub nm-value : (l : List ℕ) → nmValue l ≡ signed (isNegative l) (counted (decimal (whole (unsigned l))) (fraction (unsigned l)))
+pub nm-value : (l : List ℕ) → nmValue l ≡ signed (isNegative l) (counted (decimal (beforePoint (unsigned l))) (fraction (unsigned l)))
 unfolding nmValue
-nm-value l = ap (signed (isNegative l)) (counted-append 0 (whole (unsigned l)) (fraction (unsigned l)))
+nm-value l = ap (signed (isNegative l)) (counted-append 0 (beforePoint (unsigned l)) (fraction (unsigned l)))
 
 pub nm-fits : (l : List ℕ) → nmCheck l ≡ Passes → SFits w64 (nmValue l)
 nm-fits l e = subst (SFits w64) (sym (nm-value l)) (signed-fits (isNegative l) _ (nm-below l e))

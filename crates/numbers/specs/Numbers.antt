@@ -28,8 +28,8 @@ unfoldable pub unsigned : List ℕ → List ℕ
 unsigned l = cond (isSign (getD l 0 0)) (drop 1 l) l
 
 -- "digits, optionally a point and digits": what stands before the point, whether there is one, and what stands behind it
-abbrev pub whole : List ℕ → List ℕ
-whole l = take (find 46 l) l
+abbrev pub beforePoint : List ℕ → List ℕ
+beforePoint l = take (find 46 l) l
 
 abbrev pub hasPoint : List ℕ → Bool
 hasPoint l = ltb (find 46 l) (length l)
@@ -39,11 +39,11 @@ fraction l = drop (find 46 l + 1) l
 
 -- "a digit on each side of a point"
 unfoldable pub nmForm : List ℕ → Bool
-nmForm l = someDigits (whole (unsigned l)) && (not (hasPoint (unsigned l)) || someDigits (fraction (unsigned l)))
+nmForm l = someDigits (beforePoint (unsigned l)) && (not (hasPoint (unsigned l)) || someDigits (fraction (unsigned l)))
 
 -- all its digits
 abbrev pub nmDigits : List ℕ → List ℕ
-nmDigits l = whole (unsigned l) ++ fraction (unsigned l)
+nmDigits l = beforePoint (unsigned l) ++ fraction (unsigned l)
 
 -- "1 to 18 digits in all"
 abbrev pub mostDigits : ℕ
@@ -53,7 +53,7 @@ mostDigits = 18
 unfoldable pub nmCheck : List ℕ → Check
 nmCheck l = inOrder (failsIf (not (nmForm l)) BreaksForm 0 ∷ failsIf (ltb mostDigits (length (nmDigits l))) ValueTooLong 0 ∷ [])
 
--- "The result is a signed whole number and a count of decimals. -0 is 0."
+-- "The result is a signed beforePoint number and a count of decimals. -0 is 0."
 abbrev pub signed : Bool → ℕ → ℤ
 signed negative n = cond negative (negℤ (pos n)) (pos n)
 

@@ -4,9 +4,9 @@ mod numerals;
 
 pub use digits::is_digits;
 pub use numerals::ReadNumber;
+pub use numerals::before_point;
 pub use numerals::check_nm;
 pub use numerals::is_si;
 pub use numerals::read_nm;
 pub use numerals::read_si;
 pub use numerals::si_value;
-pub use numerals::whole_of;

@@ -6,7 +6,7 @@ use alphabet::Refusal;
 ghost use mathlib.Core.Path.{_≡_};
 ghost use Prim.Native.Nat.{_<_, _^_};
 ghost use Rattle.alphabet.specs.declared.answers.Check.the-variants.{Passes};
-ghost use Rattle.numbers.specs.Numbers.{someDigits, unsigned, whole, fraction, signed, nmCheck, nmValue, nmRead, isSi, siValue, siRead};
+ghost use Rattle.numbers.specs.Numbers.{someDigits, unsigned, beforePoint, fraction, signed, nmCheck, nmValue, nmRead, isSi, siValue, siRead};
 
 // The most digits of an NM that we read.
 const MOST_DIGITS: usize = 18;
@@ -41,8 +41,8 @@ fn without_sign(bytes: &[u8]) -> &[u8]
 }
 
 // What stands before the point, or all where there is none.
-pub fn whole_of(bytes: &[u8]) -> &[u8]
-    ensures { λ r. ⌜ now r ≡ whole (now (bytes .entry)) ⌝ }
+pub fn before_point(bytes: &[u8]) -> &[u8]
+    ensures { λ r. ⌜ now r ≡ beforePoint (now (bytes .entry)) ⌝ }
 {
     let point = alphabet::find(bytes, b'.');
     &bytes[..point]
@@ -65,11 +65,11 @@ pub fn check_nm(bytes: &[u8]) -> Check
     ensures { λ r. ⌜ r ≡ nmCheck (now (bytes .entry)) ⌝ }
 {
     let body = without_sign(bytes);
-    let whole = whole_of(body);
+    let before = before_point(body);
     let fraction = fraction_of(body);
-    let point = whole.len() < body.len();
-    let form = is_some_digits(whole) & (!point | is_some_digits(fraction));
-    let digits = whole.len() + fraction.len();
+    let point = before.len() < body.len();
+    let form = is_some_digits(before) & (!point | is_some_digits(fraction));
+    let digits = before.len() + fraction.len();
     alphabet::or_else(
         alphabet::fails_if(!form, Refusal::BreaksForm, 0),
         alphabet::fails_if(MOST_DIGITS < digits, Refusal::ValueTooLong, 0),
@@ -91,8 +91,8 @@ fn nm_value(bytes: &[u8]) -> i64
     ensures { λ r. ⌜ r ≡ nmValue (now (bytes .entry)) ⌝ }
 {
     let body = without_sign(bytes);
-    let whole = count_on(0, whole_of(body));
-    let number = count_on(whole, fraction_of(body));
+    let before = count_on(0, before_point(body));
+    let number = count_on(before, fraction_of(body));
     let negative = alphabet::byte_at(bytes, 0) == 45;
     signed_number(negative, number)
 }

@@ -7,7 +7,7 @@ use mathlib.Core.Path.{_≡_}
 use mathlib.Core.List.{List}
 use Prim.Native.Nat.{ℕ, _≤_}
 use lib.ListN.{length, take, drop}
-use Rattle.alphabet.specs.Delimiters.{wrongDelimiter}
+use Rattle.alphabet.specs.Delimiters.{firstWrongDelimiter}
 use Rattle.alphabet.specs.Filling.{over}
 use Rattle.alphabet.specs.declared.answers.Answer.{Answer}
 use Rattle.alphabet.specs.declared.answers.Refusal.the-variants.{None}
@@ -22,7 +22,7 @@ use Rattle.promises.specs.Acknowledgements.{Carries}
 -- ---- text
 
 -- the buffer d takes the escaped text, e takes the text: `unescape` of what `escape` left in d gives the text back, and its length
-pub text-comes-back : (ds : List ℕ) → length ds ≡ 5 → wrongDelimiter ds ≡ 5 → (t d e : List ℕ) → AreBytes t → length (escape ds t) ≤ length d → length t ≤ length e
+pub text-comes-back : (ds : List ℕ) → length ds ≡ 5 → firstWrongDelimiter ds ≡ 5 → (t d e : List ℕ) → AreBytes t → length (escape ds t) ≤ length d → length t ≤ length e
     → (answer (unescaping ds (take (answer (escaping ds t (length d)) .length) (filled (escaping ds t (length d)) d)) (length e)) ≡ record { kind = None; place = 0; length = length t })
     × (filled (unescaping ds (take (answer (escaping ds t (length d)) .length) (filled (escaping ds t (length d)) d)) (length e)) e ≡ over t e)
 text-comes-back ds five fine t d e small h k = both-ways ds five fine t d e small h k

@@ -13,7 +13,8 @@ use Rattle.alphabet.specs.declared.answers.Refusal.the-variants.{None, NoStruct
 use Rattle.reading.specs.Reading.{reading}
 use Rattle.structure.specs.Shapes.{Shape, Yields, names}
 use Rattle.structure.specs.SegmentNames.{segmentNames, kept}
-use Rattle.structure.specs.Structures.{listed, unlisted, structureOf, grammarOf, typeAddress}
+use Rattle.element.specs.Addresses.{typeAddress}
+use Rattle.structure.specs.Structures.{listed, unlisted, structureOf, grammarOf}
 use Rattle.element.specs.Finding.{rawBytes}
 use Rattle.laws.specs.Types.{ListedAs}
 use Rattle.laws.proofs.Chosen as Chosen

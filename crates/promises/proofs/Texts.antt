@@ -6,7 +6,7 @@ use mathlib.Core.Bool.{true}
 use mathlib.Core.List.{List, [], _∷_}
 use Prim.Native.Nat.{ℕ}
 use lib.ListN.{length}
-use Rattle.alphabet.specs.Delimiters.{wrongDelimiter}
+use Rattle.alphabet.specs.Delimiters.{firstWrongDelimiter}
 use Rattle.text.specs.Escape.{escapeByte}
 use Rattle.text.specs.Escape as Text
 use Rattle.text.specs.Unescape.{known, meaning, Outcome}
@@ -35,12 +35,12 @@ module _ (field component repetition escape subcomponent : ℕ) where
   )
 
   -- "Escaping writes the five delimiters by letter"
-  pub delimiter-written : wrongDelimiter ds ≡ 5 → {l b : ℕ} → Letter field component repetition escape subcomponent l b → escapeByte ds b ≡ escape ∷ l ∷ escape ∷ []
+  pub delimiter-written : firstWrongDelimiter ds ≡ 5 → {l b : ℕ} → Letter field component repetition escape subcomponent l b → escapeByte ds b ≡ escape ∷ l ∷ escape ∷ []
   delimiter-written fine r = Rows.row-written field component repetition escape subcomponent fine r
 
   -- "Escaping writes the five delimiters by letter, every byte that isn't allowed and CR as its own `\Xhh\` with capital digits, the rest plainly. House: text that
   -- is exactly two quotes is written `\X2222\`, so that it isn't null.": what is written is what these rules write, and nothing else
-  pub writes-exactly : wrongDelimiter ds ≡ 5 → (t w : List ℕ) → AreBytes t → Writes field component repetition escape subcomponent t w ↔ (Text.escape ds t ≡ w)
+  pub writes-exactly : firstWrongDelimiter ds ≡ 5 → (t w : List ℕ) → AreBytes t → Writes field component repetition escape subcomponent t w ↔ (Text.escape ds t ≡ w)
   writes-exactly fine t w small = (
     Writing.writes-is field component repetition escape subcomponent fine small,
     λ e. subst (Writes field component repetition escape subcomponent t) e (Writing.escape-writes field component repetition escape subcomponent fine t small),

@@ -13,7 +13,7 @@ use Rattle.alphabet.specs.declared.answers.Refusal.the-variants.{None, NotAckno
 use Rattle.calendar.specs.declared.figures.Time.{Time}
 use Rattle.reading.specs.Message.{Opened}
 use Rattle.reading.specs.Reading.{reading}
-use Rattle.reading.specs.Segments.{delimitersOf, fieldSeparator, segments}
+use Rattle.reading.specs.Segments.{delimitersOf, fieldSeparator, segments, name}
 use Rattle.element.specs.Finding.{rawBytes}
 use Rattle.element.specs.States.{stateOf}
 use Rattle.element.specs.declared.address.Address.{Address}
@@ -21,8 +21,9 @@ use Rattle.element.specs.declared.states.State.the-variants.{Present}
 use Rattle.text.specs.Escape.{escape}
 use Rattle.text.specs.Unescape.{text}
 use Rattle.text.specs.Answers.{unescaping}
-use Rattle.structure.specs.SegmentNames.{name, segmentNames}
-use Rattle.structure.specs.Structures.{ack, typeAddress, structureOf}
+use Rattle.structure.specs.SegmentNames.{segmentNames}
+use Rattle.element.specs.Addresses.{typeAddress}
+use Rattle.structure.specs.Structures.{ack, structureOf}
 use Rattle.structure.specs.Judged.{plain, Judged, Answers}
 use Rattle.structure.specs.declared.structures.Structure.the-variants.{Acknowledgement}
 use Rattle.verdict.specs.Verdicts.{Accepts}

@@ -3,7 +3,7 @@ use Prim.Native.Nat.{ℕ, _≤_}
 use mathlib.Core.Path.{_≡_}
 use mathlib.Core.List.{List}
 use lib.ListN.{length, take}
-use Rattle.alphabet.specs.Delimiters.{wrongDelimiter}
+use Rattle.alphabet.specs.Delimiters.{firstWrongDelimiter}
 use Rattle.alphabet.specs.Filling.{over}
 use Rattle.alphabet.specs.declared.answers.Answer.{Answer}
 use Rattle.alphabet.specs.declared.answers.Refusal.the-variants.{None}
@@ -18,4 +18,4 @@ left ds t d = take (answer (escaping ds t (length d)) .length) (filled (escaping
 -- length, and the second buffer, afterwards x, has the text at its front and is otherwise as it was
 abbrev pub ComesBack : List ℕ → List ℕ → ℕ → List ℕ → Answer → List ℕ → Type 0
 ComesBack ds t room e r x =
-    wrongDelimiter ds ≡ 5 → length (escape ds t) ≤ room → length t ≤ length e → (r ≡ record { kind = None; place = 0; length = length t }) × (x ≡ over t e)
+    firstWrongDelimiter ds ≡ 5 → length (escape ds t) ≤ room → length t ≤ length e → (r ≡ record { kind = None; place = 0; length = length t }) × (x ≡ over t e)

@@ -4,7 +4,7 @@
 ghost use mathlib.Core.Path.{_≡_};
 ghost use Prim.Native.Nat.{_≤_};
 ghost use lib.ListN.{length, take};
-ghost use Rattle.alphabet.specs.Delimiters.{wrongDelimiter};
+ghost use Rattle.alphabet.specs.Delimiters.{firstWrongDelimiter};
 ghost use Rattle.alphabet.specs.Filling.{over};
 ghost use Rattle.alphabet.specs.declared.answers.Refusal.the-variants.{None};
 ghost use Rattle.text.specs.Escape.{escape as Escape·escape};

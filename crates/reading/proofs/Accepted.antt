@@ -11,8 +11,8 @@ use lib.ListN.{length, getD, length-append}
 use lib.Seq.{getD-append-add}
 use borrow.Author.Tests.{leb-true, leb-false, ltb-true, ltb-false, eqb-true, eqb-false, not-false, le-leb, le-ltb, lt-ltb, eq-eqb, ne-eqb}
 use Rattle.alphabet.specs.Answers.{failsIf, inOrder}
-use Rattle.alphabet.specs.Bytes.{carriageReturn, allowed, forbidden}
-use Rattle.alphabet.specs.Delimiters.{wrongDelimiter}
+use Rattle.alphabet.specs.Bytes.{carriageReturn, allowed, notAllowed}
+use Rattle.alphabet.specs.Delimiters.{firstWrongDelimiter}
 use Rattle.alphabet.specs.Limits.{messageLimit, segmentLimit}
 use Rattle.alphabet.specs.Lists.{first}
 use Rattle.alphabet.specs.Parts.{grown, split}
@@ -143,9 +143,9 @@ opened-if m e =
     let size = or-neither (eqb (length m) 0) (ltb messageLimit (length m)) (passes-not _ Length 0 (a .0)) in
     let head = and-both (leb 9 (length m)) _ (not-false (headed m) (passes-not _ Header 0 (b .0))) in
     let name = and-both (isHeader m) _ (head .1) in
-    let least = ltb-false (wrongDelimiter (delimitersOf m)) 5 (passes-not _ Delimiter (3 + wrongDelimiter (delimitersOf m)) (c .0)) in
+    let least = ltb-false (firstWrongDelimiter (delimitersOf m)) 5 (passes-not _ Delimiter (3 + firstWrongDelimiter (delimitersOf m)) (c .0)) in
     let most = wrong-most (delimitersOf m) in
-    let clean = ltb-false (first forbidden m) (length m) (passes-not _ NotAllowed (first forbidden m) (d .0)) in
+    let clean = ltb-false (first notAllowed m) (length m) (passes-not _ NotAllowed (first notAllowed m) (d .0)) in
     record {
       some-bytes = positive (length m) (eqb-false (length m) 0 (size .0));
       most-bytes = ltb-false messageLimit (length m) (size .1);
@@ -153,7 +153,7 @@ opened-if m e =
       header = name .0;
       byte-eight = name .1;
       delimiters-right = omega arith;
-      all-allowed = λ i h. not-false (allowed (getD m i 0)) (first-before forbidden m i (omega arith));
+      all-allowed = λ i h. not-false (allowed (getD m i 0)) (first-before notAllowed m i (omega arith));
     }
 
 pub opening-if : (m : List ℕ) → Opened m → opening m ≡ Passes
@@ -161,14 +161,14 @@ unfolding opening
 opening-if m o =
     let lengths = neither-or (ne-eqb (length m) 0 (λ z. let s = o .some-bytes in omega arith)) (le-ltb messageLimit (length m) (o .most-bytes)) in
     let head = both-and (le-leb 9 (length m) (o .nine-bytes)) (both-and (o .header) (o .byte-eight)) in
-    let right = le-ltb (wrongDelimiter (delimitersOf m)) 5 (let r = o .delimiters-right in omega arith) in
-    let clean = first-none forbidden m (λ i h. ap not (o .all-allowed i h)) in
-    let bytes = le-ltb (first forbidden m) (length m) (omega arith) in
+    let right = le-ltb (firstWrongDelimiter (delimitersOf m)) 5 (let r = o .delimiters-right in omega arith) in
+    let clean = first-none notAllowed m (λ i h. ap not (o .all-allowed i h)) in
+    let bytes = le-ltb (first notAllowed m) (length m) (omega arith) in
     rw (
       passes-if lengths Length 0,
       passes-if (ap not head) Header 0,
-      passes-if right Delimiter (3 + wrongDelimiter (delimitersOf m)),
-      passes-if bytes NotAllowed (first forbidden m),
+      passes-if right Delimiter (3 + firstWrongDelimiter (delimitersOf m)),
+      passes-if bytes NotAllowed (first notAllowed m),
     )
 
 -- ---- all checks pass, and `Message`

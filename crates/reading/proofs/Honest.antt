@@ -7,8 +7,8 @@ use native.Mathlib.Omega.{arith}
 use lib.Dec.{eqb, ltb}
 use lib.ListN.{length, getD}
 use Rattle.alphabet.specs.Answers.{numberOf, failsIf, inOrder}
-use Rattle.alphabet.specs.Bytes.{carriageReturn, forbidden}
-use Rattle.alphabet.specs.Delimiters.{wrongDelimiter}
+use Rattle.alphabet.specs.Bytes.{carriageReturn, notAllowed}
+use Rattle.alphabet.specs.Delimiters.{firstWrongDelimiter}
 use Rattle.alphabet.specs.Limits.{messageLimit, segmentLimit}
 use Rattle.alphabet.specs.Lists.{first}
 use Rattle.alphabet.specs.declared.answers.Check.the-variants.{Passes, Fails}
@@ -23,8 +23,8 @@ unfolding opening
 opening-numbered m =
     numbered-or 1 8 (lengthCheck m) _ (numbered-if 1 8 (eqb (length m) 0 || ltb messageLimit (length m)) Length 0 (omega arith, omega arith))
     (numbered-or 1 8 (headerCheck m) _ (numbered-if 1 8 (not (headed m)) Header 0 (omega arith, omega arith))
-    (numbered-or 1 8 (delimiterCheck m) _ (numbered-if 1 8 (ltb (wrongDelimiter (delimitersOf m)) 5) Delimiter (3 + wrongDelimiter (delimitersOf m)) (omega arith, omega arith))
-    (numbered-or 1 8 (byteCheck m) Passes (numbered-if 1 8 (ltb (first forbidden m) (length m)) NotAllowed (first forbidden m) (omega arith, omega arith)) tt)))
+    (numbered-or 1 8 (delimiterCheck m) _ (numbered-if 1 8 (ltb (firstWrongDelimiter (delimitersOf m)) 5) Delimiter (3 + firstWrongDelimiter (delimitersOf m)) (omega arith, omega arith))
+    (numbered-or 1 8 (byteCheck m) Passes (numbered-if 1 8 (ltb (first notAllowed m) (length m)) NotAllowed (first notAllowed m) (omega arith, omega arith)) tt)))
 
 segment-numbered : (sep k at : ℕ) (s : List ℕ) → Numbered 1 8 (segmentCheck sep k at s)
 segment-numbered sep k at s =

@@ -6,7 +6,7 @@ use mathlib.Core.Bool.{true, false, _||_}
 use lib.ListN.{length, getD}
 use lib.Dec.{eqb}
 use Rattle.alphabet.specs.Bytes.{carriageReturn, allowed}
-use Rattle.alphabet.specs.Delimiters.{wrongDelimiter}
+use Rattle.alphabet.specs.Delimiters.{firstWrongDelimiter}
 use Rattle.alphabet.specs.Limits.{messageLimit, segmentLimit}
 use Rattle.reading.specs.Segments.{segments, delimitersOf, fieldSeparator, named, isHeader}
 
@@ -25,7 +25,7 @@ pub record Opened (m : List ℕ) : Type 0 where
   pub header : isHeader m ≡ true
   pub byte-eight : (eqb (getD m 8 0) (fieldSeparator m) || eqb (getD m 8 0) carriageReturn) ≡ true
   -- "the five differ", and each is permitted: none of them is wrong
-  pub delimiters-right : wrongDelimiter (delimitersOf m) ≡ 5
+  pub delimiters-right : firstWrongDelimiter (delimitersOf m) ≡ 5
   -- "Allowed bytes"
   pub all-allowed : (i : ℕ) → i < length m → allowed (getD m i 0) ≡ true
 

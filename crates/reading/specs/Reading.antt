@@ -5,8 +5,8 @@ use mathlib.Core.Bool.{Bool, not, _&&_, _||_}
 use lib.ListN.{length, getD}
 use lib.Dec.{leb, ltb, eqb}
 use Rattle.alphabet.specs.Answers.{failsIf, inOrder}
-use Rattle.alphabet.specs.Bytes.{carriageReturn, forbidden}
-use Rattle.alphabet.specs.Delimiters.{wrongDelimiter}
+use Rattle.alphabet.specs.Bytes.{carriageReturn, notAllowed}
+use Rattle.alphabet.specs.Delimiters.{firstWrongDelimiter}
 use Rattle.alphabet.specs.Limits.{messageLimit, segmentLimit}
 use Rattle.alphabet.specs.Lists.{first}
 use Rattle.alphabet.specs.declared.answers.Check.{Check}
@@ -26,11 +26,11 @@ headerCheck m = failsIf (not (headed m)) Header 0
 
 -- 3: "first delimiter byte not permitted or equal to an earlier one"; its place counts from the message's start
 abbrev pub delimiterCheck : List ℕ → Check
-delimiterCheck m = failsIf (ltb (wrongDelimiter (delimitersOf m)) 5) Delimiter (3 + wrongDelimiter (delimitersOf m))
+delimiterCheck m = failsIf (ltb (firstWrongDelimiter (delimitersOf m)) 5) Delimiter (3 + firstWrongDelimiter (delimitersOf m))
 
 -- 4: "first byte not allowed"
 abbrev pub byteCheck : List ℕ → Check
-byteCheck m = failsIf (ltb (first forbidden m) (length m)) NotAllowed (first forbidden m)
+byteCheck m = failsIf (ltb (first notAllowed m) (length m)) NotAllowed (first notAllowed m)
 
 -- 1 to 4, which an acknowledgement asks of the header alone
 unfoldable pub opening : List ℕ → Check

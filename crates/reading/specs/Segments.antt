@@ -1,10 +1,11 @@
 -- A message's segments and its delimiters, by document 01, 'Bytes and segments'.
-use Prim.Native.Nat.{ℕ}
+use Prim.Native.Nat.{ℕ, _+_, _*_}
+use Prim.Native.String.{String}
 use mathlib.Core.List.{List, [], _∷_}
 use mathlib.Core.Bool.{Bool, _&&_, _||_}
 use lib.ListN.{length, getD}
 use lib.Dec.{eqb}
-use Rattle.alphabet.specs.Bytes.{carriageReturn, capital, digit}
+use Rattle.alphabet.specs.Bytes.{carriageReturn, capital, digit, ascii}
 use Rattle.alphabet.specs.Parts.{split, standing}
 use Rattle.alphabet.specs.declared.parts.Part.{Part}
 
@@ -43,3 +44,11 @@ named sep s =
 -- "Bytes 0 to 2 are `MSH`."
 abbrev pub isHeader : List ℕ → Bool
 isHeader s = eqb (getD s 0 0) 77 && (eqb (getD s 1 0) 83 && eqb (getD s 2 0) 72)
+
+-- "A segment's name is three bytes": as one number, in base 256, so that a list of names is a list of numbers; a byte that is not there counts as 0
+unfoldable pub nameOf : List ℕ → ℕ
+nameOf s = (getD s 0 0 * 256 + getD s 1 0) * 256 + getD s 2 0
+
+-- the name that three letters are
+abbrev pub name : String → ℕ
+name s = (getD (ascii s) 0 0 * 256 + getD (ascii s) 1 0) * 256 + getD (ascii s) 2 0

@@ -61,7 +61,7 @@ fn check_header(message: &[u8]) -> Check
 fn check_delimiters(message: &[u8]) -> Check
     ensures { λ r. ⌜ r ≡ delimiterCheck (now (message .entry)) ⌝ }
 {
-    let wrong = alphabet::wrong_delimiter(delimiters_of(message));
+    let wrong = alphabet::first_wrong_delimiter(delimiters_of(message));
     alphabet::fails_if(wrong < 5, Refusal::Delimiter, 3 + wrong)
 }
 

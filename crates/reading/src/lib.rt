@@ -10,6 +10,7 @@ ghost use Rattle.alphabet.specs.Answers.{answered};
 ghost use Rattle.reading.specs.Reading.{reading};
 pub use checks::check_opening;
 pub use segments::delimiters_of;
+pub use segments::name_of;
 pub use segments::segment_at;
 pub use segments::segment_end;
 

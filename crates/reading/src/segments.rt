@@ -7,7 +7,7 @@ ghost use lib.ListN.{drop};
 ghost use Rattle.alphabet.specs.Bytes.{carriageReturn};
 ghost use Rattle.alphabet.specs.Lists.{find};
 ghost use Rattle.alphabet.specs.Parts.{partAt};
-ghost use Rattle.reading.specs.Segments.{delimitersOf, segmentAt};
+ghost use Rattle.reading.specs.Segments.{delimitersOf, segmentAt, nameOf};
 
 // Bytes 3 to 7; 0 stands for a byte that is not there, and 0 is no delimiter.
 pub fn delimiters_of(message: &[u8]) -> Delimiters
@@ -74,4 +74,14 @@ pub fn segment_at(message: &[u8], index: usize) -> Part
         }
         Part::Absent => Part::Absent,
     }
+}
+
+// The name of a segment, its first three bytes, as one number in base 256.
+pub fn name_of(segment: &[u8]) -> u32
+    ensures { λ r. ⌜ r ≡ nameOf (now (segment .entry)) ⌝ }
+{
+    let first = alphabet::byte_at(segment, 0) as u32;
+    let second = alphabet::byte_at(segment, 1) as u32;
+    let third = alphabet::byte_at(segment, 2) as u32;
+    (first * 256 + second) * 256 + third
 }

@@ -1,11 +1,11 @@
 -- The table of document 01, 'Fields judged', as data. "Columns: part judged; type; R required; Y may repeat."
-use Prim.Native.Nat.{ℕ, _+_, _*_}
+use Prim.Native.Nat.{ℕ}
 use Prim.Native.String.{String}
 use mathlib.Core.List.{List, [], _∷_}
 use mathlib.Core.Bool.{Bool, true, false}
-use lib.ListN.{getD}
 use Rattle.alphabet.specs.Bytes.{ascii}
 use Rattle.alphabet.specs.Parts.{split}
+use Rattle.reading.specs.Segments.{name}
 use Rattle.rules.specs.declared.table.Values.{Values}
 use Rattle.rules.specs.declared.table.Values.the-variants.{Processing, Version, Sex, ValueTypes, Statuses, Codes}
 use Rattle.rules.specs.declared.table.Portion.{Portion}
@@ -17,10 +17,6 @@ use Rattle.rules.specs.declared.table.Row.{Row}
 -- the words of a text, which stand between its spaces
 abbrev pub words : String → List (List ℕ)
 words text = split 32 (ascii text)
-
--- three bytes as one number, the first highest; a byte that is not there counts as 0
-abbrev pub nameOf : List ℕ → ℕ
-nameOf s = getD s 0 0 * 65536 + (getD s 1 0 * 256 + getD s 2 0)
 
 -- the lists: "D, P, T"; "`2.4`"; "M, F, O, U"; "house cut of table 0125"; "table 0085"; "AA AE AR"
 unfoldable pub valuesOf : Values → List (List ℕ)
@@ -34,7 +30,7 @@ valuesOf Codes = words "AA AE AR"
 -- a row: segment, field, part judged, type, whether R, whether Y
 abbrev pub row : String → ℕ → Portion → Kind → Bool → Bool → Row
 row segment field portion kind required repeats =
-    record { segment = nameOf (ascii segment); field = field; portion = portion; kind = kind; required = required; repeats = repeats }
+    record { segment = name segment; field = field; portion = portion; kind = kind; required = required; repeats = repeats }
 
 abbrev pub R : Bool
 R = true

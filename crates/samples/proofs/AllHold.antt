@@ -1,7 +1,7 @@
 -- Every row of the table holds: each is computed, and the last three are the structure judge's own samples. Assumes nothing.
 use mathlib.Core.Path.{refl}
 use mathlib.Core.List.{List, [], _∷_, _++_}
-use Rattle.alphabet.specs.Delimiters.{wrongDelimiter}
+use Rattle.alphabet.specs.Delimiters.{firstWrongDelimiter}
 use Rattle.alphabet.specs.Digits.{allDigits, counted}
 use Rattle.alphabet.specs.Hex.{allHex, pairsOf}
 use Rattle.alphabet.specs.Limits.{messageLimit, segmentLimit}
@@ -29,19 +29,19 @@ both [] b p q = q
 both (r ∷ rest) b p q = (p .0, both rest b (p .1) q)
 
 texts : All ofText
-unfolding All ofText Holds first wrongDelimiter fitting escaping unescaping answer known meaning sequence step scan escape escapeBytes escapeByte allHex pairsOf
+unfolding All ofText Holds first firstWrongDelimiter fitting escaping unescaping answer known meaning sequence step scan escape escapeBytes escapeByte allHex pairsOf
 texts = (refl, (refl, (refl, (refl, (refl, (refl, tt))))))
 
 numbers : All ofNumbers
-unfolding All ofNumbers Holds numberFrom nmRead nmCheck nmValue nmForm unsigned allDigits counted bytesAt found lookupCheck reading opening messageLimit segmentLimit wrongDelimiter first segmentsCheck segmentChecks segments allButLast split segmentAt standing elementOf elementAt componentAt repetitionAt below partIn partAt fieldIn stateOf
+unfolding All ofNumbers Holds numberFrom nmRead nmCheck nmValue nmForm unsigned allDigits counted bytesAt found lookupCheck reading opening messageLimit segmentLimit firstWrongDelimiter first segmentsCheck segmentChecks segments allButLast split segmentAt standing elementOf elementAt componentAt repetitionAt below partIn partAt fieldIn stateOf
 numbers = (refl, (refl, ((refl, refl), ((refl, refl), ((refl, refl), (refl, ((refl, refl), tt)))))))
 
 times : All ofTimes
-unfolding All ofTimes Holds timeFrom timeRead isTime timeForm allDigits fractionForm zoneForm validDate dateOf figureAt counted validClock clockOf offsetOf bytesAt found lookupCheck reading opening messageLimit segmentLimit wrongDelimiter first segmentsCheck segmentChecks segments allButLast split segmentAt standing elementOf elementAt componentAt repetitionAt below partIn partAt fieldIn stateOf
+unfolding All ofTimes Holds timeFrom timeRead isTime timeForm allDigits fractionForm zoneForm validDate dateOf figureAt counted validClock clockOf offsetOf bytesAt found lookupCheck reading opening messageLimit segmentLimit firstWrongDelimiter first segmentsCheck segmentChecks segments allButLast split segmentAt standing elementOf elementAt componentAt repetitionAt below partIn partAt fieldIn stateOf
 times = ((refl, refl), ((refl, refl), ((refl, refl), tt)))
 
 states : All ofStates
-unfolding All ofStates Holds found lookupCheck reading opening messageLimit segmentLimit wrongDelimiter first segmentsCheck segmentChecks segments allButLast split segmentAt standing elementOf elementAt componentAt repetitionAt below partIn partAt fieldIn stateOf
+unfolding All ofStates Holds found lookupCheck reading opening messageLimit segmentLimit firstWrongDelimiter first segmentsCheck segmentChecks segments allButLast split segmentAt standing elementOf elementAt componentAt repetitionAt below partIn partAt fieldIn stateOf
 states = ((refl, refl), ((refl, refl), ((refl, refl), tt)))
 
 structures : All ofStructures

@@ -17,7 +17,7 @@ use Rattle.element.specs.declared.states.State.the-variants.{Absent, Empty, Pre
 use Rattle.value.specs.Asked.{nmFound, tsFound}
 use Rattle.text.specs.Unescape.{text}
 use Rattle.text.specs.Answers.{escaping, unescaping, answer}
-use Rattle.structure.specs.SegmentNames.{name}
+use Rattle.reading.specs.Segments.{name}
 use Rattle.structure.specs.Judged.{Answers, refusedAs}
 
 -- a row of the table

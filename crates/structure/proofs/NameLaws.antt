@@ -9,7 +9,8 @@ use borrow.Author.Tests.{eq-eqb, ne-eqb}
 use Rattle.alphabet.specs.Bytes.{ascii}
 use Rattle.alphabet.specs.Lists.{same}
 use Rattle.alphabet.proofs.ListLaws.{drop-next}
-use Rattle.structure.specs.SegmentNames.{nameOf, among, passedOver}
+use Rattle.reading.specs.Segments.{nameOf}
+use Rattle.structure.specs.SegmentNames.{among, passedOver}
 use Rattle.structure.specs.Structures.{admissionOf, chosen}
 use Rattle.structure.specs.declared.structures.Structure.{Structure}
 use Rattle.structure.specs.declared.structures.Structure.the-variants.{ObservationReport, Acknowledgement, Merge, Admission, Transfer, Unlisted}

@@ -59,9 +59,9 @@ named f (seg n s) k h =
 named f (opt b s) k h = ap₂ opt (named f b k (reads-left f k b s h)) (named f s (k + size b) (reads-right f k b s h))
 named f (rep b s) k h = ap₂ rep (named f b k (reads-left f k b s h)) (named f s (k + size b) (reads-right f k b s h))
 
-pub whole : (s : Shape) → relabel (nameAt s) (numbered 0 s) ≡ s
+pub relabelled : (s : Shape) → relabel (nameAt s) (numbered 0 s) ≡ s
 unfolding Reads
-whole s = named (nameAt s) s 0 (λ i l. ap (nameAt s) (zero-add i))
+relabelled s = named (nameAt s) s 0 (λ i l. ap (nameAt s) (zero-add i))
 
 -- what a relabelled structure spans comes from what the structure spans
 Back : (ℕ → ℕ) → Shape → List ℕ → List ℕ → Type 0
@@ -112,6 +112,6 @@ backs f (rep b s) ns ms d qs q = back-rep f b s (backs f b) (backs f s) d qs q
 pub yields-is : (s : Shape) (ns : List ℕ) → Yields s ns ↔ CouldEnd s ns
 unfolding Back Backs
 yields-is s ns = (
-  λ y. let k = backs (nameAt s) (numbered 0 s) ns [] (subst (λ (t : Shape). Spans t ns []) (sym (whole s)) y) [] refl in (k .0, k .2, k .1),
-  λ c. subst (λ (l : List ℕ). Spans s l []) (c .1) (subst (λ (t : Shape). Spans t (map (nameAt s) (c .0)) []) (whole s) (spans-map (nameAt s) (c .2))),
+  λ y. let k = backs (nameAt s) (numbered 0 s) ns [] (subst (λ (t : Shape). Spans t ns []) (sym (relabelled s)) y) [] refl in (k .0, k .2, k .1),
+  λ c. subst (λ (l : List ℕ). Spans s l []) (c .1) (subst (λ (t : Shape). Spans t (map (nameAt s) (c .0)) []) (relabelled s) (spans-map (nameAt s) (c .2))),
 )

@@ -7,9 +7,9 @@ use lib.ListN.{length, take, drop}
 use Rattle.alphabet.specs.Bytes.{carriageReturn}
 use Rattle.alphabet.specs.Lists.{find}
 use Rattle.alphabet.specs.Parts.{split}
-use Rattle.reading.specs.Segments.{allButLast, segments}
+use Rattle.reading.specs.Segments.{allButLast, segments, nameOf}
 use Rattle.reading.proofs.SegmentLaws.{segments-walk, segments-over}
-use Rattle.structure.specs.SegmentNames.{nameOf, segmentNames, passedOver}
+use Rattle.structure.specs.SegmentNames.{segmentNames, passedOver}
 use Rattle.structure.specs.Engine.{Entry, entry, stepped, stuckAt, endedWith, walked}
 use Rattle.structure.specs.declared.walking.Walked.the-variants.{Misplaced}
 

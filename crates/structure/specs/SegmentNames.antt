@@ -1,21 +1,9 @@
--- The names of a message's segments, and which segments are looked at. A name is a number, its three letters in base 256, so that a list of names is
--- a list of numbers.
-use Prim.Native.Nat.{ℕ, _+_, _*_, _/_}
-use Prim.Native.String.{String}
+-- The names of a message's segments, and which segments are looked at.
+use Prim.Native.Nat.{ℕ, _/_}
 use mathlib.Core.List.{List, [], _∷_, map}
 use mathlib.Core.Bool.{Bool, false, cond, not, _&&_, _||_}
-use lib.ListN.{getD}
 use lib.Dec.{eqb}
-use Rattle.alphabet.specs.Bytes.{ascii}
-use Rattle.reading.specs.Segments.{segments}
-
--- the name of a segment: its first three bytes
-unfoldable pub nameOf : List ℕ → ℕ
-nameOf s = (getD s 0 0 * 256 + getD s 1 0) * 256 + getD s 2 0
-
--- the name of three letters
-abbrev pub name : String → ℕ
-name s = (getD (ascii s) 0 0 * 256 + getD (ascii s) 1 0) * 256 + getD (ascii s) 2 0
+use Rattle.reading.specs.Segments.{segments, nameOf}
 
 -- the names of a message's segments, as sent
 unfoldable pub segmentNames : List ℕ → List ℕ

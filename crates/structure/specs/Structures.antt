@@ -9,10 +9,10 @@ use lib.Dec.{eqb}
 use Rattle.alphabet.specs.Bytes.{ascii}
 use Rattle.alphabet.specs.Lists.{same}
 use Rattle.element.specs.Finding.{rawBytes}
-use Rattle.element.specs.declared.address.Address.{Address}
+use Rattle.element.specs.Addresses.{typeAddress}
 use Rattle.structure.specs.Shapes.{Shape}
 use Rattle.structure.specs.Shapes.Shape.{end, seg, opt, rep}
-use Rattle.structure.specs.SegmentNames.{name}
+use Rattle.reading.specs.Segments.{name}
 use Rattle.structure.specs.declared.structures.Structure.{Structure}
 use Rattle.structure.specs.declared.structures.Structure.the-variants.{ObservationReport, Acknowledgement, Merge, Admission, Transfer, Unlisted}
 
@@ -79,10 +79,6 @@ lines = (refl, refl, refl, refl, refl)
 
 -- ---- the type
 
--- "components 1 and 2 of MSH-9, repetition 1, compared as raw bytes"
-abbrev pub typeAddress : ℕ → Address
-typeAddress k = record { segment = 0; field = 9; repetition = 1; component = k; subcomponent = 0 }
-
 -- "ADT^A40", "ADT^A01", "ADT^A02 and A12": by the event
 unfoldable pub admissionOf : List ℕ → Structure
 admissionOf event =
@@ -97,6 +93,7 @@ chosen type event =
     (cond (same type (ascii "ORU") && same event (ascii "R01")) ObservationReport
     (cond (same type (ascii "ADT")) (admissionOf event) Unlisted))
 
+-- "components 1 and 2 of MSH-9, repetition 1, compared as raw bytes"
 unfoldable pub structureOf : List ℕ → Structure
 structureOf m = chosen (rawBytes m (typeAddress 1)) (rawBytes m (typeAddress 2))
 

@@ -1,19 +1,9 @@
-// The name of a segment as one number, its three letters in base 256, and the Z segments that a structure does not name.
+// Names among names, and the Z segments that a structure does not name.
 ghost use mathlib.Core.Path.{_≡_};
-ghost use Rattle.structure.specs.SegmentNames.{nameOf, among, passedOver};
+ghost use Rattle.structure.specs.SegmentNames.{among, passedOver};
 
 // The letter with which the names of a house's own segments begin.
 const Z: u32 = 90;
-
-// The name of a segment: its first three bytes.
-pub fn name_of(segment: &[u8]) -> u32
-    ensures { λ r. ⌜ r ≡ nameOf (now (segment .entry)) ⌝ }
-{
-    let first = alphabet::byte_at(segment, 0) as u32;
-    let second = alphabet::byte_at(segment, 1) as u32;
-    let third = alphabet::byte_at(segment, 2) as u32;
-    (first * 256 + second) * 256 + third
-}
 
 // Whether a name is one of some names.
 pub fn is_among(names: &[u32], name: u32) -> bool

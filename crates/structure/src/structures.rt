@@ -6,9 +6,9 @@ use crate::judging::judge_by;
 use crate::judging::plain;
 use crate::walking::Next;
 use alphabet::Refusal;
-use element::Address;
+use element::type_address;
 ghost use mathlib.Core.Path.{_≡_};
-ghost use Rattle.structure.specs.Structures.{admissionOf, structureOf, typeAddress};
+ghost use Rattle.structure.specs.Structures.{admissionOf, structureOf};
 ghost use Rattle.structure.specs.Judged.{Structured};
 
 // The structures that are listed; a type that chooses none is unlisted.
@@ -171,19 +171,6 @@ fn admission_of(event: &[u8]) -> Structure
         return Structure::Transfer;
     }
     Structure::Unlisted
-}
-
-// Where a component of the type stands.
-fn type_address(component: usize) -> Address
-    ensures { λ r. ⌜ r ≡ typeAddress component ⌝ }
-{
-    Address {
-        segment: 0,
-        field: 9,
-        repetition: 1,
-        component: component,
-        subcomponent: 0,
-    }
 }
 
 // The structure that the type of a message chooses.

@@ -1,7 +1,6 @@
 // The walk over a message's segments by the tables of a structure. What is known is a set of places, those that could be
 // filled next, as the bits of one number, and whether the message could end; each segment name steps it.
 use crate::names::is_passed_over;
-use crate::names::name_of;
 ghost use mathlib.Core.Path.{_≡_};
 ghost use Prim.Native.Nat.{_≤_};
 ghost use lib.ListN.{length};
@@ -77,7 +76,7 @@ pub fn walk(message: &[u8], names: &[u32], follow: &[u64], last: u64, begin: Nex
         if end == message.len() {
             return ended(next, number);
         }
-        let name = name_of(&message[start..end]);
+        let name = reading::name_of(&message[start..end]);
         if !is_passed_over(names, name) {
             let stepped = step(names, follow, last, next.places, name);
             if (stepped.places == 0) & !stepped.ends {

@@ -9,7 +9,7 @@ use lib.ListN.{length, getD, length-append}
 use borrow.Author.Tests.{leb-true, leb-false, lt-ltb, le-ltb, le-leb, lt-leb}
 use Rattle.alphabet.specs.Lists.{find}
 use Rattle.alphabet.specs.Bytes.{printable, hexDigit, isNull}
-use Rattle.alphabet.specs.Delimiters.{wrongDelimiter}
+use Rattle.alphabet.specs.Delimiters.{firstWrongDelimiter}
 use Rattle.alphabet.specs.declared.answers.Refusal.{Refusal}
 use Rattle.alphabet.specs.declared.answers.Refusal.the-variants.{Delimiter, NoRoom, NullText}
 use Rattle.alphabet.proofs.NullLaws.{two-quotes}
@@ -83,15 +83,15 @@ escape-most ds t = at (isNull t) refl
     at true e = omega (arith, ap length (two-quotes t e))
     at false e = bytes-most ds t
 
-pub escaping-bad : (ds t : List ℕ) (room : ℕ) → wrongDelimiter ds < 5 → escaping ds t room ≡ fault Delimiter (wrongDelimiter ds)
+pub escaping-bad : (ds t : List ℕ) (room : ℕ) → firstWrongDelimiter ds < 5 → escaping ds t room ≡ fault Delimiter (firstWrongDelimiter ds)
 unfolding escaping
 escaping-bad ds t room h = rw (lt-ltb _ _ h)
 
-pub escaping-fits : (ds t w : List ℕ) (room : ℕ) → 5 ≤ wrongDelimiter ds → escape ds t ≡ w → length w ≤ room → escaping ds t room ≡ text w
+pub escaping-fits : (ds t w : List ℕ) (room : ℕ) → 5 ≤ firstWrongDelimiter ds → escape ds t ≡ w → length w ≤ room → escaping ds t room ≡ text w
 unfolding escaping fitting
 escaping-fits ds t w room h e l = rw (le-ltb _ _ h) (rw e (rw (le-leb _ _ l)))
 
-pub escaping-long : (ds t w : List ℕ) (room : ℕ) → 5 ≤ wrongDelimiter ds → escape ds t ≡ w → room < length w → escaping ds t room ≡ fault NoRoom 0
+pub escaping-long : (ds t w : List ℕ) (room : ℕ) → 5 ≤ firstWrongDelimiter ds → escape ds t ≡ w → room < length w → escaping ds t room ≡ fault NoRoom 0
 unfolding escaping fitting
 escaping-long ds t w room h e l = rw (le-ltb _ _ h) (rw e (rw (lt-leb _ _ l)))
 
@@ -108,11 +108,11 @@ judged-fault (text t) k p e = absurd (let z : _≡_ {A = ℕ} 0 1 = cc in omega 
 judged-fault (fault j q) k p e = cc
 
 module _ (ds s : List ℕ) (room : ℕ) where
-  pub unescaping-bad : wrongDelimiter ds < 5 → unescaping ds s room ≡ fault Delimiter (wrongDelimiter ds)
+  pub unescaping-bad : firstWrongDelimiter ds < 5 → unescaping ds s room ≡ fault Delimiter (firstWrongDelimiter ds)
   unfolding unescaping
   unescaping-bad h = rw (lt-ltb _ _ h)
 
-  module _ (h : 5 ≤ wrongDelimiter ds) where
+  module _ (h : 5 ≤ firstWrongDelimiter ds) where
     pub unescaping-null : isNull s ≡ true → unescaping ds s room ≡ fault NullText 0
     unfolding unescaping
     unescaping-null e = rw (le-ltb _ _ h) (rw e)

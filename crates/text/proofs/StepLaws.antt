@@ -40,9 +40,9 @@ module _ (ds : List ℕ) (b : ℕ) (r : List ℕ) where
   unfolding step sequence
   step-unclosed q h = rw (eq-eqb b (escapeOf ds) q) (rw (le-ltb _ _ h))
 
-  pub step-forbidden : (b ≡ escapeOf ds → ⊥) → printable b ≡ false → step ds b r ≡ stop NotAllowed
+  pub step-unprintable : (b ≡ escapeOf ds → ⊥) → printable b ≡ false → step ds b r ≡ stop NotAllowed
   unfolding step
-  step-forbidden n a = rw (ne-eqb b (escapeOf ds) n) (rw a)
+  step-unprintable n a = rw (ne-eqb b (escapeOf ds) n) (rw a)
 
   pub step-separator : (b ≡ escapeOf ds → ⊥) → printable b ≡ true → find b ds < 5 → step ds b r ≡ stop Separator
   unfolding step
@@ -211,4 +211,4 @@ module _ (ds s : List ℕ) (i : ℕ) (h : i < length s) (good : isText (scan ds 
       at : (t : Bool) → printable b ≡ t → (u : Bool) → ltb (find b ds) 5 ≡ u → (printable b ≡ true) × (5 ≤ find b ds)
       at true e true f = absurd (text-step Separator (step-separator ds b r q e (ltb-true (find b ds) 5 f)))
       at true e false f = (e, ltb-false (find b ds) 5 f)
-      at false e u f = absurd (text-step NotAllowed (step-forbidden ds b r q e))
+      at false e u f = absurd (text-step NotAllowed (step-unprintable ds b r q e))

@@ -7,7 +7,7 @@ use lib.ListN.{length}
 use lib.Dec.{leb, ltb}
 use Rattle.alphabet.specs.Bytes.{isNull}
 use Rattle.alphabet.specs.Filling.{over}
-use Rattle.alphabet.specs.Delimiters.{wrongDelimiter}
+use Rattle.alphabet.specs.Delimiters.{firstWrongDelimiter}
 use Rattle.alphabet.specs.declared.answers.Refusal.the-variants.{None, Delimiter, NoRoom, NullText}
 use Rattle.alphabet.specs.declared.answers.Answer.{Answer}
 use Rattle.text.specs.Escape.{escape}
@@ -25,12 +25,12 @@ fitting room (text t) = cond (leb (length t) room) (text t) (fault NoRoom 0)
 -- "Escaping: 3, then 14."
 unfoldable pub escaping : List ℕ → List ℕ → ℕ → Outcome
 escaping ds t room =
-    cond (ltb (wrongDelimiter ds) 5) (fault Delimiter (wrongDelimiter ds)) (fitting room (text (escape ds t)))
+    cond (ltb (firstWrongDelimiter ds) 5) (fault Delimiter (firstWrongDelimiter ds)) (fitting room (text (escape ds t)))
 
 -- "Unescaping: 3, then 15, then the leftmost of 4, 11, 12, 13, then 14."
 unfoldable pub unescaping : List ℕ → List ℕ → ℕ → Outcome
 unescaping ds s room =
-    cond (ltb (wrongDelimiter ds) 5) (fault Delimiter (wrongDelimiter ds))
+    cond (ltb (firstWrongDelimiter ds) 5) (fault Delimiter (firstWrongDelimiter ds))
     (cond (isNull s) (fault NullText 0) (fitting room (scan ds 0 0 s)))
 
 -- "its length is given"; "A refusal gives number and place, length 0"

@@ -7,7 +7,7 @@ use mathlib.Core.Bool.{true, false}
 use lib.ListN.{length}
 use Rattle.alphabet.specs.Lists.{find}
 use Rattle.alphabet.specs.Bytes.{printable}
-use Rattle.alphabet.specs.Delimiters.{wrongDelimiter}
+use Rattle.alphabet.specs.Delimiters.{firstWrongDelimiter}
 use Rattle.alphabet.specs.declared.answers.Refusal.{Refusal}
 use Rattle.alphabet.specs.declared.answers.Refusal.the-variants.{Delimiter, NotAllowed, Separator, UnknownEscape, UnclosedEscape, NoRoom, NullText}
 use Rattle.text.specs.Escape.{escapeOf}
@@ -23,7 +23,7 @@ pub data Reads (ds : List ℕ) : List ℕ → List ℕ → Type 0 where
 -- what is wrong at the first byte: "first byte not allowed; in text, CR too", "raw separator other than the escape in text", "unknown escape; escape
 -- never closed"
 pub data Stops (ds : List ℕ) : List ℕ → Refusal → Type 0 where
-  forbidden : (b : ℕ) (r : List ℕ) → (b ≡ escapeOf ds → ⊥) → printable b ≡ false → Stops ds (b ∷ r) NotAllowed
+  unprintable : (b : ℕ) (r : List ℕ) → (b ≡ escapeOf ds → ⊥) → printable b ≡ false → Stops ds (b ∷ r) NotAllowed
   separator : (b : ℕ) (r : List ℕ) → (b ≡ escapeOf ds → ⊥) → printable b ≡ true → find b ds < 5 → Stops ds (b ∷ r) Separator
   unknown : (c r : List ℕ) → find (escapeOf ds) c ≡ length c → known c ≡ false → Stops ds (escapeOf ds ∷ (c ++ escapeOf ds ∷ r)) UnknownEscape
   unclosed : (r : List ℕ) → find (escapeOf ds) r ≡ length r → Stops ds (escapeOf ds ∷ r) UnclosedEscape
@@ -33,15 +33,15 @@ pub record Refuses (ds s : List ℕ) (k : Refusal) (place : ℕ) : Type 0 where
   pub front : List ℕ
   pub rest : List ℕ
   pub said : List ℕ
-  pub whole : s ≡ front ++ rest
+  pub made-of : s ≡ front ++ rest
   pub reads : Reads ds front said
   pub stops : Stops ds rest k
   pub there : length front ≡ place
 
 -- "Unescaping: 3, then 15, then the leftmost of 4, 11, 12, 13, then 14.": each outcome, and when it is
 pub data Unescapes (ds s : List ℕ) (room : ℕ) : Outcome → Type 0 where
-  delimiter : wrongDelimiter ds < 5 → Unescapes ds s room (fault Delimiter (wrongDelimiter ds))
-  null : 5 ≤ wrongDelimiter ds → s ≡ 34 ∷ 34 ∷ [] → Unescapes ds s room (fault NullText 0)
-  refused : 5 ≤ wrongDelimiter ds → (s ≡ 34 ∷ 34 ∷ [] → ⊥) → (k : Refusal) (p : ℕ) → Refuses ds s k p → Unescapes ds s room (fault k p)
-  long : 5 ≤ wrongDelimiter ds → (s ≡ 34 ∷ 34 ∷ [] → ⊥) → (t : List ℕ) → Reads ds s t → room < length t → Unescapes ds s room (fault NoRoom 0)
-  written : 5 ≤ wrongDelimiter ds → (s ≡ 34 ∷ 34 ∷ [] → ⊥) → (t : List ℕ) → Reads ds s t → length t ≤ room → Unescapes ds s room (text t)
+  delimiter : firstWrongDelimiter ds < 5 → Unescapes ds s room (fault Delimiter (firstWrongDelimiter ds))
+  null : 5 ≤ firstWrongDelimiter ds → s ≡ 34 ∷ 34 ∷ [] → Unescapes ds s room (fault NullText 0)
+  refused : 5 ≤ firstWrongDelimiter ds → (s ≡ 34 ∷ 34 ∷ [] → ⊥) → (k : Refusal) (p : ℕ) → Refuses ds s k p → Unescapes ds s room (fault k p)
+  long : 5 ≤ firstWrongDelimiter ds → (s ≡ 34 ∷ 34 ∷ [] → ⊥) → (t : List ℕ) → Reads ds s t → room < length t → Unescapes ds s room (fault NoRoom 0)
+  written : 5 ≤ firstWrongDelimiter ds → (s ≡ 34 ∷ 34 ∷ [] → ⊥) → (t : List ℕ) → Reads ds s t → length t ≤ room → Unescapes ds s room (text t)

@@ -7,7 +7,7 @@ use lib.ListN.{length, getD, take, drop}
 use Rattle.alphabet.specs.Bytes.{fromTo}
 use Rattle.alphabet.specs.Digits.{allDigits, decimal}
 use Rattle.alphabet.specs.Lists.{find}
-use Rattle.numbers.specs.Numbers.{whole}
+use Rattle.numbers.specs.Numbers.{beforePoint}
 use Rattle.calendar.specs.Calendar.{noDate, noClock, noOffset, noTime, validDate, validClock, validOffset}
 use Rattle.calendar.specs.declared.figures.Figure.{Figure}
 use Rattle.calendar.specs.declared.figures.Figure.the-variants.{NotSent, Sent}
@@ -65,7 +65,7 @@ abbrev pub zoneOf : List ℕ → List ℕ
 zoneOf l = drop (min (find 43 l) (find 45 l)) l
 
 abbrev pub frontOf : List ℕ → List ℕ
-frontOf l = whole (bodyOf l)
+frontOf l = beforePoint (bodyOf l)
 
 abbrev pub tailOf : List ℕ → List ℕ
 tailOf l = drop (find 46 (bodyOf l)) (bodyOf l)

@@ -106,7 +106,7 @@ pub fn is_time(dated: bool, bytes: &[u8]) -> bool
     ensures { λ r. ⌜ r ≡ isTime dated (now (bytes .entry)) ⌝ }
 {
     let body = body_of(bytes);
-    let front = numbers::whole_of(body);
+    let front = numbers::before_point(body);
     let tail = from_point(body);
     if !has_form(dated, front, tail, zone_behind(bytes, body)) {
         return false;

@@ -41,7 +41,7 @@ fn time_of(dated: bool, bytes: &[u8]) -> Time
     ensures { λ r. ⌜ r ≡ timeOf dated (now (bytes .entry)) ⌝ }
 {
     let body = body_of(bytes);
-    let front = numbers::whole_of(body);
+    let front = numbers::before_point(body);
     let tail = from_point(body);
     let offset = offset_of(zone_behind(bytes, body));
     let start = if dated { 8 } else { 0 };

@@ -9,7 +9,7 @@ returns : tie.Need-returns
 returns c = rw (eq-eqb _ 0 (c .if1 .taken))
 
 returns-2 : tie.Need-returns-2
-returns-2 c = rw (ne-eqb (c .before .before .before .before .before .args .number) 0 (c .before .before .before .if1 .left), sym (c .before .before .byte-at .ensures), sym (c .before .byte-at2 .ensures), sym (c .byte-at3 .ensures))
+returns-2 c = rw (ne-eqb (c .before .before .before .args .number) 0 (c .before .if1 .left)) (c .name-of .ensures)
 
 pub name-of-spec : {M : Type 1} → statement M
 name-of-spec =
@@ -17,13 +17,4 @@ name-of-spec =
     (tie.spec
     returns
     (λ c κs. search needs)
-    (λ c. search needs)
-    (λ c κs. search needs)
-    (λ c. search needs)
-    (λ c κs. search needs)
-    (λ c. search needs)
-    (λ c. search needs)
-    (λ c. search needs)
-    (λ c. search needs)
-    (λ c. search needs)
     returns-2)

@@ -9,7 +9,7 @@ use denote.Ref.{now}
 use Rattle.alphabet.specs.Answers.{numberOf}
 use Rattle.alphabet.specs.declared.answers.Refusal.{Refusal}
 use Rattle.alphabet.specs.declared.answers.Refusal.the-variants.{None}
-use Rattle.alphabet.specs.Delimiters.{wrongDelimiter}
+use Rattle.alphabet.specs.Delimiters.{firstWrongDelimiter}
 use Rattle.reading.specs.Segments.{delimitersOf}
 use Rattle.text.specs.Unescape.{fault}
 use Rattle.text.specs.Answers.{answer}
@@ -46,7 +46,7 @@ write-requires c κs =
     let n = nothing-against m (now (a .time)) (now (a .id)) (nothing e) in
     let o = sound-header m (n .2) in (
       omega (arith, ap length (h .header-of .ensures), o .nine-bytes),
-      (ap (λ (x : List ℕ). wrongDelimiter (delimitersOf x)) (h .header-of .ensures) ∙ o .delimiters-right, id-short m (now (a .time)) (now (a .id)) (n .1)),
+      (ap (λ (x : List ℕ). firstWrongDelimiter (delimitersOf x)) (h .header-of .ensures) ∙ o .delimiters-right, id-short m (now (a .time)) (now (a .id)) (n .1)),
     )
 
 returns-2 : tie.Need-returns-2

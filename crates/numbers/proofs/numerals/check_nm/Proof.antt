@@ -2,8 +2,8 @@
 use borrow.Author.Needs.{needs}
 use lib.ListN.{length-append}
 use Rattle.alphabet.proofs.CheckLaws.{ends}
-use Rattle.numbers.specs.Numbers.{nmForm, nmCheck, unsigned, whole, fraction}
-use Rattle.numbers.proofs.NumberLaws.{whole-length}
+use Rattle.numbers.specs.Numbers.{nmForm, nmCheck, unsigned, beforePoint, fraction}
+use Rattle.numbers.proofs.NumberLaws.{point-length}
 use denote.Ref.{now}
 use Rattle.numbers.proofs.numerals.check_nm.Statement.{statement}
 use Rattle.numbers.proofs.numerals.check_nm.Tie as tie
@@ -12,7 +12,7 @@ returns : tie.Need-returns
 unfolding nmCheck nmForm
 returns c =
     let u = unsigned (now (c .before .before .before .before .before .before .before .before .before .args .bytes)) in
-    cc (whole-length u, length-append (whole u) (fraction u), ends (c .before .fails-if2 .ensures))
+    cc (point-length u, length-append (beforePoint u) (fraction u), ends (c .before .fails-if2 .ensures))
 
 pub check-nm-spec : {M : Type 1} → statement M
 check-nm-spec =

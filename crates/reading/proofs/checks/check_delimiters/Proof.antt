@@ -1,4 +1,4 @@
--- Rests on what `delimiters_of`, `wrong_delimiter` and `fails_if` give; a wrong place is at most 5.
+-- Rests on what `delimiters_of`, `first_wrong_delimiter` and `fails_if` give; a wrong place is at most 5.
 use borrow.Author.Needs.{needs}
 use native.Mathlib.Omega.{arith}
 use Rattle.alphabet.proofs.DelimiterLaws.{wrong-most}
@@ -6,7 +6,7 @@ use Rattle.reading.proofs.checks.check_delimiters.Statement.{statement}
 use Rattle.reading.proofs.checks.check_delimiters.Tie as tie
 
 add-fails-if : tie.Need-add-fails-if
-add-fails-if c = omega (arith, c .wrong-delimiter .ensures, wrong-most (c .before .delimiters-of .result .bytes))
+add-fails-if c = omega (arith, c .first-wrong-delimiter .ensures, wrong-most (c .before .delimiters-of .result .bytes))
 
 pub check-delimiters-spec : {M : Type 1} → statement M
 check-delimiters-spec =

@@ -7,7 +7,8 @@ use borrow.Author.Needs.{needs}
 use denote.Ref.{now}
 use Rattle.element.specs.Finding.{rawBytes}
 use Rattle.element.specs.declared.address.Address.{Address}
-use Rattle.structure.specs.Structures.{chosen, structureOf, typeAddress}
+use Rattle.element.specs.Addresses.{typeAddress}
+use Rattle.structure.specs.Structures.{chosen, structureOf}
 use Rattle.structure.specs.declared.structures.Structure.{Structure}
 use Rattle.structure.proofs.NameLaws.{is-acknowledgement, is-report, is-adt, is-none}
 use Rattle.structure.proofs.structures.structure_of.Statement.{statement}

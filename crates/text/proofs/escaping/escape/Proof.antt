@@ -22,7 +22,7 @@ unfolding answer filled
 returns c =
     let a = c .before .before .before .before .before .args in
     let e = escaping-bad (a .delimiters .bytes) (now (a .text)) (length (now (a .buffer))) (omega arith) in
-    let r = ended _ _ (now (a .buffer)) (e ∙ ap (fault Delimiter) (sym (c .before .before .wrong-delimiter .ensures))) in
+    let r = ended _ _ (now (a .buffer)) (e ∙ ap (fault Delimiter) (sym (c .before .before .first-wrong-delimiter .ensures))) in
     (c .refused .ensures ∙ r .0, r .1)
 
 returns-2 : tie.Need-returns-2

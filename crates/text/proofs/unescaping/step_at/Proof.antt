@@ -12,7 +12,7 @@ use Rattle.text.specs.Escape.{escapeOf}
 use Rattle.alphabet.specs.Lists.{find}
 use Rattle.text.specs.Unescape.{sequence}
 use Rattle.text.specs.Answers.{seen}
-use Rattle.text.proofs.StepLaws.{step-opens, step-forbidden, step-separator, step-plain}
+use Rattle.text.proofs.StepLaws.{step-opens, step-unprintable, step-separator, step-plain}
 use Rattle.text.proofs.unescaping.step_at.Statement.{statement}
 use Rattle.text.proofs.unescaping.step_at.Tie as tie
 
@@ -31,7 +31,7 @@ returns-2 c =
     let o = c .before .before in
     let a = o .before .before .before .before .args in
     let s = now (a .text) in
-    ap seen (sym (step-forbidden (a .delimiters .bytes) (getD s (a .i) 0) (drop (a .i + 1) s) (o .if1 .left) (sym (c .before .is-printable .ensures) ∙ not-true _ (c .if2 .taken))))
+    ap seen (sym (step-unprintable (a .delimiters .bytes) (getD s (a .i) 0) (drop (a .i + 1) s) (o .if1 .left) (sym (c .before .is-printable .ensures) ∙ not-true _ (c .if2 .taken))))
 
 returns-3 : tie.Need-returns-3
 unfolding seen

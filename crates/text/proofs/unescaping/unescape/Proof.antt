@@ -24,7 +24,7 @@ returns c =
     let s = now (a .text) in
     let d = now (a .buffer) in
     let e = unescaping-bad ds s (length d) (omega arith) in
-    let r = ended _ _ d (e ∙ ap (fault Delimiter) (sym (c .before .before .wrong-delimiter .ensures))) in
+    let r = ended _ _ d (e ∙ ap (fault Delimiter) (sym (c .before .before .first-wrong-delimiter .ensures))) in
     (c .refused .ensures ∙ r .0, r .1)
 
 returns-2 : tie.Need-returns-2

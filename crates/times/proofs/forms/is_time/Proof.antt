@@ -9,7 +9,7 @@ use lib.ListN.{length, drop}
 use borrow.Author.Tests.{not-true, not-false}
 use Rattle.alphabet.specs.Digits.{allDigits}
 use Rattle.alphabet.specs.Lists.{find}
-use Rattle.numbers.specs.Numbers.{whole}
+use Rattle.numbers.specs.Numbers.{beforePoint}
 use Rattle.times.specs.Times.{frontOf, tailOf, clockStart, partsForm, timeForm}
 use Rattle.times.proofs.TimeLaws.{front-digits, tail-holds, time-form, time-not}
 use native.Mathlib.Omega.{arith}
@@ -17,8 +17,8 @@ use denote.Ref.{now}
 use Rattle.times.proofs.forms.is_time.Statement.{statement}
 use Rattle.times.proofs.forms.is_time.Tie as tie
 
-front-is : (c : tie.After-whole-of) → now (c .whole-of .result) ≡ frontOf (now (c .before .before .before .args .bytes))
-front-is c = c .whole-of .ensures ∙ ap whole (c .before .body-of .ensures)
+front-is : (c : tie.After-before-point) → now (c .before-point .result) ≡ frontOf (now (c .before .before .before .args .bytes))
+front-is c = c .before-point .ensures ∙ ap beforePoint (c .before .body-of .ensures)
 
 tail-is : (c : tie.After-from-point) → now (c .from-point .result) ≡ tailOf (now (c .before .before .before .before .args .bytes))
 tail-is c = c .from-point .ensures ∙ ap (λ (l : List ℕ). drop (find 46 l) l) (c .before .before .body-of .ensures)
@@ -37,7 +37,7 @@ returns c =
     let a = c .before .before .before .before .before .before .before .args in
     sym (time-not (a .dated) (now (a .bytes)) (sym (formed (c .before)) ∙ not-true _ (c .if1 .taken)))
 
-digits : (c : tie.Else1) → allDigits (now (c .before .before .before .before .whole-of .result)) ≡ true
+digits : (c : tie.Else1) → allDigits (now (c .before .before .before .before .before-point .result)) ≡ true
 digits c =
     let a = c .before .before .before .before .before .before .before .args in
     ap allDigits (front-is (c .before .before .before .before)) ∙ front-digits (a .dated) (now (a .bytes)) (form c)

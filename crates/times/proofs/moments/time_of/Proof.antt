@@ -8,7 +8,7 @@ use mathlib.Core.Logic.{⊎-elim}
 use lib.ListN.{length, drop}
 use Rattle.alphabet.specs.Digits.{allDigits}
 use Rattle.alphabet.specs.Lists.{find}
-use Rattle.numbers.specs.Numbers.{whole}
+use Rattle.numbers.specs.Numbers.{beforePoint}
 use Rattle.times.specs.Times.{frontOf, tailOf, clockStart, timeForm, timeOf}
 use Rattle.times.proofs.TimeLaws.{front-digits, tail-holds, zone-held, time-formed}
 use native.Mathlib.Omega.{arith}
@@ -19,13 +19,13 @@ use Rattle.times.proofs.moments.time_of.Tie as tie
 form : (c : tie.Start) → timeForm (c .args .dated) (now (c .args .bytes)) ≡ true
 form c = time-formed (c .args .dated) (now (c .args .bytes)) (c .pre)
 
-front-is : (c : tie.After-whole-of) → now (c .whole-of .result) ≡ frontOf (now (c .before .before .before .args .bytes))
-front-is c = c .whole-of .ensures ∙ ap whole (c .before .body-of .ensures)
+front-is : (c : tie.After-before-point) → now (c .before-point .result) ≡ frontOf (now (c .before .before .before .args .bytes))
+front-is c = c .before-point .ensures ∙ ap beforePoint (c .before .body-of .ensures)
 
 tail-is : (c : tie.After-from-point) → now (c .from-point .result) ≡ tailOf (now (c .before .before .before .before .args .bytes))
 tail-is c = c .from-point .ensures ∙ ap (λ (l : List ℕ). drop (find 46 l) l) (c .before .before .body-of .ensures)
 
-digits : (c : tie.After-whole-of) → allDigits (now (c .whole-of .result)) ≡ true
+digits : (c : tie.After-before-point) → allDigits (now (c .before-point .result)) ≡ true
 digits c =
     let s = c .before .before .before in
     ap allDigits (front-is c) ∙ front-digits (s .args .dated) (now (s .args .bytes)) (form s)

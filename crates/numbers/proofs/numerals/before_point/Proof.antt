@@ -8,14 +8,14 @@ use lib.Seq.{length-take-le}
 use Rattle.alphabet.proofs.ListLaws.{first-le}
 use native.Mathlib.Omega.{arith}
 use denote.Ref.{now}
-use Rattle.numbers.proofs.numerals.whole_of.Statement.{statement}
-use Rattle.numbers.proofs.numerals.whole_of.Tie as tie
+use Rattle.numbers.proofs.numerals.before_point.Statement.{statement}
+use Rattle.numbers.proofs.numerals.before_point.Tie as tie
 
 within : (c : tie.After-find) → c .find .result ≤ length (now (c .before .before .args .bytes))
 within c = let u = first-le (eqb 46) (now (c .before .before .args .bytes)) in omega (arith, c .find .ensures)
 
-pub whole-of-spec : {M : Type 1} → statement M
-whole-of-spec =
+pub before-point-spec : {M : Type 1} → statement M
+before-point-spec =
     tie.close
     (tie.spec
     (λ c κs. search needs)

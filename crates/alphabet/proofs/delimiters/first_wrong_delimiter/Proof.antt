@@ -7,19 +7,19 @@ use native.Mathlib.Nat.{zero-add}
 use borrow.Author.Needs.{needs}
 use borrow.Author.Tests.{not-true, not-false}
 use Rattle.alphabet.specs.Lists.{first}
-use Rattle.alphabet.specs.Delimiters.{wrong, places, wrongDelimiter}
+use Rattle.alphabet.specs.Delimiters.{wrong, places, firstWrongDelimiter}
 use Rattle.alphabet.proofs.DelimiterLaws.{wrong-not-permitted, wrong-again, right, wrong-here, wrong-past, wrong-end}
-use Rattle.alphabet.proofs.delimiters.wrong_delimiter.Statement.{statement}
-use Rattle.alphabet.proofs.delimiters.wrong_delimiter.Tie as tie
+use Rattle.alphabet.proofs.delimiters.first_wrong_delimiter.Statement.{statement}
+use Rattle.alphabet.proofs.delimiters.first_wrong_delimiter.Tie as tie
 
 abbrev Inv-loop : tie.InvT-loop
-Inv-loop bytes i₀ i = (i ≤ 5) × (wrongDelimiter bytes ≡ i + first (wrong bytes) (drop i places))
+Inv-loop bytes i₀ i = (i ≤ 5) × (firstWrongDelimiter bytes ≡ i + first (wrong bytes) (drop i places))
 
 abbrev μ-loop : tie.MeasureT-loop
 μ-loop bytes i₀ i = 5 - i
 
 loop-holds : tie.Need-loop-holds Inv-loop μ-loop
-unfolding wrongDelimiter
+unfolding firstWrongDelimiter
 loop-holds c = (omega arith, sym (zero-add _))
 
 returns : tie.Need-returns Inv-loop μ-loop
@@ -52,8 +52,8 @@ returns-3 c =
     let z = wrong-end (l .before .before .args .delimiters .bytes) (l .loop .i) (omega arith) in
     omega arith
 
-pub wrong-delimiter-spec : {M : Type 1} → statement M
-wrong-delimiter-spec =
+pub first-wrong-delimiter-spec : {M : Type 1} → statement M
+first-wrong-delimiter-spec =
     tie.close
     (tie.spec
     Inv-loop

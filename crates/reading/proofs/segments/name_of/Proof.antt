@@ -3,9 +3,9 @@ use Prim.Native.Nat.{_≤_}
 use mathlib.Core.Path.{_≡_, sym}
 use native.Mathlib.Omega.{arith}
 use borrow.Author.Needs.{needs}
-use Rattle.structure.specs.SegmentNames.{nameOf}
-use Rattle.structure.proofs.names.name_of.Statement.{statement}
-use Rattle.structure.proofs.names.name_of.Tie as tie
+use Rattle.reading.specs.Segments.{nameOf}
+use Rattle.reading.proofs.segments.name_of.Statement.{statement}
+use Rattle.reading.proofs.segments.name_of.Tie as tie
 
 returns : tie.Need-returns
 unfolding nameOf
