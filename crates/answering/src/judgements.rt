@@ -5,11 +5,10 @@ ghost use lib.ListN.{length};
 ghost use Rattle.answering.specs.Answers.{Roomy};
 use crate::names;
 use crate::printing;
-use structure::Judgement;
-use verdict::FaultRecord;
+use fault::FaultRecord;
 
 // Puts a judgement: the number of the refusal, its place, whether the message could have ended there, and the names.
-pub fn put_judgement(found: Judgement, answer: &mut [u8]) -> usize
+pub fn put_judgement(found: FaultRecord, answer: &mut [u8]) -> usize
     requires { ⌜ Roomy (now answer) ⌝ }
     ensures { λ r. ⌜ r ≤ length (now (answer .exit)) ⌝ }
 {

@@ -4,7 +4,7 @@ ghost use mathlib.Core.Path.{_≡_};
 ghost use lib.ListN.{length};
 use crate::answers;
 use crate::printing;
-use structure::Names;
+use fault::Names;
 
 // The most names that a judgement has.
 const MOST_NAMES: usize = 64;

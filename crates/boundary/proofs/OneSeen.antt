@@ -3,7 +3,7 @@ use mathlib.Core.Path.{_≡_, sym, ap, _∙_}
 use mathlib.Core.List.{List}
 use Prim.Native.Nat.{ℕ}
 use lib.ListN.{getD}
-use Rattle.structure.specs.declared.judging.Judgement.{Judgement}
+use Rattle.fault.specs.declared.FaultRecord.{FaultRecord}
 use Rattle.structure.proofs.OnlyOne.{only-one}
 use Rattle.verdict.proofs.VerdictLaws.{one-verdict}
 use Rattle.acknowledgement.proofs.AnswerLaws.{one-answer}
@@ -19,7 +19,7 @@ pub one-verdict-seen : (m : List ℕ) {r t : CVerdict} → VerdictSeen m r → V
 one-verdict-seen m a b = a .seen-as ∙ ap verdictSeen (one-verdict m (a .answers) (b .answers)) ∙ sym (b .seen-as)
 
 pub one-name-seen : (m : List ℕ) (index : ℕ) {r t : ℕ} → NameSeen m index r → NameSeen m index t → r ≡ t
-one-name-seen m index a b = a .seen-as ∙ ap (λ (j : Judgement). getD (j .names .list) index 0) (only-one m (a .answers) (b .answers)) ∙ sym (b .seen-as)
+one-name-seen m index a b = a .seen-as ∙ ap (λ (j : FaultRecord). getD (j .names .list) index 0) (only-one m (a .answers) (b .answers)) ∙ sym (b .seen-as)
 
 -- the answer, and every byte of the buffer
 pub one-acknowledge-seen : (m time id lent : List ℕ) {r t : CAnswer} {x y : List ℕ} → AcknowledgeSeen m time id lent r x → AcknowledgeSeen m time id lent t y → (r ≡ t) × (x ≡ y)

@@ -20,9 +20,8 @@ use Rattle.calendar.specs.declared.figures.Sign as sign
 use Rattle.value.specs.declared.asked.NumberFound.{NumberFound}
 use Rattle.value.specs.declared.asked.TimeFound.{TimeFound}
 use Rattle.structure.specs.Judged.{Answers}
-use Rattle.structure.specs.declared.judging.Judgement.{Judgement}
+use Rattle.fault.specs.declared.FaultRecord.{FaultRecord}
 use Rattle.verdict.specs.Verdicts.{Verdicts}
-use Rattle.verdict.specs.declared.FaultRecord.{FaultRecord}
 use Rattle.acknowledgement.specs.Acknowledgement.{Acknowledges}
 use Rattle.boundary.specs.declared.answers.CAnswer.{CAnswer}
 use Rattle.boundary.specs.declared.elements.CDate.{CDate}
@@ -101,7 +100,7 @@ timeSeen f = record {
 
 -- ---- judges
 
-abbrev pub structureSeen : Judgement → CStructure
+abbrev pub structureSeen : FaultRecord → CStructure
 structureSeen j = record { number = numberOf (j .kind); «could_end» = j .«could_end»; place = j .place; names = j .names .count }
 
 abbrev pub verdictSeen : FaultRecord → CVerdict
@@ -116,7 +115,7 @@ verdictSeen v = record {
 
 -- what is seen is the structure judge's answer
 pub record StructureSeen (m : List ℕ) (r : CStructure) : Type 0 where
-  pub judgement : Judgement
+  pub judgement : FaultRecord
   pub answers : Answers m judgement
   pub seen-as : r ≡ structureSeen judgement
 
@@ -128,7 +127,7 @@ pub record VerdictSeen (m : List ℕ) (r : CVerdict) : Type 0 where
 
 -- the name of a number in the structure judge's list, and 0 past its end
 pub record NameSeen (m : List ℕ) (index r : ℕ) : Type 0 where
-  pub judgement : Judgement
+  pub judgement : FaultRecord
   pub answers : Answers m judgement
   pub seen-as : r ≡ getD (judgement .names .list) index 0
 

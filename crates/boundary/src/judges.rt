@@ -1,7 +1,6 @@
 // The judges: structure alone, and the verdict over reading, structure and fields; and the names that could have stood where a segment
 // could not, one by one.
-use structure::Judgement;
-use verdict::FaultRecord;
+use fault::FaultRecord;
 ghost use mathlib.Core.Path.{_≡_};
 ghost use Rattle.boundary.specs.Seen.{structureSeen, verdictSeen, StructureSeen, VerdictSeen, NameSeen};
 
@@ -25,7 +24,7 @@ pub struct CVerdict {
     pub names: usize,
 }
 
-fn structure_shown(found: Judgement) -> CStructure
+fn structure_shown(found: FaultRecord) -> CStructure
     ensures { λ r. ⌜ r ≡ structureSeen found ⌝ }
 {
     let kind = found.kind;

@@ -4,7 +4,7 @@ use alphabet::Part;
 use element::Address;
 use element::State;
 use terminal::Output;
-use verdict::FaultRecord;
+use fault::FaultRecord;
 
 // LF, which ends the lines of a text file, and no segment.
 const LINE_FEED: u8 = 10;

@@ -18,8 +18,9 @@ use Rattle.structure.specs.Shapes.{Shape}
 use Rattle.laws.specs.Types.{ListedAs, oru, acknowledgement, merge, admission, transfer, cancelled}
 use Rattle.element.specs.Addresses.{typeAddress}
 use Rattle.structure.specs.Structures.{listed, unlisted, structureOf, chosen, admissionOf, grammarOf, oruR01, ack, adtA40, adtA01, adtA02}
-use Rattle.structure.specs.Judged.{plain, Answers, unread, read, no-structure, by}
-use Rattle.structure.specs.declared.judging.Judgement.{Judgement}
+use Rattle.fault.specs.Faults.{plain}
+use Rattle.structure.specs.Judged.{Answers, unread, read, no-structure, by}
+use Rattle.fault.specs.declared.FaultRecord.{FaultRecord}
 use Rattle.structure.specs.declared.structures.Structure.the-variants.{ObservationReport, Acknowledgement, Merge, Admission, Transfer, Unlisted}
 
 -- ---- the type chooses the structure that is listed for it, and no other
@@ -96,7 +97,7 @@ pub find-unread : (m : List ℕ) (a : Address) (kind : Refusal) (place : ℕ) �
 unfolding found lookupCheck
 find-unread m a kind place e = rw e
 
-pub judge-unread : (m : List ℕ) (kind : Refusal) (place : ℕ) {j : Judgement} → reading m ≡ Fails kind place → Answers m j → j ≡ plain kind place
+pub judge-unread : (m : List ℕ) (kind : Refusal) (place : ℕ) {j : FaultRecord} → reading m ≡ Fails kind place → Answers m j → j ≡ plain kind place
 judge-unread m kind place e (unread k p f) =
     let g : Fails k p ≡ Fails kind place = sym f ∙ e in
     let a : k ≡ kind = cc in
@@ -104,7 +105,7 @@ judge-unread m kind place e (unread k p f) =
     ap (λ (x : Refusal). plain x p) a ∙ ap (plain kind) b
 judge-unread m kind place e (read f s) = absurd (let z : _≡_ {A = ℕ} 0 1 = cc in omega arith)
 
-pub judge-unlisted : (m : List ℕ) {j : Judgement} → reading m ≡ Passes → grammarOf (structureOf m) ≡ unlisted → Answers m j → j ≡ plain NoStructure 0
+pub judge-unlisted : (m : List ℕ) {j : FaultRecord} → reading m ≡ Passes → grammarOf (structureOf m) ≡ unlisted → Answers m j → j ≡ plain NoStructure 0
 judge-unlisted m e g (unread k p f) = absurd (let z : _≡_ {A = ℕ} 0 1 = cc in omega arith)
 judge-unlisted m e g (read f (no-structure h)) = refl
 judge-unlisted m e g (read f (by s h k)) = absurd (let z : _≡_ {A = ℕ} 0 1 = cc in omega arith)

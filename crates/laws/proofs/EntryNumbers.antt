@@ -41,12 +41,11 @@ use Rattle.text.specs.Answers.{escaping, unescaping, answer, filled}
 use Rattle.structure.specs.Listed.{In, here, there}
 use Rattle.structure.specs.SegmentNames.{segmentNames}
 use Rattle.structure.specs.Judged.{accepted, refused, Structured, no-structure, by, Answers, unread, read}
-use Rattle.structure.specs.declared.judging.Judgement.{Judgement}
+use Rattle.fault.specs.declared.FaultRecord.{FaultRecord}
 use Rattle.rules.specs.Table.{rows}
 use Rattle.fields.specs.Judging.{faultAnswer, judging}
 use Rattle.verdict.specs.Verdicts.{Verdicts}
 use Rattle.verdict.specs.Verdicts.Verdicts.{refused as by-structure, judged as by-fields}
-use Rattle.verdict.specs.declared.FaultRecord.{FaultRecord}
 use Rattle.acknowledgement.specs.Acknowledgement.{badId, acknowledgeable, refusing, roomy, acknowledgement, header, Acknowledges}
 use Rattle.acknowledgement.specs.Acknowledgement.Acknowledges.{not-written, written}
 use Rattle.laws.proofs.FaultNumbers.{fields-number}
@@ -139,7 +138,7 @@ unescape-numbers = unescaping-numbers
 
 -- ---- the judges
 
-judged-numbers : {m : List ℕ} {j : Judgement} → Structured m j → In (numberOf (j .kind)) ofStructure
+judged-numbers : {m : List ℕ} {j : FaultRecord} → Structured m j → In (numberOf (j .kind)) ofStructure
 judged-numbers (no-structure g) = here
 judged-numbers (by s g (accepted y)) = among ofStructure 0 refl
 judged-numbers {m} (by s g (refused place ends list r)) = at (ltb place (length (segmentNames m)))
@@ -148,7 +147,7 @@ judged-numbers {m} (by s g (refused place ends list r)) = at (ltb place (length 
     at true = there here
     at false = there (there here)
 
-pub structure-numbers : (m : List ℕ) {j : Judgement} → Answers m j → In (numberOf (j .kind)) ofStructure
+pub structure-numbers : (m : List ℕ) {j : FaultRecord} → Answers m j → In (numberOf (j .kind)) ofStructure
 structure-numbers m (unread kind place e) = there (there (there (subst (λ (c : Check). In (numberOf (answered c .kind)) ofReading) e (read-numbers m))))
 structure-numbers m (read e s) = judged-numbers s
 

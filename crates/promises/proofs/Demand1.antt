@@ -17,9 +17,8 @@ use Rattle.text.specs.Unescape.{Outcome, text, fault}
 use Rattle.text.specs.Answers.{escaping, unescaping, answer, filled}
 use Rattle.structure.specs.Listed.{In}
 use Rattle.structure.specs.Judged.{Answers}
-use Rattle.structure.specs.declared.judging.Judgement.{Judgement}
+use Rattle.fault.specs.declared.FaultRecord.{FaultRecord}
 use Rattle.verdict.specs.Verdicts.{Verdicts}
-use Rattle.verdict.specs.declared.FaultRecord.{FaultRecord}
 use Rattle.acknowledgement.specs.Acknowledgement.{Acknowledges}
 use Rattle.acknowledgement.proofs.AnswerLaws.{refusal-leaves}
 use Rattle.laws.specs.Entries.{ofReading, ofFinding, ofNm, ofForm, ofEscaping, ofUnescaping, ofStructure, ofVerdict, ofAcknowledging}
@@ -49,7 +48,7 @@ module _ (m : List ℕ) where
   pub ts-numbers : (a : Address) → In (numberOf (tsFound m a .answer .kind)) ofForm
   ts-numbers = Entries.ts-numbers m
 
-  pub structure-numbers : {j : Judgement} → Answers m j → In (numberOf (j .kind)) ofStructure
+  pub structure-numbers : {j : FaultRecord} → Answers m j → In (numberOf (j .kind)) ofStructure
   structure-numbers = Entries.structure-numbers m
 
   pub verdict-numbers : {r : FaultRecord} → Verdicts m r → In (numberOf (r .kind)) ofVerdict

@@ -18,19 +18,19 @@ use Rattle.structure.specs.Structures.{listed, unlisted, structureOf, grammarOf
 use Rattle.element.specs.Finding.{rawBytes}
 use Rattle.laws.specs.Types.{ListedAs}
 use Rattle.laws.proofs.Chosen as Chosen
-use Rattle.structure.specs.Judged.{plain, Judged, no-structure, by, Answers, unread, read}
+use Rattle.fault.specs.Faults.{plain}
+use Rattle.structure.specs.Judged.{Judged, no-structure, by, Answers, unread, read}
 use Rattle.structure.specs.Judged.Judged.{accepted as yielded, refused as not-yielded}
-use Rattle.structure.specs.declared.judging.Judgement.{Judgement}
+use Rattle.fault.specs.declared.FaultRecord.{FaultRecord}
 use Rattle.structure.proofs.OnlyOne.{only-one, goes-on, could-stand-is}
 use Rattle.structure.proofs.OnlyOne.{accepts-exactly as judged-exactly}
 use Rattle.rules.specs.Table.{rows}
 use Rattle.fields.specs.Judging.{faultAnswer, judging}
 use Rattle.verdict.specs.Verdicts.{ofStructure, ofFields, Verdicts}
 use Rattle.verdict.specs.Verdicts.Verdicts.{refused as by-structure, judged as by-fields}
-use Rattle.verdict.specs.declared.FaultRecord.{FaultRecord}
 use Rattle.promises.specs.Structures.{Exactly, accepted, refused}
 
-exactly : (s : Shape) (ns : List ℕ) {j : Judgement} → Judged s ns j → Exactly s ns j
+exactly : (s : Shape) (ns : List ℕ) {j : FaultRecord} → Judged s ns j → Exactly s ns j
 exactly s ns (yielded y) = accepted y
 exactly s ns (not-yielded place ends list r) =
     refused (record {
@@ -50,28 +50,28 @@ exactly s ns (not-yielded place ends list r) =
 pub listed-exactly : (m : List ℕ) (s : Shape) → (grammarOf (structureOf m) ≡ listed s) ↔ ListedAs (rawBytes m (typeAddress 1)) (rawBytes m (typeAddress 2)) s
 listed-exactly = Chosen.listed-exactly
 
-pub unlisted-refused : (m : List ℕ) {j : Judgement} → reading m ≡ Passes → grammarOf (structureOf m) ≡ unlisted → Answers m j → j ≡ plain NoStructure 0
+pub unlisted-refused : (m : List ℕ) {j : FaultRecord} → reading m ≡ Passes → grammarOf (structureOf m) ≡ unlisted → Answers m j → j ≡ plain NoStructure 0
 unlisted-refused m e g a = Chosen.judge-unlisted m e g a
 
 -- a message that was read, and whose type is listed with the structure s
 module _ (m : List ℕ) (s : Shape) (done : reading m ≡ Passes) (known : grammarOf (structureOf m) ≡ listed s) where
-  judged : {j : Judgement} → Answers m j → Judged s (segmentNames m) j
+  judged : {j : FaultRecord} → Answers m j → Judged s (segmentNames m) j
   judged (unread kind place e) = absurd (let z : _≡_ {A = ℕ} 0 1 = cc in omega arith)
   judged (read e (no-structure g)) = absurd (let z : _≡_ {A = ℕ} 0 1 = cc in omega arith)
   judged {j} (read e (by t g k)) = let q : t ≡ s = cc in subst (λ (x : Shape). Judged x (segmentNames m) j) q k
 
   -- exactly the grammar, exactly the place, exactly the list
-  pub structure-exactly : {j : Judgement} → Answers m j → Exactly s (segmentNames m) j
+  pub structure-exactly : {j : FaultRecord} → Answers m j → Exactly s (segmentNames m) j
   structure-exactly a = exactly s (segmentNames m) (judged a)
 
-  pub accepts-exactly : {j : Judgement} → Answers m j → (j ≡ plain None 0) ↔ Yields s (kept (names s) (segmentNames m))
+  pub accepts-exactly : {j : FaultRecord} → Answers m j → (j ≡ plain None 0) ↔ Yields s (kept (names s) (segmentNames m))
   accepts-exactly a = judged-exactly s (segmentNames m) (judged a)
 
 -- the verdict agrees: what the structure judge refuses it refuses with the same place, list and flag; where he accepts, the fields decide
-pub verdict-refuses : (m : List ℕ) {j : Judgement} {r : FaultRecord} → Answers m j → Verdicts m r → (j .kind ≡ None → ⊥) → r ≡ ofStructure j
+pub verdict-refuses : (m : List ℕ) {j : FaultRecord} {r : FaultRecord} → Answers m j → Verdicts m r → (j .kind ≡ None → ⊥) → r ≡ ofStructure j
 verdict-refuses m a (by-structure k b n) some = ap ofStructure (only-one m b a)
-verdict-refuses m a (by-fields k b n) some = absurd (some (ap (λ (x : Judgement). x .kind) (only-one m a b) ∙ n))
+verdict-refuses m a (by-fields k b n) some = absurd (some (ap (λ (x : FaultRecord). x .kind) (only-one m a b) ∙ n))
 
-pub verdict-goes-on : (m : List ℕ) {j : Judgement} {r : FaultRecord} → Answers m j → Verdicts m r → j .kind ≡ None → r ≡ ofFields (faultAnswer (judging rows m))
-verdict-goes-on m a (by-structure k b n) e = absurd (n (ap (λ (x : Judgement). x .kind) (only-one m b a) ∙ e))
+pub verdict-goes-on : (m : List ℕ) {j : FaultRecord} {r : FaultRecord} → Answers m j → Verdicts m r → j .kind ≡ None → r ≡ ofFields (faultAnswer (judging rows m))
+verdict-goes-on m a (by-structure k b n) e = absurd (n (ap (λ (x : FaultRecord). x .kind) (only-one m b a) ∙ e))
 verdict-goes-on m a (by-fields k b n) e = refl

@@ -16,9 +16,10 @@ use Rattle.structure.specs.Shapes.{Shape, Yields, names}
 use Rattle.structure.specs.Listed.{In}
 use Rattle.structure.specs.SegmentNames.{segmentNames, kept}
 use Rattle.structure.specs.Structures.{listed, structureOf, grammarOf}
-use Rattle.structure.specs.Judged.{plain, Answers}
-use Rattle.structure.specs.declared.judging.Judgement.{Judgement}
-use Rattle.structure.specs.declared.listing.Names.{Names}
+use Rattle.fault.specs.Faults.{plain}
+use Rattle.structure.specs.Judged.{Answers}
+use Rattle.fault.specs.declared.FaultRecord.{FaultRecord}
+use Rattle.fault.specs.declared.Names.{Names}
 use Rattle.structure.proofs.OnlyOne.{only-one}
 use Rattle.verdict.specs.Verdicts.{Accepts}
 use Rattle.alphabet.proofs.CheckLaws.{number-none}
@@ -57,12 +58,12 @@ module _ (m time id lent : List ℕ) {r : CAnswer} {left : List ℕ} (a : Acknow
 
 -- ---- "lists exactly the structure's names that could have stood there"
 
-module _ (m : List ℕ) (s : Shape) {j : Judgement} (a : Answers m j) (r : RefusedExactly s (segmentNames m) j) where
+module _ (m : List ℕ) (s : Shape) {j : FaultRecord} (a : Answers m j) (r : RefusedExactly s (segmentNames m) j) where
   size : j .names .count ≡ length (r .list)
   size = ap (λ (n : Names). n .count) (r .given)
 
   from : {i n : ℕ} → NameSeen m i n → n ≡ getD (r .list ++ replicate (64 - length (r .list)) 0) i 0
-  from {i} x = x .seen-as ∙ ap (λ (k : Judgement). getD (k .names .list) i 0) (only-one m (x .answers) a) ∙ ap (λ (n : Names). getD (n .list) i 0) (r .given)
+  from {i} x = x .seen-as ∙ ap (λ (k : FaultRecord). getD (k .names .list) i 0) (only-one m (x .answers) a) ∙ ap (λ (n : Names). getD (n .list) i 0) (r .given)
 
   inside : {i : ℕ} → i < j .names .count → i < length (r .list)
   inside h = let n = size in omega arith
@@ -100,7 +101,7 @@ names-one-by-one m s done known x some =
     subst (NamesOneByOne m s) (sym (x .seen-as))
     (by (structure-exactly m s done known (x .answers)) (λ e. some (ap (λ (c : CStructure). c .number) (x .seen-as) ∙ ap numberOf e)) (x .answers))
   where
-    by : {j : Judgement} → Exactly s (segmentNames m) j → (j .kind ≡ None → ⊥) → Answers m j → NamesOneByOne m s (structureSeen j)
+    by : {j : FaultRecord} → Exactly s (segmentNames m) j → (j .kind ≡ None → ⊥) → Answers m j → NamesOneByOne m s (structureSeen j)
     by (accepted y) n a = absurd (n refl)
     by (refused r) n a = one-by-one m s a r
 
@@ -111,9 +112,9 @@ pub c-structure-exactly : (m : List ℕ) (s : Shape) → reading m ≡ Passes �
 c-structure-exactly m s done known x =
     let e = accepts-exactly m s done known (x .answers) in
     let seen-number = ap (λ (c : CStructure). c .number) (x .seen-as) in
-    (λ z. e .0 (accepted-so (x .judgement) (x .answers) (number-none (x .judgement .kind) (sym seen-number ∙ z))), λ y. seen-number ∙ ap (λ (j : Judgement). numberOf (j .kind)) (e .1 y))
+    (λ z. e .0 (accepted-so (x .judgement) (x .answers) (number-none (x .judgement .kind) (sym seen-number ∙ z))), λ y. seen-number ∙ ap (λ (j : FaultRecord). numberOf (j .kind)) (e .1 y))
   where
-    by : {j : Judgement} → Exactly s (segmentNames m) j → j .kind ≡ None → j ≡ plain None 0
+    by : {j : FaultRecord} → Exactly s (segmentNames m) j → j .kind ≡ None → j ≡ plain None 0
     by (accepted y) k = refl
     by {j} (refused r) k = absurd (not-none (ltb (j .place) (length (segmentNames m))) (sym (r .kind) ∙ k))
       where
@@ -121,7 +122,7 @@ c-structure-exactly m s done known x =
         not-none true q = let z : _≡_ {A = ℕ} 0 1 = cc in omega arith
         not-none false q = let z : _≡_ {A = ℕ} 0 1 = cc in omega arith
 
-    accepted-so : (j : Judgement) → Answers m j → j .kind ≡ None → j ≡ plain None 0
+    accepted-so : (j : FaultRecord) → Answers m j → j .kind ≡ None → j ≡ plain None 0
     accepted-so j a k = by (structure-exactly m s done known a) k
 
 pub c-verdict-exactly : (m : List ℕ) {r : CVerdict} → VerdictSeen m r → (r .number ≡ 0) ↔ Accepts m

@@ -5,10 +5,9 @@ use mathlib.Core.List.{List}
 use Prim.Native.Nat.{ℕ}
 use Rattle.alphabet.specs.declared.answers.Answer.{Answer}
 use Rattle.structure.specs.Judged.{Answers}
-use Rattle.structure.specs.declared.judging.Judgement.{Judgement}
+use Rattle.fault.specs.declared.FaultRecord.{FaultRecord}
 use Rattle.structure.proofs.OnlyOne.{only-one}
 use Rattle.verdict.specs.Verdicts.{Verdicts}
-use Rattle.verdict.specs.declared.FaultRecord.{FaultRecord}
 use Rattle.verdict.proofs.VerdictLaws.{one-verdict}
 use Rattle.acknowledgement.specs.Acknowledgement.{Acknowledges}
 use Rattle.acknowledgement.proofs.AnswerLaws.{one-answer}
@@ -17,7 +16,7 @@ use Rattle.acknowledgement.proofs.AnswerLaws.{one-answer}
 pub by-definition : {A : Type 0} {r s answer : A} → r ≡ answer → s ≡ answer → r ≡ s
 by-definition e f = e ∙ sym f
 
-pub structure-once : (m : List ℕ) {r s : Judgement} → Answers m r → Answers m s → r ≡ s
+pub structure-once : (m : List ℕ) {r s : FaultRecord} → Answers m r → Answers m s → r ≡ s
 structure-once m a b = only-one m a b
 
 pub verdict-once : (m : List ℕ) {r s : FaultRecord} → Verdicts m r → Verdicts m s → r ≡ s

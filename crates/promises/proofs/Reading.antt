@@ -17,8 +17,9 @@ use Rattle.reading.specs.Message.{Message}
 use Rattle.reading.proofs.Accepted.{accepted, accepting}
 use Rattle.element.specs.Finding.{found, nowhere, rawBytes, elementBytes}
 use Rattle.element.specs.declared.address.Address.{Address}
-use Rattle.structure.specs.Judged.{plain, Answers}
-use Rattle.structure.specs.declared.judging.Judgement.{Judgement}
+use Rattle.fault.specs.Faults.{plain}
+use Rattle.structure.specs.Judged.{Answers}
+use Rattle.fault.specs.declared.FaultRecord.{FaultRecord}
 use Rattle.laws.proofs.Chosen as Chosen
 use Rattle.laws.proofs.FoundLaws.{shown-is, four-long}
 use Rattle.grammars.specs.Faulty.{Faulty}
@@ -38,7 +39,7 @@ pub find-unread : (m : List ℕ) (a : Address) (kind : Refusal) (place : ℕ) �
     → found m a ≡ record { answer = record { kind = kind; place = place; length = 0 }; element = nowhere }
 find-unread = Chosen.find-unread
 
-pub judge-unread : (m : List ℕ) (kind : Refusal) (place : ℕ) {j : Judgement} → reading m ≡ Fails kind place → Answers m j → j ≡ plain kind place
+pub judge-unread : (m : List ℕ) (kind : Refusal) (place : ℕ) {j : FaultRecord} → reading m ≡ Fails kind place → Answers m j → j ≡ plain kind place
 judge-unread m kind place e a = Chosen.judge-unread m kind place e a
 
 -- what the raw bytes of an address are: those of the element, where it is found

@@ -10,12 +10,13 @@ use Rattle.alphabet.specs.declared.answers.Refusal.the-variants.{None, SegmentM
 use Rattle.structure.specs.Shapes.{Shape, Yields, Viable, Possible, names, nameAt}
 use Rattle.structure.specs.SegmentNames.{kept}
 use Rattle.structure.specs.Listed.{In, Listed}
-use Rattle.structure.specs.Judged.{plain, front, nameList}
-use Rattle.structure.specs.declared.judging.Judgement.{Judgement}
+use Rattle.fault.specs.Faults.{plain, nameList}
+use Rattle.structure.specs.Judged.{front}
+use Rattle.fault.specs.declared.FaultRecord.{FaultRecord}
 
 -- The names ns, as sent, are refused by the structure s with the judgement j. `front s n ns` are the first n of them, Z segments that s does not
 -- name taken out; `Viable` says that names begin an acceptable message.
-pub record RefusedExactly (s : Shape) (ns : List ℕ) (j : Judgement) : Type 0 where
+pub record RefusedExactly (s : Shape) (ns : List ℕ) (j : FaultRecord) : Type 0 where
   pub not-yielded : Yields s (kept (names s) ns) → ⊥
   -- "points to the first segment that, with those before it, begins no acceptable message, length limits aside, or to the end where only more segments are
   -- missing"
@@ -34,6 +35,6 @@ pub record RefusedExactly (s : Shape) (ns : List ℕ) (j : Judgement) : Type 0 w
 
 -- "accepts exactly when the grammar listed for that type, with its optional and repeating groups, can yield the segment names, once Z segments the structure
 -- doesn't name are taken out"
-pub data Exactly (s : Shape) (ns : List ℕ) : Judgement → Type 0 where
+pub data Exactly (s : Shape) (ns : List ℕ) : FaultRecord → Type 0 where
   accepted : Yields s (kept (names s) ns) → Exactly s ns (plain None 0)
-  refused : {j : Judgement} → RefusedExactly s ns j → Exactly s ns j
+  refused : {j : FaultRecord} → RefusedExactly s ns j → Exactly s ns j

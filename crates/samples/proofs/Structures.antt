@@ -19,7 +19,7 @@ use Rattle.structure.specs.Shapes.Spans.{ended, stand, skip, once, last, more}
 use Rattle.structure.specs.SegmentNames.{segmentNames, among, passedOver}
 use Rattle.structure.specs.Structures.{oruR01, listed, chosen, structureOf, grammarOf}
 use Rattle.structure.specs.Judged.{Judged, refusedAs, by, Answers, read}
-use Rattle.structure.specs.declared.judging.Judgement.{Judgement}
+use Rattle.fault.specs.declared.FaultRecord.{FaultRecord}
 use Rattle.structure.specs.Engine.{into, gathered, endedWith, walked, listing, Tables}
 use Rattle.structure.specs.declared.walking.Walked.the-variants.{Misplaced, Early}
 use Rattle.structure.proofs.TableTest.{tables-of}
@@ -52,7 +52,7 @@ sample-12 =
     told-misplaced oruR01 (names oruR01) follow 16128 (into 1) tables (name "MSH" ∷ name "OBR" ∷ name "EVN" ∷ []) 2 16258 _ refl true (Misplaced 2 16258 true) refl refl
 
 -- the messages themselves: each is read, its type is ORU^R01, and its names are the sample's
-report : (m ns : List ℕ) {j : Judgement} → reading m ≡ Passes → grammarOf (structureOf m) ≡ listed oruR01 → segmentNames m ≡ ns → Judged oruR01 ns j → Answers m j
+report : (m ns : List ℕ) {j : FaultRecord} → reading m ≡ Passes → grammarOf (structureOf m) ≡ listed oruR01 → segmentNames m ≡ ns → Judged oruR01 ns j → Answers m j
 report m ns {j} r g n k = read r (by oruR01 g (subst (λ (l : List ℕ). Judged oruR01 l j) (sym n) k))
 
 pub report-10 : Answers (reportOf []) (refusedAs 1 1 false (name "PID" ∷ name "ORC" ∷ name "OBR" ∷ []))

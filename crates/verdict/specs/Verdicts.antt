@@ -9,15 +9,15 @@ use Rattle.reading.specs.Reading.{reading}
 use Rattle.structure.specs.Shapes.{Shape, Yields, names}
 use Rattle.structure.specs.SegmentNames.{segmentNames, kept}
 use Rattle.structure.specs.Structures.{listed, structureOf, grammarOf}
-use Rattle.structure.specs.Judged.{nameList, Answers}
-use Rattle.structure.specs.declared.judging.Judgement.{Judgement}
+use Rattle.fault.specs.Faults.{nameList}
+use Rattle.structure.specs.Judged.{Answers}
+use Rattle.fault.specs.declared.FaultRecord.{FaultRecord}
 use Rattle.rules.specs.Table.{rows}
 use Rattle.fields.specs.Judging.{faultAnswer, judging}
 use Rattle.fields.specs.declared.FieldFault.{FieldFault}
-use Rattle.verdict.specs.declared.FaultRecord.{FaultRecord}
 
 -- a judgement of reading and structure
-abbrev pub ofStructure : Judgement → FaultRecord
+abbrev pub ofStructure : FaultRecord → FaultRecord
 ofStructure j = record { kind = j .kind; place = j .place; field = 0; repetition = 0; «could_end» = j .«could_end»; names = j .names }
 
 -- a fault of the fields, or none: "Every answer but 21 and 22 lists nothing, with a no."
@@ -26,8 +26,8 @@ ofFields f = record { kind = f .kind; place = f .segment; field = f .field; repe
 
 -- the first of the judges that refuses decides
 pub data Verdicts (m : List ℕ) : FaultRecord → Type 0 where
-  refused : (j : Judgement) → Answers m j → (j .kind ≡ None → ⊥) → Verdicts m (ofStructure j)
-  judged : (j : Judgement) → Answers m j → j .kind ≡ None → Verdicts m (ofFields (faultAnswer (judging rows m)))
+  refused : (j : FaultRecord) → Answers m j → (j .kind ≡ None → ⊥) → Verdicts m (ofStructure j)
+  judged : (j : FaultRecord) → Answers m j → j .kind ≡ None → Verdicts m (ofFields (faultAnswer (judging rows m)))
 
 -- reading, structure and fields all accept
 pub record Accepts (m : List ℕ) : Type 0 where

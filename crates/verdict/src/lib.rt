@@ -2,8 +2,8 @@
 // it for all of them. Any bytes may be handed in.
 use alphabet::Refusal;
 use fields::FieldFault;
-use structure::Judgement;
-use structure::Names;
+use fault::FaultRecord;
+use fault::Names;
 ghost use mathlib.Core.Path.{_≡_};
 ghost use Rattle.verdict.specs.Verdicts.{ofStructure, ofFields, Verdicts};
 
@@ -20,7 +20,7 @@ pub struct FaultRecord {
 }
 
 // A judgement of the structure, as a verdict.
-fn of_structure(found: Judgement) -> FaultRecord
+fn of_structure(found: FaultRecord) -> FaultRecord
     ensures { λ r. ⌜ r ≡ ofStructure found ⌝ }
 {
     let names = found.names;
@@ -46,7 +46,7 @@ fn of_fields(fault: FieldFault) -> FaultRecord
         field: fault.field,
         repetition: fault.repetition,
         could_end: false,
-        names: structure::no_names(),
+        names: fault::no_names(),
     }
 }
 

@@ -1,7 +1,7 @@
 // What could have stood at a place of a message: the names of segments, and whether the message could have ended there.
 ghost use Prim.Native.Nat.{_≤_, _%_};
 ghost use mathlib.Core.Path.{_≡_};
-use structure::Names;
+use fault::Names;
 use terminal::Output;
 
 // The most names that could have stood at a place.

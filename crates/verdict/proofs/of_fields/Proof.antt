@@ -2,8 +2,8 @@
 use mathlib.Core.Path.{ap}
 use mathlib.Core.Bool.{false}
 use borrow.Author.Needs.{needs}
-use Rattle.structure.specs.declared.listing.Names.{Names}
-use Rattle.verdict.specs.declared.FaultRecord.{FaultRecord}
+use Rattle.fault.specs.declared.Names.{Names}
+use Rattle.fault.specs.declared.FaultRecord.{FaultRecord}
 use Rattle.verdict.proofs.of_fields.Statement.{statement}
 use Rattle.verdict.proofs.of_fields.Tie as tie
 
