@@ -19,8 +19,9 @@ use Rattle.structure.specs.Shapes.{Shape, Yields, Viable, Fills, Possibl
 use Rattle.structure.specs.SegmentNames.{kept, segmentNames}
 use Rattle.structure.specs.Listed.{In, Listed}
 use Rattle.structure.specs.Structures.{Grammar, listed, unlisted, structureOf, grammarOf}
-use Rattle.structure.specs.Judged.{plain, front, Refused, refusedAs, Judged, accepted, refused, Structured, no-structure, by, Answers, unread, read}
-use Rattle.structure.specs.declared.judging.Judgement.{Judgement}
+use Rattle.structure.specs.Judged.{front, Refused, refusedAs, Judged, accepted, refused, Structured, no-structure, by, Answers, unread, read}
+use Rattle.fault.specs.Faults.{plain}
+use Rattle.fault.specs.declared.FaultRecord.{FaultRecord}
 use Rattle.structure.proofs.PlaceLaws.{CouldEnd, yields-is}
 use Rattle.structure.proofs.Going.{map-append}
 use Rattle.structure.proofs.ListingLaws.{one-list, in-list}
@@ -77,7 +78,7 @@ module _ (s : Shape) where
         let list = one-list (Possible s (front s p ns)) (nameAt s) k l (a .could-stand) (moved .could-stand) in
         ap (λ (i : ℕ). refusedAs (length ns) i d k) place ∙ ap (λ (t : Bool). refusedAs (length ns) q t k) flag ∙ ap (refusedAs (length ns) q e) list
 
-    pub one-judgement : {r t : Judgement} → Judged s ns r → Judged s ns t → r ≡ t
+    pub one-judgement : {r t : FaultRecord} → Judged s ns r → Judged s ns t → r ≡ t
     one-judgement (accepted y) (accepted z) = refl
     one-judgement (accepted y) (refused place ends list r) = absurd (r .not-yielded y)
     one-judgement (refused place ends list r) (accepted y) = absurd (r .not-yielded y)
@@ -100,26 +101,26 @@ module _ (s : Shape) where
     )
 
     -- accepted exactly where the structure yields the names
-    pub accepts-exactly : {r : Judgement} → Judged s ns r → (r ≡ plain None 0) ↔ Yields s (kept (names s) ns)
+    pub accepts-exactly : {r : FaultRecord} → Judged s ns r → (r ≡ plain None 0) ↔ Yields s (kept (names s) ns)
     accepts-exactly j = (yielded j, λ y. one-judgement j (accepted y))
       where
-        yielded : {r : Judgement} → Judged s ns r → r ≡ plain None 0 → Yields s (kept (names s) ns)
+        yielded : {r : FaultRecord} → Judged s ns r → r ≡ plain None 0 → Yields s (kept (names s) ns)
         yielded (accepted y) e = y
-        yielded (refused place ends list a) e = absurd (kinds (ltb place (length ns)) (ap (λ (x : Judgement). x .kind) e))
+        yielded (refused place ends list a) e = absurd (kinds (ltb place (length ns)) (ap (λ (x : FaultRecord). x .kind) e))
           where
             kinds : (t : Bool) → cond t SegmentMisplaced EndedEarly ≡ None → ⊥
             kinds true q = let z : _≡_ {A = ℕ} 0 1 = cc in omega arith
             kinds false q = let z : _≡_ {A = ℕ} 0 1 = cc in omega arith
 
 -- no second judgement of a message that was read
-pub one-structured : (m : List ℕ) {r t : Judgement} → Structured m r → Structured m t → r ≡ t
+pub one-structured : (m : List ℕ) {r t : FaultRecord} → Structured m r → Structured m t → r ≡ t
 one-structured m (no-structure e) (no-structure f) = refl
 one-structured m (no-structure e) (by s f j) = absurd (let z : _≡_ {A = ℕ} 0 1 = cc in omega arith)
 one-structured m (by s e j) (no-structure f) = absurd (let z : _≡_ {A = ℕ} 0 1 = cc in omega arith)
 one-structured m (by s e j) (by {r = t} s′ f k) = let q : s′ ≡ s = cc in one-judgement s (segmentNames m) j (subst (λ (x : Shape). Judged x (segmentNames m) t) q k)
 
 -- nor of any bytes
-pub only-one : (m : List ℕ) {r t : Judgement} → Answers m r → Answers m t → r ≡ t
+pub only-one : (m : List ℕ) {r t : FaultRecord} → Answers m r → Answers m t → r ≡ t
 only-one m (unread k p e) (unread l q f) = let a : k ≡ l = cc in let b : p ≡ q = cc in ap (λ (x : Refusal). plain x p) a ∙ ap (plain l) b
 only-one m (unread k p e) (read f j) = absurd (let z : _≡_ {A = ℕ} 0 1 = cc in omega arith)
 only-one m (read e j) (unread l q f) = absurd (let z : _≡_ {A = ℕ} 0 1 = cc in omega arith)

@@ -9,12 +9,13 @@ use borrow.Author.Tests.{lt-ltb, le-ltb}
 use Rattle.alphabet.specs.declared.answers.Refusal.{Refusal}
 use Rattle.alphabet.specs.declared.answers.Refusal.the-variants.{None, SegmentMisplaced, EndedEarly}
 use Rattle.structure.specs.Shapes.{Shape, names}
-use Rattle.structure.specs.Judged.{nameList, plain, Refused, refusedAs, Judged, accepted, refused}
+use Rattle.structure.specs.Judged.{Refused, refusedAs, Judged, accepted, refused}
 use Rattle.structure.specs.Engine.{Entry, walked, listing, Tables}
 use Rattle.structure.specs.declared.walking.Walked.{Walked}
 use Rattle.structure.specs.declared.walking.Walked.the-variants.{Accepted, Misplaced, Early}
-use Rattle.structure.specs.declared.listing.Names.{Names}
-use Rattle.structure.specs.declared.judging.Judgement.{Judgement}
+use Rattle.fault.specs.Faults.{nameList, plain}
+use Rattle.fault.specs.declared.Names.{Names}
+use Rattle.fault.specs.declared.FaultRecord.{FaultRecord}
 use Rattle.structure.proofs.WalkLaws.{Walks, walk-is}
 
 module _ (s : Shape) (ns follow : List ℕ) (last : ℕ) (begin : Entry) (t : Tables s ns follow last begin) (all : List ℕ) where
@@ -34,20 +35,20 @@ module _ (s : Shape) (ns follow : List ℕ) (last : ℕ) (begin : Entry) (t : Ta
   module _ (place places : ℕ) (n : Names) (same : n ≡ nameList (listed places)) where
     -- refused, of a kind that is the place's
     told-as : (ends : Bool) (kind : Refusal) → refusedAs (length all) place ends (listed places) .kind ≡ kind → Refused s all place ends (listing (names s) places (length (names s)))
-        → Judged s all (record { kind = kind; place = place; «could_end» = ends; names = n })
+        → Judged s all (record { kind = kind; place = place; field = 0; repetition = 0; «could_end» = ends; names = n })
     told-as ends kind k r =
-        subst (λ (x : Names). Judged s all (record { kind = kind; place = place; «could_end» = ends; names = x })) (sym same)
-        (subst (λ (x : Refusal). Judged s all (record { kind = x; place = place; «could_end» = ends; names = nameList (listed places) })) k
+        subst (λ (x : Names). Judged s all (record { kind = kind; place = place; field = 0; repetition = 0; «could_end» = ends; names = x })) (sym same)
+        (subst (λ (x : Refusal). Judged s all (record { kind = x; place = place; field = 0; repetition = 0; «could_end» = ends; names = nameList (listed places) })) k
         (refused place ends (listed places) (subst (Refused s all place ends) (listed-is places) r)))
 
     pub told-misplaced : (ends : Bool) (w : Walked) → w ≡ walked ns follow last begin 0 all → w ≡ Misplaced place places ends
-        → Judged s all (record { kind = SegmentMisplaced; place = place; «could_end» = ends; names = n })
+        → Judged s all (record { kind = SegmentMisplaced; place = place; field = 0; repetition = 0; «could_end» = ends; names = n })
     told-misplaced ends w e f =
         let c = subst (Walks s follow last (t .fits) all) f (came-to w e) in
         told-as ends SegmentMisplaced (rw (lt-ltb place (length all) (c .0))) (c .1)
 
     pub told-early : (w : Walked) → w ≡ walked ns follow last begin 0 all → w ≡ Early place places
-        → Judged s all (record { kind = EndedEarly; place = place; «could_end» = false; names = n })
+        → Judged s all (record { kind = EndedEarly; place = place; field = 0; repetition = 0; «could_end» = false; names = n })
     told-early w e f =
         let c = subst (Walks s follow last (t .fits) all) f (came-to w e) in
         let p = c .0 in

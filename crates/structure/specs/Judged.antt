@@ -1,29 +1,21 @@
 -- What a judgement of a message's structure says. It is a relation to the grammar alone; `proofs/OnlyOne.antt` shows that no second judgement meets it.
 use mathlib.Core.Path.{_≡_}
 use mathlib.Core.Logic.{_↔_}
-use mathlib.Core.Bool.{Bool, false, cond}
-use mathlib.Core.List.{List, [], _++_}
-use Prim.Native.Nat.{ℕ, _+_, _-_, _≤_, _<_}
+use mathlib.Core.Bool.{Bool, cond}
+use mathlib.Core.List.{List}
+use Prim.Native.Nat.{ℕ, _+_, _≤_, _<_}
 use lib.Dec.{T, ltb}
-use lib.ListN.{length, take, replicate}
+use lib.ListN.{length, take}
 use Rattle.alphabet.specs.declared.answers.Refusal.{Refusal}
 use Rattle.alphabet.specs.declared.answers.Refusal.the-variants.{None, NoStructure, SegmentMisplaced, EndedEarly}
 use Rattle.alphabet.specs.declared.answers.Check.the-variants.{Passes, Fails}
 use Rattle.reading.specs.Reading.{reading}
+use Rattle.fault.specs.Faults.{atPlace, plain}
+use Rattle.fault.specs.declared.FaultRecord.{FaultRecord}
 use Rattle.structure.specs.Shapes.{Shape, Yields, Viable, Possible, names, nameAt}
 use Rattle.structure.specs.SegmentNames.{segmentNames, kept}
 use Rattle.structure.specs.Listed.{Listed}
 use Rattle.structure.specs.Structures.{listed, unlisted, structureOf, grammarOf}
-use Rattle.structure.specs.declared.listing.Names.{Names}
-use Rattle.structure.specs.declared.judging.Judgement.{Judgement}
-
--- a list of names, by value: the names, and zeros behind them
-abbrev pub nameList : List ℕ → Names
-nameList l = record { list = l ++ replicate (64 - length l) 0; count = length l }
-
--- "Every answer but 21 and 22 lists nothing, with a no."
-abbrev pub plain : Refusal → ℕ → Judgement
-plain kind place = record { kind = kind; place = place; «could_end» = false; names = nameList [] }
 
 -- the names of the first segments, as many as n, that are looked at
 abbrev pub front : Shape → ℕ → List ℕ → List ℕ
@@ -40,20 +32,20 @@ pub record Refused (s : Shape) (ns : List ℕ) (place : ℕ) (ends : Bool) (list
   pub could-stand : Listed (Possible s (front s place ns)) (nameAt s) list
 
 -- 21: "segment can't stand there"; 22: "ended early", and its place is "the number of segments"
-abbrev pub refusedAs : ℕ → ℕ → Bool → List ℕ → Judgement
-refusedAs count place ends list = record { kind = cond (ltb place count) SegmentMisplaced EndedEarly; place = place; «could_end» = ends; names = nameList list }
+abbrev pub refusedAs : ℕ → ℕ → Bool → List ℕ → FaultRecord
+refusedAs count place ends list = atPlace (cond (ltb place count) SegmentMisplaced EndedEarly) place ends list
 
 -- the names ns, as sent, judged by a structure
-pub data Judged (s : Shape) (ns : List ℕ) : Judgement → Type 0 where
+pub data Judged (s : Shape) (ns : List ℕ) : FaultRecord → Type 0 where
   accepted : Yields s (kept (names s) ns) → Judged s ns (plain None 0)
   refused : (place : ℕ) (ends : Bool) (list : List ℕ) → Refused s ns place ends list → Judged s ns (refusedAs (length ns) place ends list)
 
 -- "20, 21, 22": the structure of a message, for which no reading fault is looked for
-pub data Structured (m : List ℕ) : Judgement → Type 0 where
+pub data Structured (m : List ℕ) : FaultRecord → Type 0 where
   no-structure : grammarOf (structureOf m) ≡ unlisted → Structured m (plain NoStructure 0)
-  by : {r : Judgement} (s : Shape) → grammarOf (structureOf m) ≡ listed s → Judged s (segmentNames m) r → Structured m r
+  by : {r : FaultRecord} (s : Shape) → grammarOf (structureOf m) ≡ listed s → Judged s (segmentNames m) r → Structured m r
 
 -- "Judges answer a reading fault first, then 20, 21, 22"
-pub data Answers (m : List ℕ) : Judgement → Type 0 where
+pub data Answers (m : List ℕ) : FaultRecord → Type 0 where
   unread : (kind : Refusal) (place : ℕ) → reading m ≡ Fails kind place → Answers m (plain kind place)
-  read : {r : Judgement} → reading m ≡ Passes → Structured m r → Answers m r
+  read : {r : FaultRecord} → reading m ≡ Passes → Structured m r → Answers m r

@@ -7,19 +7,17 @@ mod structures;
 mod walking;
 
 use alphabet::Check;
+use fault::FaultRecord;
 ghost use Rattle.structure.specs.Judged.{Answers};
-pub use judging::Judgement;
-pub use listing::Names;
-pub use listing::no_names;
 pub use structures::judge_read;
 
 // Judges the structure of a message: a reading fault, 20, 21, 22, or accepted.
-pub fn judge_structure(message: &[u8]) -> Judgement
+pub fn judge_structure(message: &[u8]) -> FaultRecord
     ensures { λ r. ⌜ Answers (now (message .entry)) r ⌝ }
 {
     let read = reading::check_message(message);
     match read {
         Check::Passes => structures::judge_read(message),
-        Check::Fails { kind, place } => judging::plain(kind, place),
+        Check::Fails { kind, place } => fault::plain(kind, place),
     }
 }

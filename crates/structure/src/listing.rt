@@ -1,28 +1,12 @@
 // The names that could have stood at a place of a message, once each, in the order of the places that they could have
 // filled.
 use crate::names::is_among;
+use fault::Names;
 ghost use mathlib.Core.Path.{_≡_};
 ghost use Prim.Native.Nat.{_≤_};
 ghost use lib.ListN.{length};
-ghost use mathlib.Core.List.{[]};
-ghost use Rattle.structure.specs.Judged.{nameList};
+ghost use Rattle.fault.specs.Faults.{nameList};
 ghost use Rattle.structure.specs.Engine.{listing};
-
-// Names, the first `count` of the list; zeros stand behind them.
-pub struct Names {
-    pub list: [u32; 64],
-    pub count: usize,
-}
-
-// No names.
-pub fn no_names() -> Names
-    ensures { λ r. ⌜ r ≡ nameList [] ⌝ }
-{
-    Names {
-        list: [0u32; 64],
-        count: 0,
-    }
-}
 
 // The names of the places of a set.
 pub fn names_at(names: &[u32], places: u64) -> Names

@@ -1,12 +1,11 @@
 // The structures of document 01 as tables, and which of them the type of a message chooses. One table has the rows of all
 // structures, a row for each place where a name stands: the name, and the set of places that can be filled next, in which
 // bit p is place p of the same structure.
-use crate::judging::Judgement;
 use crate::judging::judge_by;
-use crate::judging::plain;
 use crate::walking::Next;
 use alphabet::Refusal;
 use element::type_address;
+use fault::FaultRecord;
 ghost use mathlib.Core.Path.{_≡_};
 ghost use Rattle.structure.specs.Structures.{admissionOf, structureOf};
 ghost use Rattle.structure.specs.Judged.{Structured};
@@ -192,7 +191,7 @@ fn structure_of(message: &[u8]) -> Structure
 }
 
 // Judges the structure of a message that was read: no reading fault is looked for.
-pub fn judge_read(message: &[u8]) -> Judgement
+pub fn judge_read(message: &[u8]) -> FaultRecord
     ensures { λ r. ⌜ Structured (now (message .entry)) r ⌝ }
 {
     let names = NAMES;
@@ -214,6 +213,6 @@ pub fn judge_read(message: &[u8]) -> Judgement
         Structure::Merge => judge_by(message, &names[17..23], &follow[17..23], 48, begin),
         Structure::Admission => judge_by(message, &names[23..33], &follow[23..33], 1008, begin),
         Structure::Transfer => judge_by(message, &names[33..40], &follow[33..40], 120, begin),
-        Structure::Unlisted => plain(Refusal::NoStructure, 0),
+        Structure::Unlisted => fault::plain(Refusal::NoStructure, 0),
     }
 }

@@ -5,7 +5,7 @@ use borrow.Author.Needs.{needs}
 use denote.Ref.{now}
 use Rattle.structure.specs.SegmentNames.{segmentNames}
 use Rattle.structure.specs.Judged.{Judged}
-use Rattle.structure.specs.declared.judging.Judgement.{Judgement}
+use Rattle.fault.specs.declared.FaultRecord.{FaultRecord}
 use Rattle.structure.proofs.Telling.{told-accepted, told-misplaced, told-early}
 use Rattle.structure.proofs.judging.judge_by.Statement.{statement}
 use Rattle.structure.proofs.judging.judge_by.Tie as tie
@@ -14,7 +14,7 @@ returns : tie.Need-returns
 returns c = λ s t.
     let w = c .before .before .before .walk in
     let a = c .before .before .before .before .before .before .before .args in
-    subst (λ (x : Judgement). Judged s (segmentNames (now (a .message))) x) (sym (c .plain .ensures))
+    subst (λ (x : FaultRecord). Judged s (segmentNames (now (a .message))) x) (sym (c .plain .ensures))
     (told-accepted s _ _ _ _ t (segmentNames (now (a .message))) (w .result) (w .ensures) (c .before .enum-told .given .1))
 
 returns-2 : tie.Need-returns-2

@@ -12,9 +12,9 @@ use native.Mathlib.Omega.{arith}
 use borrow.Author.Needs.{needs}
 use denote.Ref.{now}
 use Rattle.structure.specs.SegmentNames.{among}
-use Rattle.structure.specs.Judged.{nameList}
+use Rattle.fault.specs.Faults.{nameList}
 use Rattle.structure.specs.Engine.{listing}
-use Rattle.structure.specs.declared.listing.Names.{Names}
+use Rattle.fault.specs.declared.Names.{Names}
 use Rattle.structure.proofs.ListingLaws.{filled, filled-more, filled-front, filled-length, listing-short, listing-taken, listing-passed, listing-none}
 use Rattle.structure.proofs.listing.names_at.Statement.{statement}
 use Rattle.structure.proofs.listing.names_at.Tie as tie
