@@ -3,8 +3,8 @@
 use alphabet::Part;
 use element::Address;
 use element::State;
-use terminal::Output;
 use fault::FaultRecord;
+use terminal::Output;
 
 // LF, which ends the lines of a text file, and no segment.
 const LINE_FEED: u8 = 10;

@@ -26,7 +26,7 @@ use Rattle.structure.proofs.OnlyOne.{only-one, goes-on, could-stand-is}
 use Rattle.structure.proofs.OnlyOne.{accepts-exactly as judged-exactly}
 use Rattle.rules.specs.Table.{rows}
 use Rattle.fields.specs.Judging.{faultAnswer, judging}
-use Rattle.verdict.specs.Verdicts.{ofStructure, ofFields, Verdicts}
+use Rattle.verdict.specs.Verdicts.{ofFields, Verdicts}
 use Rattle.verdict.specs.Verdicts.Verdicts.{refused as by-structure, judged as by-fields}
 use Rattle.promises.specs.Structures.{Exactly, accepted, refused}
 
@@ -68,8 +68,8 @@ module _ (m : List ℕ) (s : Shape) (done : reading m ≡ Passes) (known : gramm
   accepts-exactly a = judged-exactly s (segmentNames m) (judged a)
 
 -- the verdict agrees: what the structure judge refuses it refuses with the same place, list and flag; where he accepts, the fields decide
-pub verdict-refuses : (m : List ℕ) {j : FaultRecord} {r : FaultRecord} → Answers m j → Verdicts m r → (j .kind ≡ None → ⊥) → r ≡ ofStructure j
-verdict-refuses m a (by-structure k b n) some = ap ofStructure (only-one m b a)
+pub verdict-refuses : (m : List ℕ) {j : FaultRecord} {r : FaultRecord} → Answers m j → Verdicts m r → (j .kind ≡ None → ⊥) → r ≡ j
+verdict-refuses m a (by-structure k b n) some = only-one m b a
 verdict-refuses m a (by-fields k b n) some = absurd (some (ap (λ (x : FaultRecord). x .kind) (only-one m a b) ∙ n))
 
 pub verdict-goes-on : (m : List ℕ) {j : FaultRecord} {r : FaultRecord} → Answers m j → Verdicts m r → j .kind ≡ None → r ≡ ofFields (faultAnswer (judging rows m))

@@ -20,12 +20,12 @@ use Rattle.reading.proofs.Honest.{reading-fails}
 use Rattle.structure.proofs.OnlyOne.{only-one}
 use Rattle.rules.specs.Table.{rows}
 use Rattle.fields.specs.Judging.{faultAnswer, judging}
-use Rattle.verdict.specs.Verdicts.{ofStructure, ofFields, Verdicts, Accepts}
+use Rattle.verdict.specs.Verdicts.{Verdicts, Accepts}
 use Rattle.verdict.specs.Verdicts.Verdicts.{refused as by-structure, judged as by-fields}
 
 -- no second verdict
 pub one-verdict : (m : List ℕ) {r t : FaultRecord} → Verdicts m r → Verdicts m t → r ≡ t
-one-verdict m (by-structure j a n) (by-structure k b p) = ap ofStructure (only-one m a b)
+one-verdict m (by-structure j a n) (by-structure k b p) = only-one m a b
 one-verdict m (by-structure j a n) (by-fields k b p) = absurd (n (ap (λ (x : FaultRecord). x .kind) (only-one m a b) ∙ p))
 one-verdict m (by-fields j a n) (by-structure k b p) = absurd (p (ap (λ (x : FaultRecord). x .kind) (only-one m b a) ∙ n))
 one-verdict m (by-fields j a n) (by-fields k b p) = refl

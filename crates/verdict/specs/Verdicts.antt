@@ -16,17 +16,13 @@ use Rattle.rules.specs.Table.{rows}
 use Rattle.fields.specs.Judging.{faultAnswer, judging}
 use Rattle.fields.specs.declared.FieldFault.{FieldFault}
 
--- a judgement of reading and structure
-abbrev pub ofStructure : FaultRecord → FaultRecord
-ofStructure j = record { kind = j .kind; place = j .place; field = 0; repetition = 0; «could_end» = j .«could_end»; names = j .names }
-
 -- a fault of the fields, or none: "Every answer but 21 and 22 lists nothing, with a no."
 abbrev pub ofFields : FieldFault → FaultRecord
 ofFields f = record { kind = f .kind; place = f .segment; field = f .field; repetition = f .repetition; «could_end» = false; names = nameList [] }
 
 -- the first of the judges that refuses decides
 pub data Verdicts (m : List ℕ) : FaultRecord → Type 0 where
-  refused : (j : FaultRecord) → Answers m j → (j .kind ≡ None → ⊥) → Verdicts m (ofStructure j)
+  refused : (j : FaultRecord) → Answers m j → (j .kind ≡ None → ⊥) → Verdicts m j
   judged : (j : FaultRecord) → Answers m j → j .kind ≡ None → Verdicts m (ofFields (faultAnswer (judging rows m)))
 
 -- reading, structure and fields all accept

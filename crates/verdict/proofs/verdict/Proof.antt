@@ -10,10 +10,9 @@ use Rattle.verdict.proofs.verdict.Tie as tie
 
 returns : tie.Need-returns
 returns c =
-    let n = c .before .before in
+    let n = c .before in
     let j = n .before .judge-structure in
-    let m = now (n .before .before .before .args .message) in
-    subst (Verdicts m) (sym (c .of-structure .ensures)) (refused (j .result) (j .ensures) (λ e. c .before .if1 .taken (n .number .ensures ∙ ap numberOf e)))
+    refused (j .result) (j .ensures) (λ e. c .if1 .taken (n .number .ensures ∙ ap numberOf e))
 
 returns-2 : tie.Need-returns-2
 returns-2 c =
@@ -27,7 +26,6 @@ pub verdict-spec : {M : Type 1} → statement M
 verdict-spec =
     tie.close
     (tie.spec
-    (λ c κs. search needs)
     (λ c κs. search needs)
     (λ c κs. search needs)
     returns
