@@ -44,7 +44,8 @@ use Rattle.laws.proofs.FaultNumbers.{none-sound}
 use Rattle.laws.proofs.ControlId.{control-id}
 use Rattle.structure.specs.SegmentNames.{segmentNames}
 use Rattle.structure.specs.Structures.{ack, structureOf}
-use Rattle.structure.specs.Judged.{plain, Judged, Answers}
+use Rattle.fault.specs.Faults.{plain}
+use Rattle.structure.specs.Judged.{Judged, Answers}
 use Rattle.structure.specs.declared.structures.Structure.the-variants.{Acknowledgement}
 use Rattle.verdict.specs.Verdicts.{Accepts}
 use Rattle.acknowledgement.specs.Acknowledgement.{header, fieldAddress, sent, typePart, present, typeSent, lettersOf, acknowledgement, badId, passes, acknowledgeable, roomy, Coded, Acknowledges}

@@ -36,7 +36,8 @@ use Rattle.structure.specs.Shapes.Spans.{stand, skip, ended as ended-shape}
 use Rattle.structure.specs.SegmentNames.{segmentNames, among, passedOver, kept}
 use Rattle.element.specs.Addresses.{typeAddress}
 use Rattle.structure.specs.Structures.{ack, structureOf, grammarOf}
-use Rattle.structure.specs.Judged.{plain, Judged, accepted, by, Answers, read}
+use Rattle.fault.specs.Faults.{plain}
+use Rattle.structure.specs.Judged.{Judged, accepted, by, Answers, read}
 use Rattle.structure.specs.declared.structures.Structure.the-variants.{Acknowledgement}
 use Rattle.structure.proofs.NameLaws.{is-acknowledgement}
 use Rattle.acknowledgement.specs.Acknowledgement.{fieldAddress, sent, typePart, present, encoding, typeSent, headerParts, lettersOf, answerParts, acknowledgement, version}

@@ -24,7 +24,8 @@ use Rattle.text.specs.Answers.{unescaping}
 use Rattle.structure.specs.SegmentNames.{segmentNames}
 use Rattle.element.specs.Addresses.{typeAddress}
 use Rattle.structure.specs.Structures.{ack, structureOf}
-use Rattle.structure.specs.Judged.{plain, Judged, Answers}
+use Rattle.fault.specs.Faults.{plain}
+use Rattle.structure.specs.Judged.{Judged, Answers}
 use Rattle.structure.specs.declared.structures.Structure.the-variants.{Acknowledgement}
 use Rattle.verdict.specs.Verdicts.{Accepts}
 use Rattle.acknowledgement.specs.Acknowledgement.{header}
