@@ -2,7 +2,6 @@
 // meant, drawn with a mark under it.
 mod faults;
 
-use element::Address;
 use terminal::Output;
 
 // The output to which a verdict was printed, and whether it was that the message is accepted.
@@ -13,16 +12,7 @@ pub struct Told {
 
 // The bytes of a component of the type of a message, which is the first repetition of MSH-9.
 fn type_part(message: &[u8], component: usize) -> &[u8] {
-    element::raw(
-        message,
-        Address {
-            segment: 0,
-            field: 9,
-            repetition: 1,
-            component: component,
-            subcomponent: 0,
-        },
-    )
+    element::raw(message, element::type_address(component))
 }
 
 // Prints the type of a message: its two components, as people write them.
