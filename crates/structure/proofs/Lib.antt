@@ -10,4 +10,5 @@ pub mod Telling
 pub mod OnlyOne
 pub mod SegmentWalk
 pub mod NameLaws
+pub mod ChoiceLaws
 pub mod TableTest

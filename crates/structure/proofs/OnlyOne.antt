@@ -18,8 +18,8 @@ use Rattle.reading.specs.Reading.{reading}
 use Rattle.structure.specs.Shapes.{Shape, Yields, Viable, Fills, Possible, names, nameAt}
 use Rattle.structure.specs.SegmentNames.{kept, segmentNames}
 use Rattle.structure.specs.Listed.{In, Listed}
-use Rattle.structure.specs.Structures.{Grammar, listed, unlisted, structureOf, grammarOf}
-use Rattle.structure.specs.Judged.{front, Refused, refusedAs, Judged, accepted, refused, Structured, no-structure, by, Answers, unread, read}
+use Rattle.structure.specs.Structures.{ListedStructure, chosen, unlisted, structureFor, builtIn}
+use Rattle.structure.specs.Judged.{front, Refused, refusedAs, Judged, accepted, refused, StructuredBy, no-structure, by, AnswersBy, unread, read, Structured, Answers}
 use Rattle.fault.specs.Faults.{plain}
 use Rattle.fault.specs.declared.FaultRecord.{FaultRecord}
 use Rattle.structure.proofs.PlaceLaws.{CouldEnd, yields-is}
@@ -112,16 +112,26 @@ module _ (s : Shape) where
             kinds true q = let z : _≡_ {A = ℕ} 0 1 = cc in omega arith
             kinds false q = let z : _≡_ {A = ℕ} 0 1 = cc in omega arith
 
--- no second judgement of a message that was read
-pub one-structured : (m : List ℕ) {r t : FaultRecord} → Structured m r → Structured m t → r ≡ t
-one-structured m (no-structure e) (no-structure f) = refl
-one-structured m (no-structure e) (by s f j) = absurd (let z : _≡_ {A = ℕ} 0 1 = cc in omega arith)
-one-structured m (by s e j) (no-structure f) = absurd (let z : _≡_ {A = ℕ} 0 1 = cc in omega arith)
-one-structured m (by s e j) (by {r = t} s′ f k) = let q : s′ ≡ s = cc in one-judgement s (segmentNames m) j (subst (λ (x : Shape). Judged x (segmentNames m) t) q k)
+module _ (book : List ListedStructure) (m : List ℕ) where
+  -- no second judgement of a message that was read
+  pub one-structured-by : {r t : FaultRecord} → StructuredBy book m r → StructuredBy book m t → r ≡ t
+  one-structured-by (no-structure e) (no-structure f) = refl
+  one-structured-by (no-structure e) (by x f j) = absurd (let z : _≡_ {A = ℕ} 0 1 = cc in omega arith)
+  one-structured-by (by x e j) (no-structure f) = absurd (let z : _≡_ {A = ℕ} 0 1 = cc in omega arith)
+  one-structured-by (by x e j) (by {r = t} y f k) =
+      let q : y ≡ x = cc in
+      one-judgement (x .shape) (segmentNames m) j (subst (λ (z : ListedStructure). Judged (z .shape) (segmentNames m) t) q k)
 
--- nor of any bytes
+  -- nor of any bytes
+  pub only-one-by : {r t : FaultRecord} → AnswersBy book m r → AnswersBy book m t → r ≡ t
+  only-one-by (unread k p e) (unread l q f) = let a : k ≡ l = cc in let b : p ≡ q = cc in ap (λ (x : Refusal). plain x p) a ∙ ap (plain l) b
+  only-one-by (unread k p e) (read f j) = absurd (let z : _≡_ {A = ℕ} 0 1 = cc in omega arith)
+  only-one-by (read e j) (unread l q f) = absurd (let z : _≡_ {A = ℕ} 0 1 = cc in omega arith)
+  only-one-by (read e j) (read f k) = one-structured-by j k
+
+-- by the structures of document 01
+pub one-structured : (m : List ℕ) {r t : FaultRecord} → Structured m r → Structured m t → r ≡ t
+one-structured m a b = one-structured-by builtIn m a b
+
 pub only-one : (m : List ℕ) {r t : FaultRecord} → Answers m r → Answers m t → r ≡ t
-only-one m (unread k p e) (unread l q f) = let a : k ≡ l = cc in let b : p ≡ q = cc in ap (λ (x : Refusal). plain x p) a ∙ ap (plain l) b
-only-one m (unread k p e) (read f j) = absurd (let z : _≡_ {A = ℕ} 0 1 = cc in omega arith)
-only-one m (read e j) (unread l q f) = absurd (let z : _≡_ {A = ℕ} 0 1 = cc in omega arith)
-only-one m (read e j) (read f k) = one-structured m j k
+only-one m a b = only-one-by builtIn m a b

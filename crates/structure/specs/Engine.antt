@@ -10,6 +10,9 @@ use lib.ListN.{length, getD}
 use Rattle.structure.specs.Shapes.{Shape, names, numbered}
 use Rattle.structure.specs.Shapes.Shape.{end, seg, opt, rep}
 use Rattle.structure.specs.SegmentNames.{among, passedOver}
+use Rattle.structure.specs.Structures.{Choice, chosen, unlisted, observationReport, acknowledgement, merge, admission, transfer, cancel}
+use Rattle.structure.specs.declared.structures.Structure.{Structure}
+use Rattle.structure.specs.declared.structures.Structure.the-variants.{ObservationReport, Acknowledgement, Merge, Admission, Transfer, Cancel, Unlisted}
 use Rattle.structure.specs.declared.walking.Walked.{Walked}
 use Rattle.structure.specs.declared.walking.Walked.the-variants.{Accepted, Misplaced, Early}
 
@@ -130,3 +133,14 @@ pub record Tables (s : Shape) (ns follow : List ℕ) (last : ℕ) (begin : Entry
   pub named : ns ≡ names s
   pub fits : Fits (entryAt follow last) (numbered 0 s) stop
   pub begins : begin ≡ enter (numbered 0 s) stop
+
+-- ---- the structures that the code knows
+
+abbrev pub choiceOf : Structure → Choice
+choiceOf ObservationReport = chosen observationReport
+choiceOf Acknowledgement = chosen acknowledgement
+choiceOf Merge = chosen merge
+choiceOf Admission = chosen admission
+choiceOf Transfer = chosen transfer
+choiceOf Cancel = chosen cancel
+choiceOf Unlisted = unlisted

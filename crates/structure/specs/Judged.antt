@@ -15,7 +15,7 @@ use Rattle.fault.specs.declared.FaultRecord.{FaultRecord}
 use Rattle.structure.specs.Shapes.{Shape, Yields, Viable, Possible, names, nameAt}
 use Rattle.structure.specs.SegmentNames.{segmentNames, kept}
 use Rattle.structure.specs.Listed.{Listed}
-use Rattle.structure.specs.Structures.{listed, unlisted, structureOf, grammarOf}
+use Rattle.structure.specs.Structures.{ListedStructure, chosen, unlisted, structureFor, builtIn}
 
 -- the names of the first segments, as many as n, that are looked at
 abbrev pub front : Shape → ℕ → List ℕ → List ℕ
@@ -40,12 +40,19 @@ pub data Judged (s : Shape) (ns : List ℕ) : FaultRecord → Type 0 where
   accepted : Yields s (kept (names s) ns) → Judged s ns (plain None 0)
   refused : (place : ℕ) (ends : Bool) (list : List ℕ) → Refused s ns place ends list → Judged s ns (refusedAs (length ns) place ends list)
 
--- "20, 21, 22": the structure of a message, for which no reading fault is looked for
-pub data Structured (m : List ℕ) : FaultRecord → Type 0 where
-  no-structure : grammarOf (structureOf m) ≡ unlisted → Structured m (plain NoStructure 0)
-  by : {r : FaultRecord} (s : Shape) → grammarOf (structureOf m) ≡ listed s → Judged s (segmentNames m) r → Structured m r
+-- "20, 21, 22": a message judged by a book, a list of structures, where no reading fault is looked for
+pub data StructuredBy (book : List ListedStructure) (m : List ℕ) : FaultRecord → Type 0 where
+  no-structure : structureFor book m ≡ unlisted → StructuredBy book m (plain NoStructure 0)
+  by : {r : FaultRecord} (x : ListedStructure) → structureFor book m ≡ chosen x → Judged (x .shape) (segmentNames m) r → StructuredBy book m r
 
 -- "Judges answer a reading fault first, then 20, 21, 22"
-pub data Answers (m : List ℕ) : FaultRecord → Type 0 where
-  unread : (kind : Refusal) (place : ℕ) → reading m ≡ Fails kind place → Answers m (plain kind place)
-  read : {r : FaultRecord} → reading m ≡ Passes → Structured m r → Answers m r
+pub data AnswersBy (book : List ListedStructure) (m : List ℕ) : FaultRecord → Type 0 where
+  unread : (kind : Refusal) (place : ℕ) → reading m ≡ Fails kind place → AnswersBy book m (plain kind place)
+  read : {r : FaultRecord} → reading m ≡ Passes → StructuredBy book m r → AnswersBy book m r
+
+-- by the structures of document 01
+abbrev pub Structured : List ℕ → FaultRecord → Type 0
+Structured m r = StructuredBy builtIn m r
+
+abbrev pub Answers : List ℕ → FaultRecord → Type 0
+Answers m r = AnswersBy builtIn m r

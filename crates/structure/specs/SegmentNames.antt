@@ -3,6 +3,8 @@ use Prim.Native.Nat.{ℕ, _/_}
 use mathlib.Core.List.{List, [], _∷_, map}
 use mathlib.Core.Bool.{Bool, false, cond, not, _&&_, _||_}
 use lib.Dec.{eqb}
+use lib.ListN.{getD}
+use Rattle.alphabet.specs.Bytes.{ascii}
 use Rattle.reading.specs.Segments.{segments, nameOf}
 
 -- the names of a message's segments, as sent
@@ -14,9 +16,9 @@ unfoldable pub among : ℕ → List ℕ → Bool
 among n [] = false
 among n (x ∷ l) = eqb n x || among n l
 
--- "A segment whose name begins with Z and isn't in the structure", which has these names; Z is 90
+-- "A segment whose name begins with Z and isn't in the structure", which has these names
 unfoldable pub passedOver : List ℕ → ℕ → Bool
-passedOver ns n = eqb (n / 65536) 90 && not (among n ns)
+passedOver ns n = eqb (n / 65536) (getD (ascii "Z") 0 0) && not (among n ns)
 
 -- "is taken out first": what is left of some names
 unfoldable pub kept : List ℕ → List ℕ → List ℕ

@@ -1,11 +1,12 @@
--- The structures of document 01, each under its line, and the type that chooses one. `lines` lays the document's own lines beside the shapes: each
--- shape, written out, is its line.
+-- The structures of document 01, each under its line, and how a type chooses one, of these or of any others. `lines` lays the document's own lines beside
+-- the shapes: each shape, written out, is its line.
 use Prim.Native.Nat.{ℕ, _/_, _%_}
 use Prim.Native.String.{String}
 use mathlib.Core.Path.{_≡_, refl}
 use mathlib.Core.List.{List, [], _∷_, _++_}
-use mathlib.Core.Bool.{cond, _&&_, _||_}
+use mathlib.Core.Bool.{Bool, cond, _&&_, _||_}
 use lib.Dec.{eqb}
+use lib.ListN.{length, getD}
 use Rattle.alphabet.specs.Bytes.{ascii}
 use Rattle.alphabet.specs.Lists.{same}
 use Rattle.element.specs.Finding.{rawBytes}
@@ -13,8 +14,6 @@ use Rattle.element.specs.Addresses.{typeAddress}
 use Rattle.structure.specs.Shapes.{Shape}
 use Rattle.structure.specs.Shapes.Shape.{end, seg, opt, rep}
 use Rattle.reading.specs.Segments.{name}
-use Rattle.structure.specs.declared.structures.Structure.{Structure}
-use Rattle.structure.specs.declared.structures.Structure.the-variants.{ObservationReport, Acknowledgement, Merge, Admission, Transfer, Unlisted}
 
 -- a segment, and what is written after it
 abbrev the : String → Shape → Shape
@@ -62,13 +61,13 @@ adtA02 = the "MSH" (the "EVN" (the "PID" (the "PV1" (maybe "PV2" (maybe "ZVI" (m
 abbrev line : Shape → List ℕ
 line end = []
 line (seg n s) = n / 65536 ∷ n / 256 % 256 ∷ n % 256 ∷ line s
-line (opt b s) = 91 ∷ (line b ++ 93 ∷ line s)
-line (rep b s) = 123 ∷ (line b ++ 125 ∷ line s)
+line (opt b s) = ascii "[" ++ (line b ++ (ascii "]" ++ line s))
+line (rep b s) = ascii "{" ++ (line b ++ (ascii "}" ++ line s))
 
 -- a text without its spaces
 abbrev packed : List ℕ → List ℕ
 packed [] = []
-packed (b ∷ r) = cond (eqb b 32) (packed r) (b ∷ packed r)
+packed (b ∷ r) = cond (eqb b (getD (ascii " ") 0 0)) (packed r) (b ∷ packed r)
 
 pub lines : (line oruR01 ≡ packed (ascii "MSH { [PID [PD1] [{NK1}] [{NTE}] [PV1 [PV2]]] { [ORC] OBR [{NTE}] [{ [OBX] [{NTE}] }] [{CTI}] } } [DSC]"))
     × (line ack ≡ packed (ascii "MSH MSA [ERR]"))
@@ -77,35 +76,56 @@ pub lines : (line oruR01 ≡ packed (ascii "MSH { [PID [PD1] [{NK1}] [{NTE}] [PV
     × (line adtA02 ≡ packed (ascii "MSH EVN PID PV1 [PV2] [ZVI] [ZPD]"))
 lines = (refl, refl, refl, refl, refl)
 
--- ---- the type
+-- ---- which structure a type chooses
 
--- "ADT^A40", "ADT^A01", "ADT^A02 and A12": by the event
-unfoldable pub admissionOf : List ℕ → Structure
-admissionOf event =
-    cond (same event (ascii "A40")) Merge
-    (cond (same event (ascii "A01")) Admission
-    (cond (same event (ascii "A02") || same event (ascii "A12")) Transfer Unlisted))
+-- A structure that is listed, and for which types: an event of no bytes is any event. The name is the one that HL7 gives the structure, as component 3 of
+-- MSH-9 has it: "component 3 isn't looked at", so no judge asks for it yet.
+pub record ListedStructure : Type 0 where
+  pub type : List ℕ
+  pub event : List ℕ
+  pub name : List ℕ
+  pub shape : Shape
 
--- "ACK, any event": also none
-unfoldable pub chosen : List ℕ → List ℕ → Structure
-chosen type event =
-    cond (same type (ascii "ACK")) Acknowledgement
-    (cond (same type (ascii "ORU") && same event (ascii "R01")) ObservationReport
-    (cond (same type (ascii "ADT")) (admissionOf event) Unlisted))
+-- whether a structure is listed for a type: "compared as raw bytes"; "ACK, any event": also none
+abbrev pub meets : List ℕ → List ℕ → ListedStructure → Bool
+meets type event x = same type (x .type) && (eqb (length (x .event)) 0 || same event (x .event))
 
--- "components 1 and 2 of MSH-9, repetition 1, compared as raw bytes"
-unfoldable pub structureOf : List ℕ → Structure
-structureOf m = chosen (rawBytes m (typeAddress 1)) (rawBytes m (typeAddress 2))
+-- a structure is chosen, or the type is not listed
+pub data Choice : Type 0 where
+  chosen : ListedStructure → Choice
+  unlisted : Choice
 
--- the shape of a structure that is listed
-pub data Grammar : Type 0 where
-  listed : Shape → Grammar
-  unlisted : Grammar
+-- of some structures, the first that is listed for a type
+unfoldable pub choose : List ListedStructure → List ℕ → List ℕ → Choice
+choose [] type event = unlisted
+choose (x ∷ book) type event = cond (meets type event x) (chosen x) (choose book type event)
 
-abbrev pub grammarOf : Structure → Grammar
-grammarOf ObservationReport = listed oruR01
-grammarOf Acknowledgement = listed ack
-grammarOf Merge = listed adtA40
-grammarOf Admission = listed adtA01
-grammarOf Transfer = listed adtA02
-grammarOf Unlisted = unlisted
+-- "The type is components 1 and 2 of MSH-9, repetition 1, compared as raw bytes": which of some structures a message's type chooses
+unfoldable pub structureFor : List ListedStructure → List ℕ → Choice
+structureFor book m = choose book (rawBytes m (typeAddress 1)) (rawBytes m (typeAddress 2))
+
+-- ---- the structures of document 01, in its order
+
+abbrev listed : String → String → String → Shape → ListedStructure
+listed type event name shape = record { type = ascii type; event = ascii event; name = ascii name; shape = shape }
+
+abbrev pub observationReport : ListedStructure
+observationReport = listed "ORU" "R01" "ORU_R01" oruR01
+
+abbrev pub acknowledgement : ListedStructure
+acknowledgement = listed "ACK" "" "ACK" ack
+
+abbrev pub merge : ListedStructure
+merge = listed "ADT" "A40" "ADT_A39" adtA40
+
+abbrev pub admission : ListedStructure
+admission = listed "ADT" "A01" "ADT_A01" adtA01
+
+abbrev pub transfer : ListedStructure
+transfer = listed "ADT" "A02" "ADT_A02" adtA02
+
+abbrev pub cancel : ListedStructure
+cancel = listed "ADT" "A12" "ADT_A12" adtA02
+
+unfoldable pub builtIn : List ListedStructure
+builtIn = observationReport ∷ acknowledgement ∷ merge ∷ admission ∷ transfer ∷ cancel ∷ []

@@ -7,7 +7,9 @@ use alphabet::Refusal;
 use element::type_address;
 use fault::FaultRecord;
 ghost use mathlib.Core.Path.{_≡_};
-ghost use Rattle.structure.specs.Structures.{admissionOf, structureOf};
+ghost use Rattle.alphabet.specs.Bytes.{ascii};
+ghost use Rattle.structure.specs.Structures.{choose, structureFor, builtIn};
+ghost use Rattle.structure.specs.Engine.{choiceOf};
 ghost use Rattle.structure.specs.Judged.{Structured};
 
 // The structures that are listed; a type that chooses none is unlisted.
@@ -17,6 +19,7 @@ pub enum Structure {
     Merge,
     Admission,
     Transfer,
+    Cancel,
     Unlisted,
 }
 
@@ -158,7 +161,7 @@ const FOLLOW: [u64; 40] = [
 
 // The structure of an admission by its event.
 fn admission_of(event: &[u8]) -> Structure
-    ensures { λ r. ⌜ r ≡ admissionOf (now (event .entry)) ⌝ }
+    ensures { λ r. ⌜ choiceOf r ≡ choose builtIn (ascii "ADT") (now (event .entry)) ⌝ }
 {
     if alphabet::same(event, b"A40") {
         return Structure::Merge;
@@ -166,23 +169,26 @@ fn admission_of(event: &[u8]) -> Structure
     if alphabet::same(event, b"A01") {
         return Structure::Admission;
     }
-    if alphabet::same(event, b"A02") | alphabet::same(event, b"A12") {
+    if alphabet::same(event, b"A02") {
         return Structure::Transfer;
+    }
+    if alphabet::same(event, b"A12") {
+        return Structure::Cancel;
     }
     Structure::Unlisted
 }
 
 // The structure that the type of a message chooses.
 fn structure_of(message: &[u8]) -> Structure
-    ensures { λ r. ⌜ r ≡ structureOf (now (message .entry)) ⌝ }
+    ensures { λ r. ⌜ choiceOf r ≡ structureFor builtIn (now (message .entry)) ⌝ }
 {
     let kind = element::raw(message, type_address(1));
     let event = element::raw(message, type_address(2));
-    if alphabet::same(kind, b"ACK") {
-        return Structure::Acknowledgement;
-    }
     if alphabet::same(kind, b"ORU") & alphabet::same(event, b"R01") {
         return Structure::ObservationReport;
+    }
+    if alphabet::same(kind, b"ACK") {
+        return Structure::Acknowledgement;
     }
     if alphabet::same(kind, b"ADT") {
         return admission_of(event);
@@ -213,6 +219,7 @@ pub fn judge_read(message: &[u8]) -> FaultRecord
         Structure::Merge => judge_by(message, &names[17..23], &follow[17..23], 48, begin),
         Structure::Admission => judge_by(message, &names[23..33], &follow[23..33], 1008, begin),
         Structure::Transfer => judge_by(message, &names[33..40], &follow[33..40], 120, begin),
+        Structure::Cancel => judge_by(message, &names[33..40], &follow[33..40], 120, begin),
         Structure::Unlisted => fault::plain(Refusal::NoStructure, 0),
     }
 }
