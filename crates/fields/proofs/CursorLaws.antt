@@ -16,7 +16,7 @@ use Rattle.alphabet.specs.declared.answers.Check.the-variants.{Passes, Fails}
 use Rattle.alphabet.specs.declared.parts.Part.the-variants.{At, Absent}
 use Rattle.alphabet.proofs.ListLaws.{rest-of, piece-of-piece, first-le}
 use Rattle.alphabet.proofs.PartLaws.{split-step, split-last, split-nothing, part-bytes, past-none, none-past, walk-in, walk-more, walk-last, first-part}
-use Rattle.rules.specs.Rules.{firstState, requiredCheck, repeatedCheck, saidCheck, isSaid, saidField, kindOf, portionOf, repetitionCheck, repetitionChecks, rowCheck}
+use Rattle.rules.specs.Rules.{firstState, requiredCheck, repeatedCheck, saidCheck, isSaid, saidField, kindOf, componentOf, repetitionCheck, repetitionChecks, rowCheck}
 use Rattle.fields.specs.declared.walk.Cursor.{Cursor}
 use Rattle.rules.specs.Rules.{openingCheck}
 use Rattle.fields.specs.Walk.{partNumber, fieldBytes, saidBytes, Stands, Finds, leftOf, Goes}
@@ -119,11 +119,11 @@ module _ (ds s : List ℕ) (number : ℕ) (kind : Kind) where
 -- ---- a row begun
 
 row-opens : (ds : List ℕ) (row : Row) (said : List ℕ) (rs : List (List ℕ))
-    → rowCheck ds row said rs ≡ orElse (openingCheck ds row said rs) (inOrder (repetitionChecks ds (portionOf row said) (kindOf (row .kind) said) 1 rs))
+    → rowCheck ds row said rs ≡ orElse (openingCheck ds row said rs) (inOrder (repetitionChecks ds (componentOf row said) (kindOf (row .kind) said) 1 rs))
 unfolding rowCheck openingCheck
 row-opens ds row said rs =
-    at (requiredCheck (row .required) (firstState ds (row .portion) rs)) (repeatedCheck (row .repeats) rs) (saidCheck ds (row .kind) said rs)
-    (inOrder (repetitionChecks ds (portionOf row said) (kindOf (row .kind) said) 1 rs))
+    at (requiredCheck (row .required) (firstState ds (row .component) rs)) (repeatedCheck (row .repeats) rs) (saidCheck ds (row .kind) said rs)
+    (inOrder (repetitionChecks ds (componentOf row said) (kindOf (row .kind) said) 1 rs))
   where
     at : (a b c later : Check) → orElse a (orElse b (orElse c later)) ≡ orElse (orElse (orElse a b) c) later
     at (Fails kind place) b c later = refl
@@ -138,7 +138,7 @@ module _ (ds s : List ℕ) (number : ℕ) (row : Row) where
       → said ≡ saidBytes ds s number (row .kind)
       → take (t .end - t .start) (drop (t .start) s) ≡ fieldBytes ds s number (row .field)
       → t .found ≡ openingCheck ds row said (split (getD ds 2 0) (take (t .end - t .start) (drop (t .start) s)))
-      → t .portion ≡ portionOf row said
+      → t .component ≡ componentOf row said
       → t .kind ≡ kindOf (row .kind) said
       → rowCheck ds row (saidBytes ds s number (row .kind)) (split (getD ds 2 0) (fieldBytes ds s number (row .field)))
       ≡ orElse (t .found) (leftOf ds s t)
@@ -192,18 +192,18 @@ module _ (ds s : List ℕ) (t : Turn) (goes : Goes s t) (n : ℕ) (found : n ≡
       split-last (getD ds 2 0) rest (omega arith) ∙ ap (λ (j : ℕ). take j (drop (t .start) s) ∷ []) e
 
   abbrev checks : List (List ℕ) → Check
-  checks rs = inOrder (repetitionChecks ds (t .portion) (t .kind) (t .repetition) rs)
+  checks rs = inOrder (repetitionChecks ds (t .component) (t .kind) (t .repetition) rs)
 
-  pub step-asks : (r : Turn) → r .start ≡ t .start + n + 1 → r .end ≡ t .end → r .repetition ≡ t .repetition + 1 → r .portion ≡ t .portion → r .kind ≡ t .kind
-      → r .found ≡ repetitionCheck ds (t .portion) (t .kind) (t .repetition) here
+  pub step-asks : (r : Turn) → r .start ≡ t .start + n + 1 → r .end ≡ t .end → r .repetition ≡ t .repetition + 1 → r .component ≡ t .component → r .kind ≡ t .kind
+      → r .found ≡ repetitionCheck ds (t .component) (t .kind) (t .repetition) here
       → leftOf ds s t ≡ orElse (r .found) (leftOf ds s r)
   unfolding repetitionChecks
   step-asks r q1 q2 q3 q4 q5 q6 = rw (q6, q1, q2, q3, q4, q5) (by (eqb (t .start + n) (t .end)) refl)
     where
       by : (b : Bool) → eqb (t .start + n) (t .end) ≡ b
           → cond (leb (t .start) (t .end)) (checks (split (getD ds 2 0) rest)) Passes
-          ≡ orElse (repetitionCheck ds (t .portion) (t .kind) (t .repetition) here)
-          (cond (leb (t .start + n + 1) (t .end)) (inOrder (repetitionChecks ds (t .portion) (t .kind) (t .repetition + 1) (split (getD ds 2 0) (behind (t .start + n + 1))))) Passes)
+          ≡ orElse (repetitionCheck ds (t .component) (t .kind) (t .repetition) here)
+          (cond (leb (t .start + n + 1) (t .end)) (inOrder (repetitionChecks ds (t .component) (t .kind) (t .repetition + 1) (split (getD ds 2 0) (behind (t .start + n + 1))))) Passes)
       by true e =
           let h = eqb-true (t .start + n) (t .end) e in
           let g : t .end < t .start + n + 1 = omega arith in

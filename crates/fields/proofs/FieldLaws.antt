@@ -24,41 +24,40 @@ use Rattle.element.specs.declared.states.State.the-variants.{Absent, Empty}
 use Rattle.element.specs.Levels.{between, partIn, fieldIn}
 use Rattle.element.proofs.LevelLaws.{between-length, in-at, in-none, field-other, field-header}
 use Rattle.rules.specs.Table.{rows, noRow}
-use Rattle.rules.specs.Rules.{judgedPart, partState, repetitionCheck, repetitionChecks, requiredCheck, somePresent, isSaid, saidField, kindOf, portionOf, rowCheck}
+use Rattle.rules.specs.Rules.{judgedPart, partState, repetitionCheck, repetitionChecks, requiredCheck, somePresent, isSaid, saidField, kindOf, componentOf, rowCheck}
 use Rattle.fields.specs.Judging.{repetitionsIn, repetitionsOf, saidIn}
 use Rattle.fields.specs.Walk.{partNumber, fieldBytes, saidBytes}
-use Rattle.rules.specs.declared.table.Portion.{Portion}
-use Rattle.rules.specs.declared.table.Portion.the-variants.{Whole, Component}
 use Rattle.rules.specs.declared.table.Kind.{Kind}
 use Rattle.rules.specs.declared.table.Row.{Row}
 use Rattle.fields.proofs.CursorLaws.{part-other, part-header}
 
 -- ---- an absent field is judged as one with no bytes
 
-nothing-part : (ds : List ℕ) (portion : Portion) → judgedPart ds portion [] ≡ []
+nothing-part : (ds : List ℕ) (component : ℕ) → judgedPart ds component [] ≡ []
 unfolding judgedPart split
-nothing-part ds Whole = refl
-nothing-part ds Component = refl
+nothing-part ds zero = refl
+nothing-part ds (suc zero) = refl
+nothing-part ds (suc (suc k)) = refl
 
 nothing-state : (ds : List ℕ) → stateOf ds [] ≡ Empty
 unfolding stateOf first
 nothing-state ds = refl
 
-nothing-first : (ds : List ℕ) (required : Bool) (portion : Portion) → requiredCheck required Absent ≡ requiredCheck required (partState ds portion [])
-nothing-first ds required portion = rw (nothing-part ds portion, nothing-state ds)
+nothing-first : (ds : List ℕ) (required : Bool) (component : ℕ) → requiredCheck required Absent ≡ requiredCheck required (partState ds component [])
+nothing-first ds required component = rw (nothing-part ds component, nothing-state ds)
 
 nothing-present : (ds : List ℕ) → somePresent ds [] ≡ somePresent ds ([] ∷ [])
 unfolding somePresent
 nothing-present ds = rw (nothing-state ds)
 
-nothing-passes : (ds : List ℕ) (portion : Portion) (kind : Kind) → inOrder (repetitionChecks ds portion kind 1 []) ≡ inOrder (repetitionChecks ds portion kind 1 ([] ∷ []))
+nothing-passes : (ds : List ℕ) (component : ℕ) (kind : Kind) → inOrder (repetitionChecks ds component kind 1 []) ≡ inOrder (repetitionChecks ds component kind 1 ([] ∷ []))
 unfolding repetitionChecks repetitionCheck
-nothing-passes ds portion kind = rw (nothing-part ds portion, nothing-state ds)
+nothing-passes ds component kind = rw (nothing-part ds component, nothing-state ds)
 
 nothing-row : (ds : List ℕ) (row : Row) (said : List ℕ) → rowCheck ds row said [] ≡ rowCheck ds row said ([] ∷ [])
 unfolding rowCheck
 nothing-row ds row said =
-    rw (nothing-first ds (row .required) (row .portion), nothing-present ds, nothing-passes ds (portionOf row said) (kindOf (row .kind) said))
+    rw (nothing-first ds (row .required) (row .component), nothing-present ds, nothing-passes ds (componentOf row said) (kindOf (row .kind) said))
 
 -- ---- the repetitions of a part of the segment that stands from st to en
 

@@ -44,7 +44,7 @@ pub record Finds (sep : ℕ) (s : List ℕ) (wanted : ℕ) (r : Sought) : Type 0
 abbrev pub leftOf : List ℕ → List ℕ → Turn → Check
 leftOf ds s t =
     cond (leb (t .start) (t .end))
-    (inOrder (repetitionChecks ds (t .portion) (t .kind) (t .repetition) (split (getD ds 2 0) (take (t .end - t .start) (drop (t .start) s)))))
+    (inOrder (repetitionChecks ds (t .component) (t .kind) (t .repetition) (split (getD ds 2 0) (take (t .end - t .start) (drop (t .start) s)))))
     Passes
 
 -- a row begun: its opening was checked, and all its repetitions are left

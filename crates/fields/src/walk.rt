@@ -4,13 +4,12 @@ use alphabet::Check;
 use alphabet::Delimiters;
 use alphabet::Part;
 use rules::Kind;
-use rules::Portion;
 use rules::Row;
 use rules::check_opening;
 use rules::check_repetition;
+use rules::component_of;
 use rules::is_said;
 use rules::kind_of;
-use rules::portion_of;
 use rules::said_field;
 ghost use mathlib.Core.Path.{_≡_};
 ghost use Prim.Native.Nat.{_+_, _≤_};
@@ -40,7 +39,7 @@ pub struct Turn {
     pub start: usize,
     pub end: usize,
     pub repetition: usize,
-    pub portion: Portion,
+    pub component: usize,
     pub kind: Kind,
 }
 
@@ -155,7 +154,7 @@ pub fn begin_row(
         start: start,
         end: end,
         repetition: 1,
-        portion: portion_of(row, said),
+        component: component_of(row, said),
         kind: kind_of(kind, said),
     }
 }
@@ -169,10 +168,16 @@ pub fn next_repetition(delimiters: Delimiters, segment: &[u8], turn: Turn) -> Tu
     let start = turn.start;
     let end = turn.end;
     let repetition = turn.repetition;
-    let portion = turn.portion;
+    let component = turn.component;
     let kind = turn.kind;
     let next = start + alphabet::find(&segment[start..end], bytes[2]);
-    let found = check_repetition(delimiters, portion, kind, repetition, &segment[start..next]);
+    let found = check_repetition(
+        delimiters,
+        component,
+        kind,
+        repetition,
+        &segment[start..next],
+    );
     let cursor = turn.cursor;
     Turn {
         cursor: cursor,
@@ -180,7 +185,7 @@ pub fn next_repetition(delimiters: Delimiters, segment: &[u8], turn: Turn) -> Tu
         start: next + 1,
         end: end,
         repetition: repetition + 1,
-        portion: portion,
+        component: component,
         kind: kind,
     }
 }

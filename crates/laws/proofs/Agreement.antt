@@ -28,7 +28,7 @@ use Rattle.element.specs.Levels.{between, Within, partIn, fieldIn, fixed, below
 use Rattle.element.specs.Finding.{partBytes, found, elementBytes}
 use Rattle.element.proofs.LevelLaws.{in-absent, below-whole, below-split, within-field, within-in, within-segment}
 use Rattle.laws.specs.Elements.{address, Asks, whole-repetition, whole-component}
-use Rattle.laws.specs.Held.{componentOf, HeldAgainst, RowFinds, own, other, numbersFrom, JudgedByElements}
+use Rattle.laws.specs.Held.{HeldAgainst, RowFinds, own, other, numbersFrom, JudgedByElements}
 use Rattle.laws.proofs.ElementLaws.{absent-means, means-absent}
 use Rattle.laws.proofs.HeaderLaws.{first-segment}
 use Rattle.laws.proofs.RawLaws.{part-in-bytes}
@@ -39,8 +39,6 @@ use Rattle.rules.specs.Table.{rows, noRow}
 use Rattle.rules.specs.Rules.{judgedPart, isSaid, saidField, rowCheck}
 use Rattle.fields.specs.Judging.{Fault, Sound, nameAt, repetitionsIn, repetitionsOf, saidIn, located, firstFault, rowFault, segmentFaults, judging}
 use Rattle.rules.specs.declared.table.Row.{Row}
-use Rattle.rules.specs.declared.table.Portion.{Portion}
-use Rattle.rules.specs.declared.table.Portion.the-variants.{Whole, Component}
 
 -- no bytes have no part with bytes
 nothing-in : (sep : ℕ) (i : ℕ) → getD (split sep []) i [] ≡ []
@@ -65,22 +63,23 @@ module _ (m : List ℕ) (segment field r : ℕ) (four : 4 ≤ length m) (free : 
       below-split (getD (delimitersOf m) 2 0) m fieldPart (suc r) free (λ e. omega arith) ∙ ap (partIn (getD (delimitersOf m) 2 0) m fieldPart) e
 
   -- the part judged of repetition r + 1 is the element at (segment, field, r + 1, component, 0)
-  pub judged-element : (portion : Portion)
-      → judgedPart (delimitersOf m) portion (getD (repetitionsOf m segment (segmentAt m segment) field) r [])
-      ≡ partBytes m (elementAt m (record { segment = segment; field = field; repetition = suc r; component = componentOf portion; subcomponent = 0 }))
+  pub judged-element : (component : ℕ)
+      → judgedPart (delimitersOf m) component (getD (repetitionsOf m segment (segmentAt m segment) field) r [])
+      ≡ partBytes m (elementAt m (record { segment = segment; field = field; repetition = suc r; component = component; subcomponent = 0 }))
   unfolding judgedPart elementAt componentAt repetitionAt
-  judged-element Whole =
+  judged-element zero =
       repetition-bytes m fieldPart r
       ∙ sym (part-in-bytes (getD (delimitersOf m) 2 0) m fieldPart r within-fieldPart)
       ∙ ap (partBytes m) (sym (below-whole (getD (delimitersOf m) 4 0) m _ 0 (fixed segment field) refl ∙ below-whole (getD (delimitersOf m) 1 0) m _ 0 (fixed segment field) refl ∙ repetition-part))
-  judged-element Component =
-      ap (λ (b : List ℕ). getD (split (getD (delimitersOf m) 1 0) b) 0 [])
+  judged-element (suc c) =
+      let e : suc c - 1 ≡ c = omega arith in
+      ap (λ (b : List ℕ). getD (split (getD (delimitersOf m) 1 0) b) c [])
       (repetition-bytes m fieldPart r ∙ sym (part-in-bytes (getD (delimitersOf m) 2 0) m fieldPart r within-fieldPart))
-      ∙ sym (part-in-bytes (getD (delimitersOf m) 1 0) m (partIn (getD (delimitersOf m) 2 0) m fieldPart r) 0 (within-in (getD (delimitersOf m) 2 0) m fieldPart r within-fieldPart))
+      ∙ sym (part-in-bytes (getD (delimitersOf m) 1 0) m (partIn (getD (delimitersOf m) 2 0) m fieldPart r) c (within-in (getD (delimitersOf m) 2 0) m fieldPart r within-fieldPart))
       ∙ ap (partBytes m)
       (sym (below-whole (getD (delimitersOf m) 4 0) m _ 0 (fixed segment field) refl
-      ∙ below-split (getD (delimitersOf m) 1 0) m _ 1 free (λ e. omega arith)
-      ∙ ap (λ (p : Part). partIn (getD (delimitersOf m) 1 0) m p 0) repetition-part))
+      ∙ below-split (getD (delimitersOf m) 1 0) m _ (suc c) free (λ e. omega arith)
+      ∙ ap₂ (partIn (getD (delimitersOf m) 1 0) m) repetition-part e))
 
   -- there are as many repetitions as are not absent
   whole-element : elementAt m (address segment field (suc r) 0 0) ≡ partIn (getD (delimitersOf m) 2 0) m fieldPart r
@@ -221,15 +220,15 @@ module _ (m : List ℕ) (done : reading m ≡ Passes) (k : ℕ) (there : k < len
   answers : (f r c : ℕ) → Asks (address k f r c 0) → found m (address k f r c 0) .answer .kind ≡ None
   answers f r c asks = answered-exactly m (address k f r c 0) .1 (done, asks, there)
 
-  asks-portion : (f r : ℕ) → 1 ≤ f → (portion : Portion) → Asks (address k f (suc r) (componentOf portion) 0)
-  asks-portion f r h Whole = whole-repetition k f (suc r) h (omega arith)
-  asks-portion f r h Component = whole-component k f (suc r) 1 h (omega arith) (omega arith)
+  asks-component : (f r : ℕ) → 1 ≤ f → (component : ℕ) → Asks (address k f (suc r) component 0)
+  asks-component f r h zero = whole-repetition k f (suc r) h (omega arith)
+  asks-component f r h (suc c) = whole-component k f (suc r) (suc c) h (omega arith) (omega arith)
 
-  part-shown : (f r : ℕ) → 1 ≤ f → fixed k f ≡ false → (portion : Portion)
-      → judgedPart (delimitersOf m) portion (getD (repetitionsOf m k (segmentAt m k) f) r []) ≡ elementBytes m (address k f (suc r) (componentOf portion) 0)
-  part-shown f r h free portion =
-      judged-element m k f r four free portion
-      ∙ sym (shown-is m (address k f (suc r) (componentOf portion) 0) (answers f (suc r) (componentOf portion) (asks-portion f r h portion)))
+  part-shown : (f r : ℕ) → 1 ≤ f → fixed k f ≡ false → (component : ℕ)
+      → judgedPart (delimitersOf m) component (getD (repetitionsOf m k (segmentAt m k) f) r []) ≡ elementBytes m (address k f (suc r) component 0)
+  part-shown f r h free component =
+      judged-element m k f r four free component
+      ∙ sym (shown-is m (address k f (suc r) component 0) (answers f (suc r) component (asks-component f r h component)))
 
   module _ (row : Row) (fit : Fits row) (named : row .segment ≡ nameAt k bytes) where
     header-row : k ≡ 0 → (3 ≤ row .field) × (isSaid (row .kind) ≡ false)
@@ -244,14 +243,14 @@ module _ (m : List ℕ) (done : reading m ≡ Passes) (k : ℕ) (there : k < len
         record {
           counted = λ r. (
               let count = counted-element m k (row .field) r four free-field in
-              let nowhere = absent-nowhere m (address k (row .field) (suc r) 0 0) (answers (row .field) (suc r) 0 (asks-portion (row .field) r (fit .of-field) Whole)) in
+              let nowhere = absent-nowhere m (address k (row .field) (suc r) 0 0) (answers (row .field) (suc r) 0 (asks-component (row .field) r (fit .of-field) 0)) in
               ((λ h q. count .0 h (nowhere .0 q)), (λ n. count .1 (λ q. n (nowhere .1 q))))
               );
-          judged = λ r portion. part-shown (row .field) r (fit .of-field) free-field portion;
+          judged = λ r component. part-shown (row .field) r (fit .of-field) free-field component;
           as-said = λ e. (
               let free = split-further (address k (saidField (row .kind)) 0 0 0) (λ z. false-true (sym (header-row z .1) ∙ e)) in
               ap (λ (t : Bool). cond t (getD (repetitionsOf m k (segmentAt m k) (saidField (row .kind))) 0 []) []) e
-              ∙ part-shown (saidField (row .kind)) 0 (fit .said-field e) free Whole
+              ∙ part-shown (saidField (row .kind)) 0 (fit .said-field e) free 0
               );
         }
 

@@ -24,10 +24,9 @@ use Rattle.element.specs.States.{stateOf, isPresent}
 use Rattle.element.specs.declared.states.State.{State}
 use Rattle.element.specs.declared.states.State.the-variants.{Absent as no-part, Empty, Null, Present}
 use Rattle.laws.proofs.RawLaws.{raw-whole}
-use Rattle.rules.specs.Table.{row, rows, noRow, R, no}
+use Rattle.rules.specs.Table.{row, rows, noRow, whole, R, no}
 use Rattle.rules.specs.Rules.{formCheck, judgedPart, placed, repetitionCheck, repetitionChecks, firstState, requiredCheck, repeatedCheck, saidCheck, rowCheck}
 use Rattle.fields.specs.Judging.{Fault, Sound, Faulty, repetitionsIn, repetitionsOf, located, orFault, firstFault, rowFault, segmentFault, segmentFaults, judging}
-use Rattle.rules.specs.declared.table.Portion.the-variants.{Whole}
 use Rattle.rules.specs.declared.table.Kind.the-variants.{Identifier}
 use Rattle.rules.specs.declared.table.Row.{Row}
 
@@ -52,7 +51,7 @@ required-present Present e = refl
 
 -- the row of the control ID
 abbrev control : Row
-control = row "MSH" 10 Whole Identifier R no
+control = row "MSH" 10 whole Identifier R no
 
 -- one repetition, present and not too long
 record One (ds : List ℕ) (rs : List (List ℕ)) : Type 0 where
@@ -62,25 +61,25 @@ record One (ds : List ℕ) (rs : List (List ℕ)) : Type 0 where
   pub short : length bytes ≤ idLimit
 
 -- what the row asks of one repetition
-short-id : (ds r : List ℕ) → stateOf ds r ≡ Present → repetitionCheck ds Whole Identifier 1 r ≡ Passes → length r ≤ idLimit
+short-id : (ds r : List ℕ) → stateOf ds r ≡ Present → repetitionCheck ds whole Identifier 1 r ≡ Passes → length r ≤ idLimit
 unfolding repetitionCheck formCheck judgedPart
 short-id ds r p e =
     let f : placed 1 (failsIf (ltb idLimit (length r)) ValueTooLong 0) ≡ Passes = sym (ap (λ (s : State). cond (isPresent s) (placed 1 (failsIf (ltb idLimit (length r)) ValueTooLong 0)) Passes) p) ∙ e in
     ltb-false idLimit (length r) (passes-not (ltb idLimit (length r)) ValueTooLong 0 (placed-passes 1 (failsIf (ltb idLimit (length r)) ValueTooLong 0) f))
 
-one-of : (ds : List ℕ) (rs : List (List ℕ)) → firstState ds Whole rs ≡ Present → length rs ≤ 1 → inOrder (repetitionChecks ds Whole Identifier 1 rs) ≡ Passes → One ds rs
+one-of : (ds : List ℕ) (rs : List (List ℕ)) → firstState ds whole rs ≡ Present → length rs ≤ 1 → inOrder (repetitionChecks ds whole Identifier 1 rs) ≡ Passes → One ds rs
 unfolding repetitionChecks judgedPart
 one-of ds [] p l f = absurd (let z : _≡_ {A = ℕ} 0 1 = cc in omega arith)
-one-of ds (r ∷ []) p l f = record { bytes = r; alone = refl; present = p; short = short-id ds r p (both-pass (repetitionCheck ds Whole Identifier 1 r) Passes f .0) }
+one-of ds (r ∷ []) p l f = record { bytes = r; alone = refl; present = p; short = short-id ds r p (both-pass (repetitionCheck ds whole Identifier 1 r) Passes f .0) }
 one-of ds (r ∷ q ∷ rest) p l f = absurd (omega arith)
 
 one : (ds : List ℕ) (rs : List (List ℕ)) → rowCheck ds control [] rs ≡ Passes → One ds rs
 unfolding rowCheck
 one ds rs e =
-    let a = both-pass (requiredCheck true (firstState ds Whole rs)) _ e in
+    let a = both-pass (requiredCheck true (firstState ds whole rs)) _ e in
     let b = both-pass (repeatedCheck false rs) _ (a .1) in
-    let c = both-pass (saidCheck ds Identifier [] rs) (inOrder (repetitionChecks ds Whole Identifier 1 rs)) (b .1) in
-    one-of ds rs (required-present (firstState ds Whole rs) (a .0)) (ltb-false 1 (length rs) (passes-not (ltb 1 (length rs)) Repeated 1 (b .0))) (c .1)
+    let c = both-pass (saidCheck ds Identifier [] rs) (inOrder (repetitionChecks ds whole Identifier 1 rs)) (b .1) in
+    one-of ds rs (required-present (firstState ds whole rs) (a .0)) (ltb-false 1 (length rs) (passes-not (ltb 1 (length rs)) Repeated 1 (b .0))) (c .1)
 
 -- ---- the message
 

@@ -21,9 +21,8 @@ use Rattle.element.specs.declared.states.State.the-variants.{Absent, Empty, Nul
 use Rattle.numbers.specs.Numbers.{nmCheck, nmForm, nmDigits, mostDigits, isSi}
 use Rattle.times.specs.Times.{isDt, isTm, isTs}
 use Rattle.rules.specs.Table.{valuesOf}
-use Rattle.rules.specs.Rules.{member, formCheck, judgedPart, partState, placed, repetitionCheck, repetitionChecks, firstState, requiredCheck, repeatedCheck, saidCheck, isSaid, somePresent, kindOf, portionOf, rowCheck}
+use Rattle.rules.specs.Rules.{member, formCheck, judgedPart, partState, placed, repetitionCheck, repetitionChecks, firstState, requiredCheck, repeatedCheck, saidCheck, isSaid, somePresent, kindOf, componentOf, rowCheck}
 use Rattle.fields.specs.Judging.{Fault, Sound, Faulty, nameAt, saidIn, repetitionsOf, located, orFault, firstFault, rowFault, segmentFault, segmentFaults, judging, faultAnswer}
-use Rattle.rules.specs.declared.table.Portion.{Portion}
 use Rattle.rules.specs.declared.table.Kind.{Kind}
 use Rattle.rules.specs.declared.table.Kind.the-variants.{Any, Identifier, Ts, Si, Nm, Dt, Tm, OneOf, AsField}
 use Rattle.rules.specs.declared.table.Row.{Row}
@@ -59,18 +58,18 @@ placed-told number Passes p = tt
 placed-told number (Fails kind place) p = p
 
 module _ (ds : List ℕ) where
-  repetition-told : (portion : Portion) (kind : Kind) (number : ℕ) (r : List ℕ) → Told (repetitionCheck ds portion kind number r)
+  repetition-told : (component : ℕ) (kind : Kind) (number : ℕ) (r : List ℕ) → Told (repetitionCheck ds component kind number r)
   unfolding repetitionCheck
-  repetition-told portion kind number r = at (isPresent (partState ds portion r))
+  repetition-told component kind number r = at (isPresent (partState ds component r))
     where
-      at : (t : Bool) → Told (cond t (placed number (formCheck kind (judgedPart ds portion r))) Passes)
-      at true = placed-told number (formCheck kind (judgedPart ds portion r)) (form-told kind (judgedPart ds portion r))
+      at : (t : Bool) → Told (cond t (placed number (formCheck kind (judgedPart ds component r))) Passes)
+      at true = placed-told number (formCheck kind (judgedPart ds component r)) (form-told kind (judgedPart ds component r))
       at false = tt
 
-  repetitions-told : (portion : Portion) (kind : Kind) (number : ℕ) (rs : List (List ℕ)) → AllTold (repetitionChecks ds portion kind number rs)
+  repetitions-told : (component : ℕ) (kind : Kind) (number : ℕ) (rs : List (List ℕ)) → AllTold (repetitionChecks ds component kind number rs)
   unfolding repetitionChecks
-  repetitions-told portion kind number [] = tt
-  repetitions-told portion kind number (r ∷ rest) = (repetition-told portion kind number r, repetitions-told portion kind (number + 1) rest)
+  repetitions-told component kind number [] = tt
+  repetitions-told component kind number (r ∷ rest) = (repetition-told component kind number r, repetitions-told component kind (number + 1) rest)
 
   required-told : (required : Bool) (s : State) → Told (requiredCheck required s)
   required-told required Absent = numbered-if 31 37 required RequiredMissing 1 (omega arith, omega arith)
@@ -81,10 +80,10 @@ module _ (ds : List ℕ) where
   row-told : (row : Row) (said : List ℕ) (rs : List (List ℕ)) → Told (rowCheck ds row said rs)
   unfolding rowCheck
   row-told row said rs =
-      numbered-or 31 37 (requiredCheck (row .required) (firstState ds (row .portion) rs)) _ (required-told (row .required) (firstState ds (row .portion) rs))
+      numbered-or 31 37 (requiredCheck (row .required) (firstState ds (row .component) rs)) _ (required-told (row .required) (firstState ds (row .component) rs))
       (numbered-or 31 37 (repeatedCheck (row .repeats) rs) _ (numbered-if 31 37 (not (row .repeats) && ltb 1 (length rs)) Repeated 1 (omega arith, omega arith))
       (numbered-or 31 37 (saidCheck ds (row .kind) said rs) _ (numbered-if 31 37 ((isSaid (row .kind) && not (isPresent (stateOf ds said))) && somePresent ds rs) ValueWithoutType 1 (omega arith, omega arith))
-      (order-told (repetitionChecks ds (portionOf row said) (kindOf (row .kind) said) 1 rs) (repetitions-told (portionOf row said) (kindOf (row .kind) said) 1 rs))))
+      (order-told (repetitionChecks ds (componentOf row said) (kindOf (row .kind) said) 1 rs) (repetitions-told (componentOf row said) (kindOf (row .kind) said) 1 rs))))
 
 -- ---- faults
 

@@ -11,23 +11,16 @@ use Rattle.element.specs.Finding.{found, elementBytes}
 use Rattle.element.specs.declared.states.State.the-variants.{Absent}
 use Rattle.rules.specs.Table.{rows, noRow}
 use Rattle.rules.specs.Rules.{judgedPart, isSaid, saidField, rowCheck}
-use Rattle.rules.specs.declared.table.Portion.{Portion}
-use Rattle.rules.specs.declared.table.Portion.the-variants.{Whole, Component}
 use Rattle.rules.specs.declared.table.Row.{Row}
 use Rattle.fields.specs.Judging.{Fault, Sound, located, firstFault, judging}
 use Rattle.laws.specs.Elements.{address}
-
--- "whole" or "component 1", as an address asks for it
-abbrev pub componentOf : Portion → ℕ
-componentOf Whole = 0
-componentOf Component = 1
 
 -- a row against the segment of number k: `repetitions` are those of its field there, and `said` is what says its type
 pub record HeldAgainst (m : List ℕ) (k : ℕ) (row : Row) (said : List ℕ) (repetitions : List (List ℕ)) : Type 0 where
   -- "the repetitions in turn": as many as are not absent
   pub counted : (r : ℕ) → (r < length repetitions) ↔ (found m (address k (row .field) (suc r) 0 0) .element .state ≡ Absent → ⊥)
   -- "part judged": of repetition r + 1 it is the element at its address, byte for byte
-  pub judged : (r : ℕ) (portion : Portion) → judgedPart (delimitersOf m) portion (getD repetitions r []) ≡ elementBytes m (address k (row .field) (suc r) (componentOf portion) 0)
+  pub judged : (r component : ℕ) → judgedPart (delimitersOf m) component (getD repetitions r []) ≡ elementBytes m (address k (row .field) (suc r) component 0)
   -- "as OBX-2 says": repetition 1 of that field, whole
   pub as-said : isSaid (row .kind) ≡ true → said ≡ elementBytes m (address k (saidField (row .kind)) 1 0 0)
 

@@ -2,7 +2,7 @@
 use mathlib.Core.Path.{_≡_, refl, sym, ap, _∙_}
 use mathlib.Core.List.{List, [], _∷_}
 use mathlib.Core.Bool.{Bool, true, false, not, _&&_}
-use Prim.Native.Nat.{ℕ, _≤_}
+use Prim.Native.Nat.{ℕ, zero, suc, _-_, _≤_}
 use native.Mathlib.Omega.{arith}
 use borrow.Author.Tests.{not-true, not-false}
 use lib.ListN.{length, getD, take}
@@ -16,22 +16,33 @@ use Rattle.alphabet.specs.declared.answers.Refusal.the-variants.{ValueWithoutTy
 use Rattle.element.specs.States.{stateOf, isPresent}
 use Rattle.element.specs.declared.states.State.{State}
 use Rattle.element.specs.declared.states.State.the-variants.{Absent, Empty, Null, Present}
-use Rattle.rules.specs.Rules.{formCheck, judgedPart, partState, placed, repetitionCheck, firstState, requiredCheck, somePresent, isSaid, saidCheck, kindSaid, kindOf, portionOf}
-use Rattle.rules.specs.declared.table.Portion.{Portion}
-use Rattle.rules.specs.declared.table.Portion.the-variants.{Component}
+use Rattle.rules.specs.Rules.{formCheck, judgedPart, partState, placed, repetitionCheck, firstState, requiredCheck, somePresent, isSaid, saidCheck, kindSaid, kindOf, componentOf}
 use Rattle.rules.specs.declared.table.Kind.{Kind}
 use Rattle.rules.specs.declared.table.Kind.the-variants.{Any, Ts, Nm, Dt, Tm}
 use Rattle.rules.specs.declared.table.Row.{Row}
 use Rattle.alphabet.proofs.PartLaws.{first-part}
 
+-- ---- the part that is judged
+
+module _ (ds : List ℕ) (r : List ℕ) where
+  pub part-whole : (component : ℕ) → component ≡ 0 → r ≡ judgedPart ds component r
+  unfolding judgedPart
+  part-whole zero e = refl
+  part-whole (suc k) e = absurd (omega arith)
+
+  pub part-component : (component : ℕ) → (component ≡ 0 → ⊥) → getD (split (getD ds 1 0) r) (component - 1) [] ≡ judgedPart ds component r
+  unfolding judgedPart
+  part-component zero n = absurd (n refl)
+  part-component (suc k) n = let e : suc k - 1 ≡ k = omega arith in rw e
+
 -- ---- one repetition
 
-module _ (ds : List ℕ) (portion : Portion) (kind : Kind) (number : ℕ) (r part : List ℕ) (judged : part ≡ judgedPart ds portion r) where
-  pub repetition-other : isPresent (stateOf ds part) ≡ false → repetitionCheck ds portion kind number r ≡ Passes
+module _ (ds : List ℕ) (component : ℕ) (kind : Kind) (number : ℕ) (r part : List ℕ) (judged : part ≡ judgedPart ds component r) where
+  pub repetition-other : isPresent (stateOf ds part) ≡ false → repetitionCheck ds component kind number r ≡ Passes
   unfolding repetitionCheck
   repetition-other e = rw (sym judged, e)
 
-  pub repetition-present : isPresent (stateOf ds part) ≡ true → repetitionCheck ds portion kind number r ≡ placed number (formCheck kind part)
+  pub repetition-present : isPresent (stateOf ds part) ≡ true → repetitionCheck ds component kind number r ≡ placed number (formCheck kind part)
   unfolding repetitionCheck
   repetition-present e = rw (sym judged, e)
 
@@ -87,22 +98,22 @@ module _ (said : List ℕ) where
   kind-own kind e = rw e
 
   module _ (row : Row) (s t : Bool) (is-said : s ≡ isSaid (row .kind)) (is-ts : t ≡ same said (ascii "TS")) where
-    pub portion-said : (s && t) ≡ true → portionOf row said ≡ Component
-    portion-said e = rw (sym is-said, sym is-ts, e)
+    pub component-said : (s && t) ≡ true → componentOf row said ≡ 1
+    component-said e = rw (sym is-said, sym is-ts, e)
 
-    pub portion-own : (s && t) ≡ false → portionOf row said ≡ row .portion
-    portion-own e = rw (sym is-said, sym is-ts, e)
+    pub component-own : (s && t) ≡ false → componentOf row said ≡ row .component
+    component-own e = rw (sym is-said, sym is-ts, e)
 
 -- ---- the opening
 
-first-state-of : (ds : List ℕ) (portion : Portion) (rs : List (List ℕ)) → 1 ≤ length rs → firstState ds portion rs ≡ partState ds portion (getD rs 0 [])
-first-state-of ds portion [] h = absurd (omega arith)
-first-state-of ds portion (r ∷ rs) h = refl
+first-state-of : (ds : List ℕ) (component : ℕ) (rs : List (List ℕ)) → 1 ≤ length rs → firstState ds component rs ≡ partState ds component (getD rs 0 [])
+first-state-of ds component [] h = absurd (omega arith)
+first-state-of ds component (r ∷ rs) h = refl
 
 -- the first of the repetitions of a field that is there
-pub first-state : (ds : List ℕ) (portion : Portion) (sep : ℕ) (field : List ℕ) → firstState ds portion (split sep field) ≡ partState ds portion (take (find sep field) field)
-first-state ds portion sep field =
-    first-state-of ds portion (split sep field) (split-some sep field) ∙ ap (partState ds portion) (first-part sep field)
+pub first-state : (ds : List ℕ) (component : ℕ) (sep : ℕ) (field : List ℕ) → firstState ds component (split sep field) ≡ partState ds component (take (find sep field) field)
+first-state ds component sep field =
+    first-state-of ds component (split sep field) (split-some sep field) ∙ ap (partState ds component) (first-part sep field)
 
 -- what is not required may be in any state
 pub not-required : (s : State) → requiredCheck false s ≡ Passes

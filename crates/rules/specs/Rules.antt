@@ -1,10 +1,10 @@
 -- What a row asks of the repetitions of its field, by document 01, 'Fields judged': "House cut, judged on raw bytes. 'Whole' is one repetition."
 -- `ds` are the five delimiters. Checks give the number and, as their place, the repetition: "31, 34, 35, 36: repetition 1".
-use Prim.Native.Nat.{ℕ, _+_}
+use Prim.Native.Nat.{ℕ, zero, suc, _+_}
 use mathlib.Core.List.{List, [], _∷_}
 use mathlib.Core.Bool.{Bool, true, false, cond, not, _&&_, _||_}
 use lib.ListN.{length, getD}
-use lib.Dec.{ltb}
+use lib.Dec.{eqb, ltb}
 use Rattle.alphabet.specs.Bytes.{ascii}
 use Rattle.alphabet.specs.Answers.{failsIf, inOrder, orElse}
 use Rattle.alphabet.specs.Limits.{idLimit}
@@ -19,8 +19,6 @@ use Rattle.element.specs.declared.states.State.the-variants.{Absent, Empty, Nul
 use Rattle.numbers.specs.Numbers.{nmCheck, isSi}
 use Rattle.times.specs.Times.{isDt, isTm, isTs}
 use Rattle.rules.specs.Table.{valuesOf}
-use Rattle.rules.specs.declared.table.Portion.{Portion}
-use Rattle.rules.specs.declared.table.Portion.the-variants.{Whole, Component}
 use Rattle.rules.specs.declared.table.Kind.{Kind}
 use Rattle.rules.specs.declared.table.Kind.the-variants.{Any, Identifier, Ts, Si, Nm, Dt, Tm, OneOf, AsField}
 use Rattle.rules.specs.declared.table.Row.{Row}
@@ -45,13 +43,13 @@ formCheck (AsField f) bytes = Passes
 
 -- ---- one repetition
 
--- "part judged": the repetition, or its component 1
-unfoldable pub judgedPart : List ℕ → Portion → List ℕ → List ℕ
-judgedPart ds Whole repetition = repetition
-judgedPart ds Component repetition = getD (split (getD ds 1 0) repetition) 0 []
+-- "part judged": the repetition, or one of its components, from 1; one that is absent has no bytes
+unfoldable pub judgedPart : List ℕ → ℕ → List ℕ → List ℕ
+judgedPart ds zero repetition = repetition
+judgedPart ds (suc k) repetition = getD (split (getD ds 1 0) repetition) k []
 
-abbrev pub partState : List ℕ → Portion → List ℕ → State
-partState ds portion repetition = stateOf ds (judgedPart ds portion repetition)
+abbrev pub partState : List ℕ → ℕ → List ℕ → State
+partState ds component repetition = stateOf ds (judgedPart ds component repetition)
 
 -- a fault in the repetition of a number
 abbrev pub placed : ℕ → Check → Check
@@ -59,22 +57,22 @@ placed number Passes = Passes
 placed number (Fails kind place) = Fails kind number
 
 -- "Empty and null pass where not R"; where R, repetition 1 is present before it comes to this
-unfoldable pub repetitionCheck : List ℕ → Portion → Kind → ℕ → List ℕ → Check
-repetitionCheck ds portion kind number repetition =
-    cond (isPresent (partState ds portion repetition)) (placed number (formCheck kind (judgedPart ds portion repetition))) Passes
+unfoldable pub repetitionCheck : List ℕ → ℕ → Kind → ℕ → List ℕ → Check
+repetitionCheck ds component kind number repetition =
+    cond (isPresent (partState ds component repetition)) (placed number (formCheck kind (judgedPart ds component repetition))) Passes
 
 -- "the repetitions in turn"
-unfoldable pub repetitionChecks : List ℕ → Portion → Kind → ℕ → List (List ℕ) → List Check
-repetitionChecks ds portion kind number [] = []
-repetitionChecks ds portion kind number (r ∷ rest) =
-    repetitionCheck ds portion kind number r ∷ repetitionChecks ds portion kind (number + 1) rest
+unfoldable pub repetitionChecks : List ℕ → ℕ → Kind → ℕ → List (List ℕ) → List Check
+repetitionChecks ds component kind number [] = []
+repetitionChecks ds component kind number (r ∷ rest) =
+    repetitionCheck ds component kind number r ∷ repetitionChecks ds component kind (number + 1) rest
 
 -- ---- a row
 
 -- "R asks that the part in repetition 1 is present."
-abbrev pub firstState : List ℕ → Portion → List (List ℕ) → State
-firstState ds portion [] = Absent
-firstState ds portion (r ∷ rest) = partState ds portion r
+abbrev pub firstState : List ℕ → ℕ → List (List ℕ) → State
+firstState ds component [] = Absent
+firstState ds component (r ∷ rest) = partState ds component r
 
 -- 31, 34: "required part absent or empty; null"
 abbrev pub requiredCheck : Bool → State → Check
@@ -92,19 +90,7 @@ unfoldable pub somePresent : List ℕ → List (List ℕ) → Bool
 somePresent ds [] = false
 somePresent ds (r ∷ rest) = isPresent (stateOf ds r) || somePresent ds rest
 
--- "as OBX-2 says": the row's type is in another field
-abbrev pub isSaid : Kind → Bool
-isSaid Any = false
-isSaid Identifier = false
-isSaid Ts = false
-isSaid Si = false
-isSaid Nm = false
-isSaid Dt = false
-isSaid Tm = false
-isSaid (OneOf values) = false
-isSaid (AsField f) = true
-
--- which field; 0 where none does
+-- "as OBX-2 says": the field of the segment in which a row's type is said; 0 where none does
 abbrev pub saidField : Kind → ℕ
 saidField Any = 0
 saidField Identifier = 0
@@ -115,6 +101,9 @@ saidField Dt = 0
 saidField Tm = 0
 saidField (OneOf values) = 0
 saidField (AsField f) = f
+
+abbrev pub isSaid : Kind → Bool
+isSaid kind = not (eqb (saidField kind) 0)
 
 -- 35: "some repetition of OBX-5 present, OBX-2 repetition 1 not"; `said` is OBX-2's repetition 1, and where it is absent no bytes
 abbrev pub saidCheck : List ℕ → Kind → List ℕ → List (List ℕ) → Check
@@ -134,17 +123,17 @@ abbrev pub kindOf : Kind → List ℕ → Kind
 kindOf kind said = cond (isSaid kind) (kindSaid said) kind
 
 -- "whole; component 1 for TS"
-abbrev pub portionOf : Row → List ℕ → Portion
-portionOf row said = cond (isSaid (row .kind) && same said (ascii "TS")) Component (row .portion)
+abbrev pub componentOf : Row → List ℕ → ℕ
+componentOf row said = cond (isSaid (row .kind) && same said (ascii "TS")) 1 (row .component)
 
 -- "in a row 31 or 34, then 36, then 35, then the repetitions in turn"
 unfoldable pub rowCheck : List ℕ → Row → List ℕ → List (List ℕ) → Check
 rowCheck ds row said repetitions =
     inOrder
-    (requiredCheck (row .required) (firstState ds (row .portion) repetitions)
+    (requiredCheck (row .required) (firstState ds (row .component) repetitions)
     ∷ repeatedCheck (row .repeats) repetitions
     ∷ saidCheck ds (row .kind) said repetitions
-    ∷ repetitionChecks ds (portionOf row said) (kindOf (row .kind) said) 1 repetitions)
+    ∷ repetitionChecks ds (componentOf row said) (kindOf (row .kind) said) 1 repetitions)
 
 -- ---- what a private contract says; nobody has to believe it
 
@@ -152,5 +141,5 @@ rowCheck ds row said repetitions =
 unfoldable pub openingCheck : List ℕ → Row → List ℕ → List (List ℕ) → Check
 openingCheck ds row said repetitions =
     orElse
-    (orElse (requiredCheck (row .required) (firstState ds (row .portion) repetitions)) (repeatedCheck (row .repeats) repetitions))
+    (orElse (requiredCheck (row .required) (firstState ds (row .component) repetitions)) (repeatedCheck (row .repeats) repetitions))
     (saidCheck ds (row .kind) said repetitions)

@@ -8,8 +8,6 @@ use Rattle.alphabet.specs.Parts.{split}
 use Rattle.reading.specs.Segments.{name}
 use Rattle.rules.specs.declared.table.Values.{Values}
 use Rattle.rules.specs.declared.table.Values.the-variants.{Processing, Version, Sex, ValueTypes, Statuses, Codes}
-use Rattle.rules.specs.declared.table.Portion.{Portion}
-use Rattle.rules.specs.declared.table.Portion.the-variants.{Whole, Component}
 use Rattle.rules.specs.declared.table.Kind.{Kind}
 use Rattle.rules.specs.declared.table.Kind.the-variants.{Any, Identifier, Ts, Si, OneOf, AsField}
 use Rattle.rules.specs.declared.table.Row.{Row}
@@ -27,10 +25,14 @@ valuesOf ValueTypes = words "CE DT ED FT NM RP SN ST TM TS TX"
 valuesOf Statuses = words "C D F I N O P R S U W X"
 valuesOf Codes = words "AA AE AR"
 
+-- "part judged": a repetition's component, counted from 1, or the whole
+abbrev pub whole : ℕ
+whole = 0
+
 -- a row: segment, field, part judged, type, whether R, whether Y
-abbrev pub row : String → ℕ → Portion → Kind → Bool → Bool → Row
-row segment field portion kind required repeats =
-    record { segment = name segment; field = field; portion = portion; kind = kind; required = required; repeats = repeats }
+abbrev pub row : String → ℕ → ℕ → Kind → Bool → Bool → Row
+row segment field component kind required repeats =
+    record { segment = name segment; field = field; component = component; kind = kind; required = required; repeats = repeats }
 
 abbrev pub R : Bool
 R = true
@@ -44,24 +46,24 @@ no = false
 
 unfoldable pub rows : List Row
 rows =
-    row "MSH" 7 Component Ts R no
-    ∷ row "MSH" 10 Whole Identifier R no
-    ∷ row "MSH" 11 Component (OneOf Processing) R no
-    ∷ row "MSH" 12 Component (OneOf Version) R no
-    ∷ row "PID" 3 Whole Any R Y
-    ∷ row "PID" 5 Whole Any R Y
-    ∷ row "PID" 7 Component Ts no no
-    ∷ row "PID" 8 Whole (OneOf Sex) no no
-    ∷ row "OBR" 1 Whole Si no no
-    ∷ row "OBX" 1 Whole Si no no
-    ∷ row "OBX" 2 Whole (OneOf ValueTypes) no no
-    ∷ row "OBX" 3 Whole Any R no
-    ∷ row "OBX" 5 Whole (AsField 2) no Y
-    ∷ row "OBX" 11 Whole (OneOf Statuses) R no
-    ∷ row "OBX" 14 Component Ts no no
-    ∷ row "MSA" 1 Whole (OneOf Codes) R no
+    row "MSH" 7 1 Ts R no
+    ∷ row "MSH" 10 whole Identifier R no
+    ∷ row "MSH" 11 1 (OneOf Processing) R no
+    ∷ row "MSH" 12 1 (OneOf Version) R no
+    ∷ row "PID" 3 whole Any R Y
+    ∷ row "PID" 5 whole Any R Y
+    ∷ row "PID" 7 1 Ts no no
+    ∷ row "PID" 8 whole (OneOf Sex) no no
+    ∷ row "OBR" 1 whole Si no no
+    ∷ row "OBX" 1 whole Si no no
+    ∷ row "OBX" 2 whole (OneOf ValueTypes) no no
+    ∷ row "OBX" 3 whole Any R no
+    ∷ row "OBX" 5 whole (AsField 2) no Y
+    ∷ row "OBX" 11 whole (OneOf Statuses) R no
+    ∷ row "OBX" 14 1 Ts no no
+    ∷ row "MSA" 1 whole (OneOf Codes) R no
     ∷ []
 
 -- what stands past the last row: no segment has the name 0
 abbrev pub noRow : Row
-noRow = record { segment = 0; field = 0; portion = Whole; kind = Any; required = false; repeats = false }
+noRow = record { segment = 0; field = 0; component = whole; kind = Any; required = false; repeats = false }

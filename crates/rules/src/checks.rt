@@ -1,18 +1,18 @@
 // What a row asks of the repetitions of its field. A check gives the number and, as its place, the repetition.
 // A field that is absent is judged as one with no bytes: to the judge they are the same.
 use crate::table::Kind;
-use crate::table::Portion;
 use crate::table::Row;
 use crate::table::is_listed;
 use alphabet::Check;
 use alphabet::Delimiters;
+use alphabet::Part;
 use alphabet::Refusal;
 use element::State;
 ghost use mathlib.Core.Path.{_≡_};
 ghost use lib.ListN.{getD};
 ghost use Rattle.alphabet.specs.Parts.{split};
 ghost use Rattle.element.specs.States.{stateOf, isPresent};
-ghost use Rattle.rules.specs.Rules.{formCheck, openingCheck, judgedPart, repetitionCheck, requiredCheck, somePresent, isSaid, saidField, saidCheck, kindSaid, kindOf, portionOf};
+ghost use Rattle.rules.specs.Rules.{formCheck, openingCheck, judgedPart, repetitionCheck, requiredCheck, somePresent, isSaid, saidField, saidCheck, kindSaid, kindOf, componentOf};
 
 // The bytes of a part that is present, against a type.
 fn check_form(kind: Kind, bytes: &[u8]) -> Check
@@ -34,16 +34,19 @@ fn check_form(kind: Kind, bytes: &[u8]) -> Check
     }
 }
 
-// The part of a repetition that is judged: the whole, or what stands before its first component separator.
-fn judged_part(delimiters: Delimiters, portion: Portion, repetition: &[u8]) -> &[u8]
-    ensures { λ r. ⌜ now r ≡ judgedPart (delimiters .bytes) portion (now (repetition .entry)) ⌝ }
+// The part of a repetition that is judged: the whole, or a component of it, which has no bytes where it is absent.
+fn judged_part(delimiters: Delimiters, component: usize, repetition: &[u8]) -> &[u8]
+    ensures { λ r. ⌜ now r ≡ judgedPart (delimiters .bytes) component (now (repetition .entry)) ⌝ }
 {
-    let Portion::Component = portion else {
+    if component == 0 {
         return repetition;
-    };
+    }
     let bytes = delimiters.bytes;
-    let end = alphabet::find(repetition, bytes[1]);
-    &repetition[..end]
+    let part = alphabet::nth_part(repetition, bytes[1], component - 1);
+    let Part::At { start, end } = part else {
+        return &repetition[..0];
+    };
+    &repetition[start..end]
 }
 
 // Whether a part that is there is present, and neither empty nor null.
@@ -56,14 +59,14 @@ fn is_present(delimiters: Delimiters, bytes: &[u8]) -> bool
 // One repetition, of the given number, against a type: what is empty or null passes.
 pub fn check_repetition(
     delimiters: Delimiters,
-    portion: Portion,
+    component: usize,
     kind: Kind,
     number: usize,
     repetition: &[u8],
 ) -> Check
-    ensures { λ r. ⌜ r ≡ repetitionCheck (delimiters .bytes) portion kind number (now (repetition .entry)) ⌝ }
+    ensures { λ r. ⌜ r ≡ repetitionCheck (delimiters .bytes) component kind number (now (repetition .entry)) ⌝ }
 {
-    let part = judged_part(delimiters, portion, repetition);
+    let part = judged_part(delimiters, component, repetition);
     if !is_present(delimiters, part) {
         return Check::Passes;
     }
@@ -94,13 +97,13 @@ fn check_required(required: bool, state: State) -> Check
 
 // The same of repetition 1 of a row's field: what is not required is not looked at.
 fn check_first(delimiters: Delimiters, row: Row, repetition: &[u8]) -> Check
-    ensures { λ r. ⌜ r ≡ requiredCheck (row .required) (stateOf (delimiters .bytes) (judgedPart (delimiters .bytes) (row .portion) (now (repetition .entry)))) ⌝ }
+    ensures { λ r. ⌜ r ≡ requiredCheck (row .required) (stateOf (delimiters .bytes) (judgedPart (delimiters .bytes) (row .component) (now (repetition .entry)))) ⌝ }
 {
     if !row.required {
         return Check::Passes;
     }
-    let portion = row.portion;
-    let part = judged_part(delimiters, portion, repetition);
+    let component = row.component;
+    let part = judged_part(delimiters, component, repetition);
     let state = element::state_of(delimiters, part);
     check_required(true, state)
 }
@@ -143,38 +146,21 @@ fn kind_said(said: &[u8]) -> Kind
     Kind::Any
 }
 
-// Whether another field says what a row judges by.
-pub fn is_said(kind: Kind) -> bool
-    ensures { λ r. ⌜ r ≡ isSaid kind ⌝ }
-{
-    match kind {
-        Kind::Any => false,
-        Kind::Identifier => false,
-        Kind::Ts => false,
-        Kind::Si => false,
-        Kind::Nm => false,
-        Kind::Dt => false,
-        Kind::Tm => false,
-        Kind::OneOf(_) => false,
-        Kind::AsField(_) => true,
-    }
-}
-
-// Which field says it, or 0 where none does.
+// Which field says what a row judges by, or 0 where none does.
 pub fn said_field(kind: Kind) -> usize
     ensures { λ r. ⌜ r ≡ saidField kind ⌝ }
 {
-    match kind {
-        Kind::Any => 0,
-        Kind::Identifier => 0,
-        Kind::Ts => 0,
-        Kind::Si => 0,
-        Kind::Nm => 0,
-        Kind::Dt => 0,
-        Kind::Tm => 0,
-        Kind::OneOf(_) => 0,
-        Kind::AsField(field) => field,
-    }
+    let Kind::AsField(field) = kind else {
+        return 0;
+    };
+    field
+}
+
+// Whether another field says it.
+pub fn is_said(kind: Kind) -> bool
+    ensures { λ r. ⌜ r ≡ isSaid kind ⌝ }
+{
+    said_field(kind) != 0
 }
 
 // What a row judges by, once the field that may say it is known.
@@ -187,16 +173,15 @@ pub fn kind_of(kind: Kind, said: &[u8]) -> Kind
     kind
 }
 
-// What of a repetition a row judges: of a type that is said, component 1 for TS.
-pub fn portion_of(row: Row, said: &[u8]) -> Portion
-    ensures { λ r. ⌜ r ≡ portionOf row (now (said .entry)) ⌝ }
+// Which component of a repetition a row judges: of a type that is said, component 1 for TS.
+pub fn component_of(row: Row, said: &[u8]) -> usize
+    ensures { λ r. ⌜ r ≡ componentOf row (now (said .entry)) ⌝ }
 {
-    let portion = row.portion;
     let kind = row.kind;
     if is_said(kind) & alphabet::same(said, b"TS") {
-        return Portion::Component;
+        return 1;
     }
-    portion
+    row.component
 }
 
 // Number 35: a field whose type is said has some repetition present, and what says it is not.

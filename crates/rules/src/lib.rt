@@ -5,14 +5,13 @@ mod table;
 
 pub use checks::check_opening;
 pub use checks::check_repetition;
+pub use checks::component_of;
 pub use checks::is_said;
 pub use checks::kind_of;
-pub use checks::portion_of;
 pub use checks::said_field;
 pub use table::COUNT;
 pub use table::Kind;
 pub use table::MSH;
-pub use table::Portion;
 pub use table::Row;
 pub use table::Values;
 pub use table::all_rows;

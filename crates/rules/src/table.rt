@@ -15,12 +15,6 @@ pub enum Values {
     Codes,
 }
 
-// What of a repetition is judged.
-pub enum Portion {
-    Whole,
-    Component,
-}
-
 // What it is judged by: a form, a list, or what another field of the segment says.
 pub enum Kind {
     Any,
@@ -34,11 +28,12 @@ pub enum Kind {
     AsField(usize),
 }
 
-// The segment's name is its three bytes as one number, the first highest.
+// The segment's name is its three bytes as one number, the first highest. Of each repetition a row judges a component, counted
+// from 1, or the whole, which is 0.
 pub struct Row {
     pub segment: u32,
     pub field: usize,
-    pub portion: Portion,
+    pub component: usize,
     pub kind: Kind,
     pub required: bool,
     pub repeats: bool,
@@ -55,6 +50,9 @@ const OBX: u32 = 0x4F4258;
 
 const MSA: u32 = 0x4D5341;
 
+// The component of a row that judges whole repetitions.
+const WHOLE: usize = 0;
+
 // How many rows there are.
 pub const COUNT: usize = 16;
 
@@ -62,7 +60,7 @@ const ROWS: [Row; COUNT] = [
     Row {
         segment: MSH,
         field: 7,
-        portion: Portion::Component,
+        component: 1,
         kind: Kind::Ts,
         required: true,
         repeats: false,
@@ -70,7 +68,7 @@ const ROWS: [Row; COUNT] = [
     Row {
         segment: MSH,
         field: 10,
-        portion: Portion::Whole,
+        component: WHOLE,
         kind: Kind::Identifier,
         required: true,
         repeats: false,
@@ -78,7 +76,7 @@ const ROWS: [Row; COUNT] = [
     Row {
         segment: MSH,
         field: 11,
-        portion: Portion::Component,
+        component: 1,
         kind: Kind::OneOf(Values::Processing),
         required: true,
         repeats: false,
@@ -86,7 +84,7 @@ const ROWS: [Row; COUNT] = [
     Row {
         segment: MSH,
         field: 12,
-        portion: Portion::Component,
+        component: 1,
         kind: Kind::OneOf(Values::Version),
         required: true,
         repeats: false,
@@ -94,7 +92,7 @@ const ROWS: [Row; COUNT] = [
     Row {
         segment: PID,
         field: 3,
-        portion: Portion::Whole,
+        component: WHOLE,
         kind: Kind::Any,
         required: true,
         repeats: true,
@@ -102,7 +100,7 @@ const ROWS: [Row; COUNT] = [
     Row {
         segment: PID,
         field: 5,
-        portion: Portion::Whole,
+        component: WHOLE,
         kind: Kind::Any,
         required: true,
         repeats: true,
@@ -110,7 +108,7 @@ const ROWS: [Row; COUNT] = [
     Row {
         segment: PID,
         field: 7,
-        portion: Portion::Component,
+        component: 1,
         kind: Kind::Ts,
         required: false,
         repeats: false,
@@ -118,7 +116,7 @@ const ROWS: [Row; COUNT] = [
     Row {
         segment: PID,
         field: 8,
-        portion: Portion::Whole,
+        component: WHOLE,
         kind: Kind::OneOf(Values::Sex),
         required: false,
         repeats: false,
@@ -126,7 +124,7 @@ const ROWS: [Row; COUNT] = [
     Row {
         segment: OBR,
         field: 1,
-        portion: Portion::Whole,
+        component: WHOLE,
         kind: Kind::Si,
         required: false,
         repeats: false,
@@ -134,7 +132,7 @@ const ROWS: [Row; COUNT] = [
     Row {
         segment: OBX,
         field: 1,
-        portion: Portion::Whole,
+        component: WHOLE,
         kind: Kind::Si,
         required: false,
         repeats: false,
@@ -142,7 +140,7 @@ const ROWS: [Row; COUNT] = [
     Row {
         segment: OBX,
         field: 2,
-        portion: Portion::Whole,
+        component: WHOLE,
         kind: Kind::OneOf(Values::ValueTypes),
         required: false,
         repeats: false,
@@ -150,7 +148,7 @@ const ROWS: [Row; COUNT] = [
     Row {
         segment: OBX,
         field: 3,
-        portion: Portion::Whole,
+        component: WHOLE,
         kind: Kind::Any,
         required: true,
         repeats: false,
@@ -158,7 +156,7 @@ const ROWS: [Row; COUNT] = [
     Row {
         segment: OBX,
         field: 5,
-        portion: Portion::Whole,
+        component: WHOLE,
         kind: Kind::AsField(2),
         required: false,
         repeats: true,
@@ -166,7 +164,7 @@ const ROWS: [Row; COUNT] = [
     Row {
         segment: OBX,
         field: 11,
-        portion: Portion::Whole,
+        component: WHOLE,
         kind: Kind::OneOf(Values::Statuses),
         required: true,
         repeats: false,
@@ -174,7 +172,7 @@ const ROWS: [Row; COUNT] = [
     Row {
         segment: OBX,
         field: 14,
-        portion: Portion::Component,
+        component: 1,
         kind: Kind::Ts,
         required: false,
         repeats: false,
@@ -182,7 +180,7 @@ const ROWS: [Row; COUNT] = [
     Row {
         segment: MSA,
         field: 1,
-        portion: Portion::Whole,
+        component: WHOLE,
         kind: Kind::OneOf(Values::Codes),
         required: true,
         repeats: false,

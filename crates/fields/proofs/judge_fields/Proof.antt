@@ -220,7 +220,7 @@ loop-again-2 c =
       omega arith,
       k .loop2 .inv .3,
       passed k (c .before .before .enum-told .given .1)
-          ∙ ap (λ (t : Bool). orFault (located (number (rows-at r)) (field r) (cond t (inOrder (repetitionChecks (ds (outer (rows-at r))) (turn k .portion) (turn k .kind) (turn k .repetition) (split (getD (ds (outer (rows-at r))) 2 0) (take (turn k .end - turn k .start) (drop (turn k .start) (segment (rows-at r))))))) Passes)) (rest k)) (lt-leb (turn k .start) (turn k .end) (c .if2 .taken)),
+          ∙ ap (λ (t : Bool). orFault (located (number (rows-at r)) (field r) (cond t (inOrder (repetitionChecks (ds (outer (rows-at r))) (turn k .component) (turn k .kind) (turn k .repetition) (split (getD (ds (outer (rows-at r))) 2 0) (take (turn k .end - turn k .start) (drop (turn k .start) (segment (rows-at r))))))) Passes)) (rest k)) (lt-leb (turn k .start) (turn k .end) (c .if2 .taken)),
     )
 
 next-repetition-requires : tie.Need-next-repetition-requires Inv-loop2 μ-loop2 Inv-loop μ-loop Inv-judging μ-judging

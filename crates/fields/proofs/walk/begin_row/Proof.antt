@@ -23,13 +23,13 @@ returns c =
       first = refl;
       asks =
           row-asks ds (now (a .segment)) (a .number) (a .row)
-          (record { cursor = s .cursor; found = c .before .before .check-opening .result; start = s .start; end = s .end; repetition = 1; portion = c .before .portion-of .result; kind = c .kind-of .result })
+          (record { cursor = s .cursor; found = c .before .before .check-opening .result; start = s .start; end = s .end; repetition = 1; component = c .before .component-of .result; kind = c .kind-of .result })
           (f .ordered)
           refl
           (c .before .before .before .before .before .before .before .said-in .ensures)
           (f .bytes ∙ ap (λ (k : ℕ). getD (split (getD ds 0 0) (now (a .segment))) k []) (c .before .before .before .before .before .before .part-number .ensures))
           (c .before .before .check-opening .ensures)
-          (c .before .portion-of .ensures)
+          (c .before .component-of .ensures)
           (c .kind-of .ensures);
     }
 

@@ -27,7 +27,7 @@ returns c =
       counted = omega arith;
       asks =
           step-asks (a .delimiters .bytes) (now (a .segment)) (a .turn) g (f .find .result) (f .find .ensures)
-          (record { cursor = a .turn .cursor; found = c .before .check-repetition .result; start = a .turn .start + f .find .result + 1; end = a .turn .end; repetition = a .turn .repetition + 1; portion = a .turn .portion; kind = a .turn .kind })
+          (record { cursor = a .turn .cursor; found = c .before .check-repetition .result; start = a .turn .start + f .find .result + 1; end = a .turn .end; repetition = a .turn .repetition + 1; component = a .turn .component; kind = a .turn .kind })
           refl refl refl refl refl (c .before .check-repetition .ensures);
     }
 

@@ -13,7 +13,7 @@ use Rattle.rules.proofs.checks.check_first.Tie as tie
 returns : tie.Need-returns
 returns c =
     let a = c .before .before .before .args in
-    let s = stateOf (a .delimiters .bytes) (judgedPart (a .delimiters .bytes) (a .row .portion) (now (a .repetition))) in
+    let s = stateOf (a .delimiters .bytes) (judgedPart (a .delimiters .bytes) (a .row .component) (now (a .repetition))) in
     sym (not-required s) ∙ ap (λ (t : Bool). requiredCheck t s) (sym (not-true (a .row .required) (c .if1 .taken)))
 
 returns-2 : tie.Need-returns-2

@@ -31,14 +31,14 @@ within c =
 -- 31 or 34, by repetition 1
 required : (c : tie.After-check-first)
     → c .check-first .result
-    ≡ requiredCheck (c .before .before .before .before .before .before .args .row .required) (firstState (c .before .before .before .before .before .before .args .delimiters .bytes) (c .before .before .before .before .before .before .args .row .portion) (split (getD (c .before .before .before .before .before .before .args .delimiters .bytes) 2 0) (now (c .before .before .before .before .before .before .args .field))))
+    ≡ requiredCheck (c .before .before .before .before .before .before .args .row .required) (firstState (c .before .before .before .before .before .before .args .delimiters .bytes) (c .before .before .before .before .before .before .args .row .component) (split (getD (c .before .before .before .before .before .before .args .delimiters .bytes) 2 0) (now (c .before .before .before .before .before .before .args .field))))
 required c =
     let a = c .before .before .before .before .before .before .args in
     let ds = a .delimiters .bytes in
     c .check-first .ensures
     ∙ ap (requiredCheck (a .row .required))
-    (ap (λ (n : ℕ). stateOf ds (judgedPart ds (a .row .portion) (take n (now (a .field))))) (c .before .before .find .ensures)
-    ∙ sym (first-state ds (a .row .portion) (getD ds 2 0) (now (a .field))))
+    (ap (λ (n : ℕ). stateOf ds (judgedPart ds (a .row .component) (take n (now (a .field))))) (c .before .before .find .ensures)
+    ∙ sym (first-state ds (a .row .component) (getD ds 2 0) (now (a .field))))
 
 -- 36, by where the first repetition ends
 repeated : (c : tie.After-fails-if) → c .fails-if .result ≡ repeatedCheck (c .before .before .before .before .before .before .before .before .args .row .repeats) (split (getD (c .before .before .before .before .before .before .before .before .args .delimiters .bytes) 2 0) (now (c .before .before .before .before .before .before .before .before .args .field)))
@@ -52,7 +52,7 @@ repeated c =
 -- the one, then the other
 first : (c : tie.After-or-else)
     → c .or-else .result
-    ≡ orElse (requiredCheck (c .before .before .before .before .before .before .before .before .before .args .row .required) (firstState (c .before .before .before .before .before .before .before .before .before .args .delimiters .bytes) (c .before .before .before .before .before .before .before .before .before .args .row .portion) (split (getD (c .before .before .before .before .before .before .before .before .before .args .delimiters .bytes) 2 0) (now (c .before .before .before .before .before .before .before .before .before .args .field)))))
+    ≡ orElse (requiredCheck (c .before .before .before .before .before .before .before .before .before .args .row .required) (firstState (c .before .before .before .before .before .before .before .before .before .args .delimiters .bytes) (c .before .before .before .before .before .before .before .before .before .args .row .component) (split (getD (c .before .before .before .before .before .before .before .before .before .args .delimiters .bytes) 2 0) (now (c .before .before .before .before .before .before .before .before .before .args .field)))))
     (repeatedCheck (c .before .before .before .before .before .before .before .before .before .args .row .repeats) (split (getD (c .before .before .before .before .before .before .before .before .before .args .delimiters .bytes) 2 0) (now (c .before .before .before .before .before .before .before .before .before .args .field))))
 first c =
     let a = c .before .before .before .before .before .before .before .before .before .args in

@@ -12,14 +12,14 @@ returns : tie.Need-returns
 returns c =
     let j = c .before .before in
     let a = j .before .before .args in
-    sym (repetition-other (a .delimiters .bytes) (a .portion) (a .kind) (a .number) (now (a .repetition)) (now (j .judged-part .result)) (j .judged-part .ensures) (sym (c .before .is-present .ensures) ∙ not-true _ (c .if1 .taken)))
+    sym (repetition-other (a .delimiters .bytes) (a .component) (a .kind) (a .number) (now (a .repetition)) (now (j .judged-part .result)) (j .judged-part .ensures) (sym (c .before .is-present .ensures) ∙ not-true _ (c .if1 .taken)))
 
 returns-2 : tie.Need-returns-2
 returns-2 c =
     let f = c .before .before in
     let j = f .before .before .before in
     let a = j .before .before .args in
-    sym (repetition-present (a .delimiters .bytes) (a .portion) (a .kind) (a .number) (now (a .repetition)) (now (j .judged-part .result)) (j .judged-part .ensures) (sym (f .before .before .is-present .ensures) ∙ not-false _ (f .before .if1 .left))
+    sym (repetition-present (a .delimiters .bytes) (a .component) (a .kind) (a .number) (now (a .repetition)) (now (j .judged-part .result)) (j .judged-part .ensures) (sym (f .before .before .is-present .ensures) ∙ not-false _ (f .before .if1 .left))
     ∙ ap (placed (a .number)) (sym (f .check-form .ensures) ∙ c .enum-told .given .1))
 
 returns-3 : tie.Need-returns-3
@@ -27,7 +27,7 @@ returns-3 c =
     let f = c .before .before .before in
     let j = f .before .before .before in
     let a = j .before .before .args in
-    sym (repetition-present (a .delimiters .bytes) (a .portion) (a .kind) (a .number) (now (a .repetition)) (now (j .judged-part .result)) (j .judged-part .ensures) (sym (f .before .before .is-present .ensures) ∙ not-false _ (f .before .if1 .left))
+    sym (repetition-present (a .delimiters .bytes) (a .component) (a .kind) (a .number) (now (a .repetition)) (now (j .judged-part .result)) (j .judged-part .ensures) (sym (f .before .before .is-present .ensures) ∙ not-false _ (f .before .if1 .left))
     ∙ ap (placed (a .number)) (sym (f .check-form .ensures) ∙ c .before .form .given .1))
 
 pub check-repetition-spec : {M : Type 1} → statement M
