@@ -1,5 +1,5 @@
 -- What holds of every answer: that no second one meets the contract, and demand 2 of each acknowledgement that is written. Assumes nothing.
-use mathlib.Core.Path.{_≡_, refl, sym, ap, _∙_, subst}
+use mathlib.Core.Path.{_≡_, refl, sym, ap, ap₂, _∙_, subst}
 use mathlib.Core.Bool.{Bool, true, false, cond, not, _&&_}
 use mathlib.Core.List.{List}
 use Prim.Native.Nat.{ℕ, _≤_}
@@ -15,37 +15,32 @@ use Rattle.alphabet.specs.declared.answers.Refusal.the-variants.{None, NotAckno
 use Rattle.times.specs.Times.{isTs}
 use Rattle.text.specs.Unescape.{Outcome, text, fault}
 use Rattle.text.specs.Answers.{answer, filled}
-use Rattle.acknowledgement.specs.Acknowledgement.{header, badId, acknowledgeable, refusing, acknowledgement, roomy, Coded, Acknowledges}
-use Rattle.acknowledgement.specs.Acknowledgement.Coded.{accepted, refused}
+use Rattle.acknowledgement.specs.Acknowledgement.{header, badId, acknowledgeable, refusing, codeOf, acknowledgement, roomy, answerTo, Acknowledges}
 use Rattle.acknowledgement.specs.Acknowledgement.Acknowledges.{not-written, written}
+use Rattle.verdict.specs.Verdicts.{Verdicts}
+use Rattle.fault.specs.declared.FaultRecord.{FaultRecord}
+use Rattle.verdict.proofs.VerdictLaws.{one-verdict}
 use Rattle.acknowledgement.specs.declared.letters.Code.{Code}
 
 module _ (m time id lent : List ℕ) where
-  -- the contract, from what the writer gives of the header that was taken
-  pub meets : (h : List ℕ) (code : Code) (r : Answer) (x : List ℕ) → refusing m time id ≡ None → Coded m code → h ≡ header m
+  -- the contract, from what the writer gives of the header that was taken and of the code that was chosen
+  pub meets : (h : List ℕ) (code : Code) (found : FaultRecord) (r : Answer) (x : List ℕ) → refusing m time id ≡ None → Verdicts m found → h ≡ header m → code ≡ codeOf found
       → r ≡ answer (roomy (length lent) (acknowledgement h time id code)) → x ≡ filled (roomy (length lent) (acknowledgement h time id code)) lent
       → Acknowledges m time id lent r x
-  meets h code r x n c e a f =
-      let o = ap (λ (z : List ℕ). roomy (length lent) (acknowledgement z time id code)) e in
+  meets h code found r x n v e k a f =
+      let o = ap₂ (λ (z : List ℕ) (c : Code). roomy (length lent) (acknowledgement z time id c)) e k in
       subst (λ (y : Answer). Acknowledges m time id lent y x) (sym (a ∙ ap answer o))
-      (subst (λ (y : List ℕ). Acknowledges m time id lent (answer (roomy (length lent) (acknowledgement (header m) time id code))) y) (sym (f ∙ ap (λ (y : Outcome). filled y lent) o))
-      (written n code c))
+      (subst (λ (y : List ℕ). Acknowledges m time id lent (answer (roomy (length lent) (answerTo m time id found))) y) (sym (f ∙ ap (λ (y : Outcome). filled y lent) o))
+      (written n found v))
 
 -- ---- no second answer
 
--- the code is the verdict's, and no other
-pub one-code : (m : List ℕ) {c d : Code} → Coded m c → Coded m d → c ≡ d
-one-code m (accepted a) (accepted b) = refl
-one-code m (accepted a) (refused n) = absurd (n a)
-one-code m (refused n) (accepted b) = absurd (n b)
-one-code m (refused n) (refused p) = refl
-
 pub one-answer : (m time id lent : List ℕ) {r s : Answer} {x y : List ℕ} → Acknowledges m time id lent r x → Acknowledges m time id lent s y → (r ≡ s) × (x ≡ y)
 one-answer m time id lent (not-written n) (not-written p) = (refl, refl)
-one-answer m time id lent (not-written n) (written e code c) = absurd (n e)
-one-answer m time id lent (written e code c) (not-written n) = absurd (n e)
-one-answer m time id lent (written e code c) (written f other d) =
-    let o = ap (λ (k : Code). roomy (length lent) (acknowledgement (header m) time id k)) (one-code m c d) in
+one-answer m time id lent (not-written n) (written e found v) = absurd (n e)
+one-answer m time id lent (written e found v) (not-written n) = absurd (n e)
+one-answer m time id lent (written e found v) (written f other w) =
+    let o = ap (λ (k : FaultRecord). roomy (length lent) (answerTo m time id k)) (one-verdict m v w) in
     (ap answer o, ap (λ (z : Outcome). filled z lent) o)
 
 -- ---- what is refused
@@ -58,10 +53,10 @@ outcome w t = cond t (text w) (fault AcknowledgementTooLong 0)
 pub refusal-leaves : (m time id lent : List ℕ) {r : Answer} {x : List ℕ} → Acknowledges m time id lent r x → (r .kind ≡ None → ⊥) → (x ≡ lent) × (r .place ≡ 0) × (r .length ≡ 0)
 unfolding answer filled roomy
 refusal-leaves m time id lent (not-written n) some = (refl, refl, refl)
-refusal-leaves m time id lent (written e code c) some =
-    at (leb (length (acknowledgement (header m) time id code)) (length lent) && leb (length (acknowledgement (header m) time id code)) messageLimit) some
+refusal-leaves m time id lent (written e found v) some =
+    at (leb (length (answerTo m time id found)) (length lent) && leb (length (answerTo m time id found)) messageLimit) some
   where
-    at : (t : Bool) → (answer (outcome (acknowledgement (header m) time id code) t) .kind ≡ None → ⊥) → (filled (outcome (acknowledgement (header m) time id code) t) lent ≡ lent) × (answer (outcome (acknowledgement (header m) time id code) t) .place ≡ 0) × (answer (outcome (acknowledgement (header m) time id code) t) .length ≡ 0)
+    at : (t : Bool) → (answer (outcome (answerTo m time id found) t) .kind ≡ None → ⊥) → (filled (outcome (answerTo m time id found) t) lent ≡ lent) × (answer (outcome (answerTo m time id found) t) .place ≡ 0) × (answer (outcome (answerTo m time id found) t) .length ≡ 0)
     at true n = absurd (n refl)
     at false n = (refl, refl, refl)
 
@@ -75,39 +70,39 @@ nine-unacknowledgeable m time id lent (not-written n) nine = at (isTs time) (bad
     at true false true q = absurd (let z = ap numberOf q in omega arith)
     at true true a q = absurd (let z = ap numberOf q in omega arith)
     at false b a q = absurd (let z = ap numberOf q in omega arith)
-nine-unacknowledgeable m time id lent (written e code c) nine =
-    at (leb (length (acknowledgement (header m) time id code)) (length lent) && leb (length (acknowledgement (header m) time id code)) messageLimit) nine
+nine-unacknowledgeable m time id lent (written e found v) nine =
+    at (leb (length (answerTo m time id found)) (length lent) && leb (length (answerTo m time id found)) messageLimit) nine
   where
-    at : (t : Bool) → answer (outcome (acknowledgement (header m) time id code) t) .kind ≡ NotAcknowledgeable → acknowledgeable m ≡ false
+    at : (t : Bool) → answer (outcome (answerTo m time id found) t) .kind ≡ NotAcknowledgeable → acknowledgeable m ≡ false
     at true q = absurd (let z = ap numberOf q in omega arith)
     at false q = absurd (let z = ap numberOf q in omega arith)
 
 -- ---- what is written
 
--- an answer of 0: the bytes that were written are the acknowledgement, the code is the verdict's, and those behind stay
+-- an answer of 0: the bytes that were written are the acknowledgement by the verdict, and those behind stay
 pub record Writes (m time id lent : List ℕ) (r : Answer) (x : List ℕ) : Type 0 where
-  pub code : Code
-  pub coded : Coded m code
+  pub found : FaultRecord
+  pub verdict : Verdicts m found
   pub nothing-against : refusing m time id ≡ None
-  pub bytes : take (r .length) x ≡ acknowledgement (header m) time id code
+  pub bytes : take (r .length) x ≡ answerTo m time id found
   pub behind : drop (r .length) x ≡ drop (r .length) lent
-  pub most : length (acknowledgement (header m) time id code) ≤ messageLimit
+  pub most : length (answerTo m time id found) ≤ messageLimit
 
 pub zero-writes : (m time id lent : List ℕ) {r : Answer} {x : List ℕ} → Acknowledges m time id lent r x → r .kind ≡ None → Writes m time id lent r x
 unfolding answer filled roomy
 zero-writes m time id lent (not-written n) zero = absurd (n zero)
-zero-writes m time id lent (written e code c) zero =
-    at (leb (length (acknowledgement (header m) time id code)) (length lent)) (leb (length (acknowledgement (header m) time id code)) messageLimit) refl zero
+zero-writes m time id lent (written e found v) zero =
+    at (leb (length (answerTo m time id found)) (length lent)) (leb (length (answerTo m time id found)) messageLimit) refl zero
   where
-    at : (s t : Bool) → leb (length (acknowledgement (header m) time id code)) messageLimit ≡ t → answer (outcome (acknowledgement (header m) time id code) (s && t)) .kind ≡ None
-        → Writes m time id lent (answer (outcome (acknowledgement (header m) time id code) (s && t))) (filled (outcome (acknowledgement (header m) time id code) (s && t)) lent)
+    at : (s t : Bool) → leb (length (answerTo m time id found)) messageLimit ≡ t → answer (outcome (answerTo m time id found) (s && t)) .kind ≡ None
+        → Writes m time id lent (answer (outcome (answerTo m time id found) (s && t))) (filled (outcome (answerTo m time id found) (s && t)) lent)
     at true true f z = record {
-      code = code;
-      coded = c;
+      found = found;
+      verdict = v;
       nothing-against = e;
-      bytes = take-append-seam (acknowledgement (header m) time id code) (drop (length (acknowledgement (header m) time id code)) lent);
-      behind = drop-append-seam (acknowledgement (header m) time id code) (drop (length (acknowledgement (header m) time id code)) lent);
-      most = leb-true (length (acknowledgement (header m) time id code)) messageLimit f;
+      bytes = take-append-seam (answerTo m time id found) (drop (length (answerTo m time id found)) lent);
+      behind = drop-append-seam (answerTo m time id found) (drop (length (answerTo m time id found)) lent);
+      most = leb-true (length (answerTo m time id found)) messageLimit f;
     }
     at true false f z = absurd (let q : _≡_ {A = ℕ} 0 1 = cc in omega arith)
     at false t f z = absurd (let q : _≡_ {A = ℕ} 0 1 = cc in omega arith)

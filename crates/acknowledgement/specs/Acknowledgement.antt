@@ -5,6 +5,7 @@ use mathlib.Core.List.{List, [], _∷_, _++_}
 use mathlib.Core.Bool.{Bool, true, false, cond, not, _&&_, _||_}
 use lib.ListN.{length, getD, take}
 use lib.Dec.{leb, ltb, eqb}
+use Rattle.alphabet.specs.Answers.{numberOf}
 use Rattle.alphabet.specs.Bytes.{carriageReturn, ascii}
 use Rattle.alphabet.specs.Limits.{messageLimit, idLimit}
 use Rattle.alphabet.specs.Lists.{find, same}
@@ -25,7 +26,8 @@ use Rattle.times.specs.Times.{isTs}
 use Rattle.text.specs.Escape.{escape}
 use Rattle.text.specs.Unescape.{Outcome, text, fault}
 use Rattle.text.specs.Answers.{answer, filled}
-use Rattle.verdict.specs.Verdicts.{Accepts}
+use Rattle.verdict.specs.Verdicts.{Verdicts}
+use Rattle.fault.specs.declared.FaultRecord.{FaultRecord}
 use Rattle.acknowledgement.specs.declared.letters.Code.{Code}
 use Rattle.acknowledgement.specs.declared.letters.Code.the-variants.{Accept, Error}
 
@@ -70,7 +72,11 @@ headerParts h time id =
     ∷ sent h 5 ∷ sent h 6 ∷ sent h 3 ∷ sent h 4
     ∷ time ∷ [] ∷ typeSent h ∷ escape (delimitersOf h) id ∷ sent h 11 ∷ version ∷ []
 
--- how a code is written; which one it is says `Coded`
+-- "Code AA exactly when reading, structure and fields all accept; else AE.": number 0 is the verdict that all accept
+unfoldable pub codeOf : FaultRecord → Code
+codeOf r = cond (eqb (numberOf (r .kind)) 0) Accept Error
+
+-- how a code is written
 abbrev pub lettersOf : Code → List ℕ
 lettersOf Accept = ascii "AA"
 lettersOf Error = ascii "AE"
@@ -115,16 +121,13 @@ refusing m time id =
 
 -- ---- what is answered
 
--- "Code AA exactly when reading, structure and fields all accept; else AE."
-pub data Coded (m : List ℕ) : Code → Type 0 where
-  accepted : Accepts m → Coded m Accept
-  refused : (Accepts m → ⊥) → Coded m Error
+-- the acknowledgement of a message, by the verdict on it
+abbrev pub answerTo : List ℕ → List ℕ → List ℕ → FaultRecord → List ℕ
+answerTo m time id r = acknowledgement (header m) time id (codeOf r)
 
 -- the answer, and what is left in the buffer that was lent: a refusal gives number and place 0, length 0, and writes nothing; what is
 -- written "fills the front of the buffer, its length is given, the bytes behind it stay"
 pub data Acknowledges (m time id lent : List ℕ) : Answer → List ℕ → Type 0 where
   not-written : (refusing m time id ≡ None → ⊥) → Acknowledges m time id lent (answer (fault (refusing m time id) 0)) lent
-  written : refusing m time id ≡ None → (code : Code) → Coded m code
-      → Acknowledges m time id lent
-      (answer (roomy (length lent) (acknowledgement (header m) time id code)))
-      (filled (roomy (length lent) (acknowledgement (header m) time id code)) lent)
+  written : refusing m time id ≡ None → (r : FaultRecord) → Verdicts m r
+      → Acknowledges m time id lent (answer (roomy (length lent) (answerTo m time id r))) (filled (roomy (length lent) (answerTo m time id r)) lent)

@@ -1,13 +1,13 @@
 // Acknowledging a message: what stands against it, the verdict's code, and the writing. The message and the time share a lifetime, since
 // pieces of both go into one array.
-use crate::letters::Code;
+use crate::letters::code_of;
 use crate::pieces::write;
 use crate::sender::header_of;
 use crate::sender::is_acknowledgeable;
 use alphabet::Answer;
 use alphabet::Refusal;
 ghost use mathlib.Core.Path.{_≡_};
-ghost use Rattle.acknowledgement.specs.Acknowledgement.{badId, refusing, Coded, Acknowledges};
+ghost use Rattle.acknowledgement.specs.Acknowledgement.{badId, refusing, Acknowledges};
 
 // Whether the caller's ID is too short or too long.
 fn is_bad_id(id: &[u8]) -> bool
@@ -34,18 +34,6 @@ fn refusal_of(message: &[u8], time: &[u8], id: &[u8]) -> Refusal
     Refusal::None
 }
 
-// The code by the verdict.
-fn code_of(message: &[u8]) -> Code
-    ensures { λ r. ⌜ Coded (now (message .entry)) r ⌝ }
-{
-    let found = verdict::verdict(message);
-    let kind = found.kind;
-    if alphabet::number(kind) == 0 {
-        return Code::Accept;
-    }
-    Code::Error
-}
-
 // Writes the acknowledgement of a message to the front of the buffer: with the caller's time and his ID, and the code by the verdict.
 pub fn acknowledge<'a>(message: &'a [u8], time: &'a [u8], id: &[u8], buffer: &mut [u8]) -> Answer
     ensures { λ r. ⌜ Acknowledges (now (message .entry)) (now (time .entry)) (now (id .entry)) (now (buffer .entry)) r (now (buffer .exit)) ⌝ }
@@ -58,6 +46,6 @@ pub fn acknowledge<'a>(message: &'a [u8], time: &'a [u8], id: &[u8], buffer: &mu
             length: 0,
         };
     }
-    let code = code_of(message);
-    write(header_of(message), time, id, code, buffer)
+    let found = verdict::verdict(message);
+    write(header_of(message), time, id, code_of(found), buffer)
 }

@@ -10,10 +10,12 @@ use native.Mathlib.Omega.{arith}
 use lib.Dec.{leb, ltb, eqb}
 use lib.ListN.{length, getD, take, drop, length-append, length-drop}
 use lib.Seq.{getD-take, take-take, length-take-le}
-use borrow.Author.Tests.{lt-ltb, le-leb, leb-true}
+use borrow.Author.Tests.{lt-ltb, le-leb, leb-true, eqb-true, eqb-false}
+use Rattle.alphabet.specs.Answers.{numberOf}
 use Rattle.alphabet.specs.Bytes.{carriageReturn, allowed, ascii}
 use Rattle.alphabet.specs.Delimiters.{firstWrongDelimiter}
 use Rattle.alphabet.proofs.BoolLaws.{and-both, false-true}
+use Rattle.alphabet.proofs.CheckLaws.{number-none}
 use Rattle.alphabet.proofs.ListLaws.{same-is}
 use Rattle.alphabet.specs.Limits.{messageLimit, idLimit}
 use Rattle.alphabet.specs.Lists.{find, same}
@@ -48,10 +50,12 @@ use Rattle.fault.specs.Faults.{plain}
 use Rattle.structure.specs.Judged.{Judged, Answers}
 use Rattle.structure.specs.declared.structures.Structure.the-variants.{Acknowledgement}
 use Rattle.verdict.specs.Verdicts.{Accepts}
-use Rattle.acknowledgement.specs.Acknowledgement.{header, fieldAddress, sent, typePart, present, typeSent, lettersOf, acknowledgement, badId, passes, acknowledgeable, roomy, Coded, Acknowledges}
+use Rattle.fault.specs.declared.FaultRecord.{FaultRecord}
+use Rattle.verdict.proofs.VerdictLaws.{accepts-exactly as verdict-accepts}
+use Rattle.acknowledgement.specs.Acknowledgement.{header, fieldAddress, sent, typePart, present, typeSent, lettersOf, acknowledgement, badId, passes, acknowledgeable, roomy, codeOf, answerTo, Acknowledges}
 use Rattle.acknowledgement.specs.Acknowledgement.Acknowledges.{not-written, written}
-use Rattle.acknowledgement.specs.Acknowledgement.Coded.{accepted, refused}
 use Rattle.acknowledgement.specs.declared.letters.Code.{Code}
+use Rattle.acknowledgement.specs.declared.letters.Code.the-variants.{Accept, Error}
 use Rattle.acknowledgement.proofs.HeaderLaws.{nothing-against, return-inside, header-find, header-ends, sound-header}
 use Rattle.laws.proofs.SenderLaws.{segments-header}
 use Rattle.laws.proofs.WrittenLaws as W
@@ -108,10 +112,10 @@ module _ (m : List ℕ) (inside : find carriageReturn m < length m) (opened : Op
 length-told : (m time id lent : List ℕ) {r : Answer} {x : List ℕ} → Acknowledges m time id lent r x → r .kind ≡ None → (length x ≡ length lent) × (r .length ≤ length lent)
 unfolding answer filled roomy
 length-told m time id lent (not-written n) zero = absurd (n zero)
-length-told m time id lent (written e code c) zero = at (leb (length w) (length lent)) (leb (length w) messageLimit) refl zero
+length-told m time id lent (written e found v) zero = at (leb (length w) (length lent)) (leb (length w) messageLimit) refl zero
   where
     w : List ℕ
-    w = acknowledgement (header m) time id code
+    w = answerTo m time id found
 
     at : (s t : Bool) → leb (length w) (length lent) ≡ s → answer (cond (s && t) (text w) (fault AcknowledgementTooLong 0)) .kind ≡ None
         → (length (filled (cond (s && t) (text w) (fault AcknowledgementTooLong 0)) lent) ≡ length lent)
@@ -128,6 +132,32 @@ length-told m time id lent (written e code c) zero = at (leb (length w) (length 
 abbrev pub answerAddress : ℕ → Address
 answerAddress f = record { segment = 1; field = f; repetition = 0; component = 0; subcomponent = 0 }
 
+-- ---- the letters by the verdict's record
+
+-- AA exactly for the record that accepts
+letters-accept : (r : FaultRecord) → (lettersOf (codeOf r) ≡ ascii "AA") ↔ (r .kind ≡ None)
+unfolding codeOf
+letters-accept r = at (eqb (numberOf (r .kind)) 0) refl
+  where
+    at : (t : Bool) → eqb (numberOf (r .kind)) 0 ≡ t → (lettersOf (cond t Accept Error) ≡ ascii "AA") ↔ (r .kind ≡ None)
+    at true e = (λ q. number-none (r .kind) (eqb-true (numberOf (r .kind)) 0 e), λ q. refl)
+    at false e = (
+      λ q. absurd (let z : _≡_ {A = ℕ} 69 65 = ap (λ (l : List ℕ). getD l 1 0) q in omega arith),
+      λ q. absurd (eqb-false (numberOf (r .kind)) 0 e (ap numberOf q)),
+    )
+
+-- AE for every other
+letters-refuse : (r : FaultRecord) → (lettersOf (codeOf r) ≡ ascii "AE") ↔ (r .kind ≡ None → ⊥)
+unfolding codeOf
+letters-refuse r = at (eqb (numberOf (r .kind)) 0) refl
+  where
+    at : (t : Bool) → eqb (numberOf (r .kind)) 0 ≡ t → (lettersOf (cond t Accept Error) ≡ ascii "AE") ↔ (r .kind ≡ None → ⊥)
+    at true e = (
+      λ q. absurd (let z : _≡_ {A = ℕ} 65 69 = ap (λ (l : List ℕ). getD l 1 0) q in omega arith),
+      λ n. absurd (n (number-none (r .kind) (eqb-true (numberOf (r .kind)) 0 e))),
+    )
+    at false e = (λ q n. eqb-false (numberOf (r .kind)) 0 e (ap numberOf n), λ n. refl)
+
 -- each number is a byte, as in every slice that is handed in
 module _ (m time id lent : List ℕ) (small : AreBytes id) {r : Answer} {x : List ℕ} (a : Acknowledges m time id lent r x) (done : r .kind ≡ None) where
   -- the bytes that were written
@@ -139,6 +169,10 @@ module _ (m time id lent : List ℕ) (small : AreBytes id) {r : Answer} {x : Lis
 
   abbrev h : List ℕ
   h = header m
+
+  -- the code by the verdict
+  abbrev code : Code
+  code = codeOf (writes .found)
 
   against : (isTs time ≡ true) × (badId id ≡ false) × (acknowledgeable m ≡ true)
   against = nothing-against m time id (writes .nothing-against)
@@ -177,61 +211,61 @@ module _ (m time id lent : List ℕ) (small : AreBytes id) {r : Answer} {x : Lis
 
   -- "reads back through our reader"
   pub reads-back : reading w ≡ Passes
-  reads-back = ap reading (writes .bytes) ∙ W.reads-back h (sound .0) (sound .1) time id (against .0) small (writes .code) (writes .most)
+  reads-back = ap reading (writes .bytes) ∙ W.reads-back h (sound .0) (sound .1) time id (against .0) small code (writes .most)
 
   -- "fits the ACK structure": the structure judge accepts it
   pub fits-ack : Answers w (plain None 0)
-  fits-ack = subst (λ (b : List ℕ). Answers b (plain None 0)) (sym (writes .bytes)) (W.judged-written h (sound .0) (sound .1) time id (against .0) small (writes .code) (writes .most))
+  fits-ack = subst (λ (b : List ℕ). Answers b (plain None 0)) (sym (writes .bytes)) (W.judged-written h (sound .0) (sound .1) time id (against .0) small code (writes .most))
 
   -- "carries the sender's own control ID": MSA-2, the whole field, is byte for byte the sender's MSH-10, the whole field
   pub carries-id : rawBytes w (answerAddress 2) ≡ rawBytes m (fieldAddress 10)
   carries-id =
-      ap (λ (b : List ℕ). rawBytes b (answerAddress 2)) (writes .bytes) ∙ W.carries-id h (sound .0) (sound .1) time id (against .0) small (writes .code)
+      ap (λ (b : List ℕ). rawBytes b (answerAddress 2)) (writes .bytes) ∙ W.carries-id h (sound .0) (sound .1) time id (against .0) small code
       ∙ of-message 10 (λ e. omega arith)
 
-  crossing : (f g : ℕ) → (g ≡ 1 → ⊥) → rawBytes (acknowledgement h time id (writes .code)) (fieldAddress f) ≡ sent h g → rawBytes w (fieldAddress f) ≡ rawBytes m (fieldAddress g)
+  crossing : (f g : ℕ) → (g ≡ 1 → ⊥) → rawBytes (acknowledgement h time id code) (fieldAddress f) ≡ sent h g → rawBytes w (fieldAddress f) ≡ rawBytes m (fieldAddress g)
   crossing f g n e = ap (λ (b : List ℕ). rawBytes b (fieldAddress f)) (writes .bytes) ∙ e ∙ of-message g n
 
   -- its MSH-3 to MSH-6 are the sender's 5, 6, 3, 4
   pub crossed : (rawBytes w (fieldAddress 3) ≡ rawBytes m (fieldAddress 5)) × (rawBytes w (fieldAddress 4) ≡ rawBytes m (fieldAddress 6))
       × (rawBytes w (fieldAddress 5) ≡ rawBytes m (fieldAddress 3)) × (rawBytes w (fieldAddress 6) ≡ rawBytes m (fieldAddress 4))
   crossed =
-      let c = W.crossed h (sound .0) (sound .1) time id (against .0) small (writes .code) in
+      let c = W.crossed h (sound .0) (sound .1) time id (against .0) small code in
       (crossing 3 5 (λ e. omega arith) (c .0), crossing 4 6 (λ e. omega arith) (c .1), crossing 5 3 (λ e. omega arith) (c .2), crossing 6 4 (λ e. omega arith) (c .3))
 
   -- its delimiters are the sender's
   pub own-delimiters : delimitersOf w ≡ delimitersOf m
   own-delimiters =
-      ap delimitersOf (writes .bytes) ∙ W.same-delimiters h (sound .0) (sound .1) time id (against .0) small (writes .code)
+      ap delimitersOf (writes .bytes) ∙ W.same-delimiters h (sound .0) (sound .1) time id (against .0) small code
       ∙ same-delimiters m (return-inside m (against .2)) (sound .0)
 
   -- its type is ACK's, and its segments are MSH and MSA, in so many parts
   pub of-type : structureOf w ≡ Acknowledgement
-  of-type = ap structureOf (writes .bytes) ∙ W.structure-written h (sound .0) (sound .1) time id (against .0) small (writes .code)
+  of-type = ap structureOf (writes .bytes) ∙ W.structure-written h (sound .0) (sound .1) time id (against .0) small code
 
   pub named-so : segmentNames w ≡ name "MSH" ∷ name "MSA" ∷ []
-  named-so = ap segmentNames (writes .bytes) ∙ W.names-written h (sound .0) (sound .1) time id (against .0) small (writes .code)
+  named-so = ap segmentNames (writes .bytes) ∙ W.names-written h (sound .0) (sound .1) time id (against .0) small code
 
   pub yields-ack : Judged ack (segmentNames w) (plain None 0)
   yields-ack =
       subst (λ (b : List ℕ). Judged ack (segmentNames b) (plain None 0)) (sym (writes .bytes))
-      (W.fits-ack h (sound .0) (sound .1) time id (against .0) small (writes .code))
+      (W.fits-ack h (sound .0) (sound .1) time id (against .0) small code)
 
   pub counted : (length (split (fieldSeparator w) (getD (segments w) 0 [])) ≡ 12) × (length (split (fieldSeparator w) (getD (segments w) 1 [])) ≡ 3)
   counted =
-      let c = W.parts-counted h (sound .0) (sound .1) time id (against .0) small (writes .code) in (
+      let c = W.parts-counted h (sound .0) (sound .1) time id (against .0) small code in (
         ap (λ (b : List ℕ). length (split (fieldSeparator b) (getD (segments b) 0 []))) (writes .bytes) ∙ c .0,
         ap (λ (b : List ℕ). length (split (fieldSeparator b) (getD (segments b) 1 []))) (writes .bytes) ∙ c .1,
       )
 
-  written-field : (f : ℕ) (l : List ℕ) → rawBytes (acknowledgement h time id (writes .code)) (fieldAddress f) ≡ l → rawBytes w (fieldAddress f) ≡ l
+  written-field : (f : ℕ) (l : List ℕ) → rawBytes (acknowledgement h time id code) (fieldAddress f) ≡ l → rawBytes w (fieldAddress f) ≡ l
   written-field f l e = ap (λ (b : List ℕ). rawBytes b (fieldAddress f)) (writes .bytes) ∙ e
 
   -- its MSH-7, 8, 9, 11 and 12
   pub stamped : (rawBytes w (fieldAddress 7) ≡ time) × (rawBytes w (fieldAddress 8) ≡ []) × (rawBytes w (fieldAddress 9) ≡ typeSent m)
       × (rawBytes w (fieldAddress 11) ≡ rawBytes m (fieldAddress 11)) × (rawBytes w (fieldAddress 12) ≡ ascii "2.4")
   stamped =
-      let c = W.stamped h (sound .0) (sound .1) time id (against .0) small (writes .code) in (
+      let c = W.stamped h (sound .0) (sound .1) time id (against .0) small code in (
         written-field 7 time (c .0),
         written-field 8 [] (c .1),
         written-field 9 (typeSent m) (c .2 ∙ type-sent m (return-inside m (against .2)) (sound .0)),
@@ -257,7 +291,7 @@ module _ (m time id lent : List ℕ) (small : AreBytes id) {r : Answer} {x : Lis
   -- its MSH-10 is the caller's ID, escaped
   pub own-id : rawBytes w (fieldAddress 10) ≡ escape (delimitersOf m) id
   own-id =
-      written-field 10 _ (W.own-id h (sound .0) (sound .1) time id (against .0) small (writes .code))
+      written-field 10 _ (W.own-id h (sound .0) (sound .1) time id (against .0) small code)
       ∙ ap (λ (ds : List ℕ). escape ds id) (ap delimitersOf (sym (writes .bytes)) ∙ own-delimiters)
 
   -- its MSH-10, unescaped, is the caller's ID
@@ -266,37 +300,27 @@ module _ (m time id lent : List ℕ) (small : AreBytes id) {r : Answer} {x : Lis
   callers-id room l =
       let b = writes .bytes in
       ap (λ (z : List ℕ). unescaping (delimitersOf z) (rawBytes z (fieldAddress 10)) room) b
-      ∙ ap (λ (z : List ℕ). unescaping (delimitersOf (acknowledgement h time id (writes .code))) z room) (W.own-id h (sound .0) (sound .1) time id (against .0) small (writes .code))
-      ∙ round-trip (delimitersOf (acknowledgement h time id (writes .code))) refl (W.message-written h (sound .0) (sound .1) time id (against .0) small (writes .code) (writes .most) .opened .delimiters-right) id room small
+      ∙ ap (λ (z : List ℕ). unescaping (delimitersOf (acknowledgement h time id code)) z room) (W.own-id h (sound .0) (sound .1) time id (against .0) small code)
+      ∙ round-trip (delimitersOf (acknowledgement h time id code)) refl (W.message-written h (sound .0) (sound .1) time id (against .0) small code (writes .most) .opened .delimiters-right) id room small
       ∙ rw (le-leb (length id) room l)
+
+  -- MSA-1 is the code
+  code-told : rawBytes w (answerAddress 1) ≡ lettersOf code
+  code-told = ap (λ (b : List ℕ). rawBytes b (answerAddress 1)) (writes .bytes) ∙ W.carries-code h (sound .0) (sound .1) time id (against .0) small code
 
   -- "AA exactly when reading, structure and fields all accept"
   pub accepts-exactly : (rawBytes w (answerAddress 1) ≡ ascii "AA") ↔ Accepts m
   accepts-exactly =
-      let e = ap (λ (b : List ℕ). rawBytes b (answerAddress 1)) (writes .bytes) ∙ W.carries-code h (sound .0) (sound .1) time id (against .0) small (writes .code) in
-      (λ q. coded-accepts (writes .coded) (sym e ∙ q), λ q. e ∙ accepts-coded (writes .coded) q)
-    where
-      coded-accepts : {c : Code} → Coded m c → lettersOf c ≡ ascii "AA" → Accepts m
-      coded-accepts (accepted b) q = b
-      coded-accepts (refused n) q = absurd (let z : _≡_ {A = ℕ} 69 65 = ap (λ (l : List ℕ). getD l 1 0) q in omega arith)
-
-      accepts-coded : {c : Code} → Coded m c → Accepts m → lettersOf c ≡ ascii "AA"
-      accepts-coded (accepted b) q = refl
-      accepts-coded (refused n) q = absurd (n q)
+      let v = verdict-accepts m (writes .verdict) in
+      let l = letters-accept (writes .found) in
+      (λ q. v .0 (l .0 (sym code-told ∙ q)), λ q. code-told ∙ l .1 (v .1 q))
 
   -- "else AE"
   pub refuses-exactly : (rawBytes w (answerAddress 1) ≡ ascii "AE") ↔ (Accepts m → ⊥)
   refuses-exactly =
-      let e = ap (λ (b : List ℕ). rawBytes b (answerAddress 1)) (writes .bytes) ∙ W.carries-code h (sound .0) (sound .1) time id (against .0) small (writes .code) in
-      (λ q. coded-refuses (writes .coded) (sym e ∙ q), λ n. e ∙ refuses-coded (writes .coded) n)
-    where
-      coded-refuses : {c : Code} → Coded m c → lettersOf c ≡ ascii "AE" → Accepts m → ⊥
-      coded-refuses (accepted b) q = absurd (let z : _≡_ {A = ℕ} 65 69 = ap (λ (l : List ℕ). getD l 1 0) q in omega arith)
-      coded-refuses (refused n) q = n
-
-      refuses-coded : {c : Code} → Coded m c → (Accepts m → ⊥) → lettersOf c ≡ ascii "AE"
-      refuses-coded (accepted b) n = absurd (n b)
-      refuses-coded (refused n) q = refl
+      let v = verdict-accepts m (writes .verdict) in
+      let l = letters-refuse (writes .found) in
+      (λ q accepts. l .0 (sym code-told ∙ q) (v .1 accepts), λ n. code-told ∙ l .1 (λ q. n (v .0 q)))
 
 -- ---- 9 for an accepted message
 

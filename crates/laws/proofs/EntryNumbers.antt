@@ -46,7 +46,7 @@ use Rattle.rules.specs.Table.{rows}
 use Rattle.fields.specs.Judging.{faultAnswer, judging}
 use Rattle.verdict.specs.Verdicts.{Verdicts}
 use Rattle.verdict.specs.Verdicts.Verdicts.{refused as by-structure, judged as by-fields}
-use Rattle.acknowledgement.specs.Acknowledgement.{badId, acknowledgeable, refusing, roomy, acknowledgement, header, Acknowledges}
+use Rattle.acknowledgement.specs.Acknowledgement.{badId, acknowledgeable, refusing, roomy, answerTo, Acknowledges}
 use Rattle.acknowledgement.specs.Acknowledgement.Acknowledges.{not-written, written}
 use Rattle.laws.proofs.FaultNumbers.{fields-number}
 use Rattle.laws.specs.Entries.{ofReading, ofFinding, ofNm, ofForm, ofEscaping, ofUnescaping, ofStructure, ofVerdict, ofAcknowledging}
@@ -184,10 +184,10 @@ refusing-numbers m time id = at (not (isTs time)) (badId id) (not (acknowledgeab
 pub acknowledge-numbers : (m time id lent : List ℕ) {r : Answer} {x : List ℕ} → Acknowledges m time id lent r x → In (numberOf (r .kind)) ofAcknowledging
 unfolding answer roomy
 acknowledge-numbers m time id lent (not-written n) = refusing-numbers m time id
-acknowledge-numbers m time id lent (written e code c) = at (leb (length w) (length lent) && leb (length w) messageLimit)
+acknowledge-numbers m time id lent (written e found v) = at (leb (length w) (length lent) && leb (length w) messageLimit)
   where
     w : List ℕ
-    w = acknowledgement (header m) time id code
+    w = answerTo m time id found
 
     at : (t : Bool) → In (numberOf (answer (cond t (text w) (fault AcknowledgementTooLong 0)) .kind)) ofAcknowledging
     at true = here

@@ -26,7 +26,7 @@ use Rattle.element.specs.States.{isPresent}
 use Rattle.times.specs.Times.{isTs}
 use Rattle.text.specs.Unescape.{text, fault}
 use Rattle.text.specs.Answers.{answer}
-use Rattle.acknowledgement.specs.Acknowledgement.{header, sent, typePart, present, passes, badId, acknowledgeable, refusing, acknowledgement, roomy, Acknowledges}
+use Rattle.acknowledgement.specs.Acknowledgement.{header, sent, typePart, present, passes, badId, acknowledgeable, refusing, roomy, answerTo, Acknowledges}
 use Rattle.acknowledgement.specs.Acknowledgement.Acknowledges.{not-written, written}
 use Rattle.acknowledgement.proofs.HeaderLaws.{return-inside, sound-header, no-time, no-id, no-header}
 use Rattle.grammars.proofs.SpeltTimesLaws.{ts-spelt, ts-spells}
@@ -145,7 +145,7 @@ module _ (m time id lent : List ℕ) where
   either : {r : Answer} {x : List ℕ} → Acknowledges m time id lent r x → RefusedBy m time id (r .kind) ⊎ ((refusing m time id ≡ None) × Left (r .kind))
   unfolding answer
   either (not-written n) = inl (against m time id n)
-  either (written e code c) = inr (e, of-room (length lent) (acknowledgement (header m) time id code))
+  either (written e found v) = inr (e, of-room (length lent) (answerTo m time id found))
 
   module _ {r : Answer} {x : List ℕ} (a : Acknowledges m time id lent r x) where
     given : {k : Refusal} → RefusedBy m time id k → r .kind ≡ k

@@ -39,7 +39,7 @@ returns c =
 
 write-requires : tie.Need-write-requires
 write-requires c κs =
-    let h = c .before in
+    let h = c .before .before in
     let e = h .before .before in
     let a = e .before .before .before .before .before .before .before .args in
     let m = now (a .message) in
@@ -52,12 +52,13 @@ write-requires c κs =
 returns-2 : tie.Need-returns-2
 returns-2 c =
     let w = c .before .before in
-    let h = w .before .before in
-    let k = h .before in
-    let e = k .before in
+    let k = w .before .before in
+    let h = k .before in
+    let v = h .before in
+    let e = v .before in
     let a = e .before .before .before .before .before .before .before .args in
-    meets (now (a .message)) (now (a .time)) (now (a .id)) (now (a .buffer)) (now (h .header-of .result)) (k .code-of .result) _ _ (nothing e) (k .code-of .ensures)
-    (h .header-of .ensures) (w .write .ensures .0) (w .write .ensures .1)
+    meets (now (a .message)) (now (a .time)) (now (a .id)) (now (a .buffer)) (now (h .header-of .result)) (k .code-of .result) (v .verdict .result) _ _ (nothing e) (v .verdict .ensures)
+    (h .header-of .ensures) (k .code-of .ensures) (w .write .ensures .0) (w .write .ensures .1)
 
 pub acknowledge-spec : {M : Type 1} → statement M
 acknowledge-spec =
@@ -66,6 +67,7 @@ acknowledge-spec =
     (λ c κs. search needs)
     (λ c κs. search needs)
     returns
+    (λ c κs. search needs)
     (λ c κs. search needs)
     (λ c κs. search needs)
     write-requires
