@@ -18,19 +18,11 @@ use Rattle.reading.specs.Message.{Message}
 use Rattle.reading.proofs.Accepted.{accepted}
 use Rattle.element.specs.States.{stateOf}
 use Rattle.element.specs.declared.states.State.{State}
-use Rattle.element.specs.Levels.{between, Within, repetitionAt, componentAt, elementAt}
+use Rattle.element.specs.Levels.{between, Within, elementAt}
 use Rattle.element.specs.Finding.{lookupCheck, elementIn, elementOf, elementIf, nowhere, found, bytesAt, elementBytes, partBytes, rawBytes}
 use Rattle.element.specs.declared.Element.{Element}
 use Rattle.element.specs.declared.address.Address.{Address}
-use Rattle.element.proofs.LevelLaws.{within-segment, within-field, within-below}
-
--- an element lies within the message
-pub within-element : (m : List ℕ) (a : Address) → 4 ≤ length m → Within m (elementAt m a)
-unfolding repetitionAt componentAt elementAt
-within-element m a h =
-    within-below _ _ m _ (a .subcomponent)
-    (within-below _ _ m _ (a .component)
-    (within-below _ _ m _ (a .repetition) (within-field m (a .segment) _ (a .field) h (within-segment m (a .segment)))))
+use Rattle.element.proofs.LevelLaws.{within-element}
 
 -- a lookup that passes is of a message that was read
 pub lookup-read : (m : List ℕ) (a : Address) → lookupCheck m a ≡ Passes → Message m

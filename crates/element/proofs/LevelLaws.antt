@@ -1,12 +1,12 @@
--- Laws of the levels: what each case of `partIn`, `fieldIn` and `below` is, and that a part of a part lies within it. Assumes nothing.
-use mathlib.Core.Path.{_≡_, refl, subst}
+-- Laws of the levels: what each case of `partIn`, `fieldIn`, `below` and `elementAt` is, and that all lie within the message. Assumes nothing.
+use mathlib.Core.Path.{_≡_, refl, sym, ap, subst}
 use mathlib.Core.List.{List}
-use mathlib.Core.Bool.{Bool, true, false, cond}
-use Prim.Native.Nat.{ℕ, _+_, _-_, _≤_}
+use mathlib.Core.Bool.{Bool, true, false, cond, _&&_}
+use Prim.Native.Nat.{ℕ, zero, suc, _+_, _-_, _≤_}
 use native.Mathlib.Omega.{arith}
 use lib.ListN.{length, drop, length-drop}
 use lib.Seq.{length-take-le}
-use lib.Dec.{eqb, lit≤}
+use lib.Dec.{eqb, leb, lit≤}
 use borrow.Author.Tests.{eq-eqb, ne-eqb}
 use Rattle.alphabet.specs.Parts.{partAt}
 use Rattle.alphabet.specs.declared.parts.Part.{Part}
@@ -14,7 +14,8 @@ use Rattle.alphabet.specs.declared.parts.Part.the-variants.{At, Absent}
 use Rattle.alphabet.proofs.PartLaws.{part-bytes}
 use Rattle.reading.specs.Segments.{fieldSeparator, segmentAt}
 use Rattle.reading.proofs.SegmentLaws.{segment-bytes}
-use Rattle.element.specs.Levels.{between, Within, moved, partIn, fieldIn, below}
+use Rattle.element.specs.Levels.{between, Within, moved, partIn, fieldIn, fieldAt, below, repetitionAt, componentAt, subcomponentAt, fixed, unsplit, elementAt}
+use Rattle.element.specs.declared.address.Address.{Address}
 
 -- what stands between s and e has so many bytes
 pub between-length : (m : List ℕ) (s e : ℕ) → s ≤ e → e ≤ length m → length (between m s e) ≡ e - s
@@ -78,32 +79,24 @@ module _ (m : List ℕ) (segment : ℕ) (part : Part) (f : ℕ) where
 
 -- ---- a level below
 
-module _ (sep : ℕ) (m : List ℕ) (part : Part) (k : ℕ) where
-  pub below-whole : (whole : Bool) → k ≡ 0 → below whole sep m part k ≡ part
+module _ (sep : ℕ) (m : List ℕ) (part : Part) where
+  pub below-whole : (k : ℕ) → k ≡ 0 → below sep m part k ≡ part
   unfolding below
-  below-whole whole h = rw (eq-eqb k 0 h)
+  below-whole k h = rw h
 
-  pub below-split : {whole : Bool} → whole ≡ false → (k ≡ 0 → ⊥) → below whole sep m part k ≡ partIn sep m part (k - 1)
+  pub below-split : (k : ℕ) → (k ≡ 0 → ⊥) → below sep m part k ≡ partIn sep m part (k - 1)
   unfolding below
-  below-split w h = rw (w, ne-eqb k 0 h)
+  below-split zero h = absurd (h refl)
+  below-split (suc k) h = let e : suc k - 1 ≡ k = omega arith in ap (partIn sep m part) (sym e)
 
-  pub below-own : {whole : Bool} → whole ≡ true → k ≡ 1 → below whole sep m part k ≡ part
+  pub within-below : (k : ℕ) → Within m part → Within m (below sep m part k)
   unfolding below
-  below-own w h = rw (w, h)
-
-  pub below-past : {whole : Bool} → whole ≡ true → (k ≡ 0 → ⊥) → (k ≡ 1 → ⊥) → below whole sep m part k ≡ Absent
-  unfolding below
-  below-past w h l = rw (w, ne-eqb k 0 h, ne-eqb k 1 l)
+  within-below zero w = w
+  within-below (suc k) w = within-in sep m part k w
 
 within-either : (m : List ℕ) (t : Bool) (p q : Part) → Within m p → Within m q → Within m (cond t p q)
 within-either m true p q a b = a
 within-either m false p q a b = b
-
-pub within-below : (whole : Bool) (sep : ℕ) (m : List ℕ) (part : Part) (k : ℕ) → Within m part → Within m (below whole sep m part k)
-unfolding below
-within-below whole sep m part k w =
-    within-either m (eqb k 0) part _ w
-    (within-either m whole (cond (eqb k 1) part Absent) _ (within-either m (eqb k 1) part Absent w tt) (within-in sep m part (k - 1) w))
 
 pub within-field : (m : List ℕ) (segment : ℕ) (part : Part) (f : ℕ) → 4 ≤ length m → Within m part → Within m (fieldIn m segment part f)
 unfolding fieldIn
@@ -121,3 +114,31 @@ within-segment m k = at (segmentAt m k) refl
         let b = segment-bytes m k s e q in
         let l = b .2 in
         (b .1, omega arith)
+
+-- ---- an element
+
+module _ (part : Part) (a : Address) where
+  pub unsplit-whole : (leb (a .repetition) 1 && (leb (a .component) 1 && leb (a .subcomponent) 1)) ≡ true → unsplit part a ≡ part
+  unfolding unsplit
+  unsplit-whole h = rw h
+
+  pub unsplit-more : (leb (a .repetition) 1 && (leb (a .component) 1 && leb (a .subcomponent) 1)) ≡ false → unsplit part a ≡ Absent
+  unfolding unsplit
+  unsplit-more h = rw h
+
+module _ (m : List ℕ) (a : Address) where
+  pub element-unsplit : fixed (a .segment) (a .field) ≡ true → elementAt m a ≡ unsplit (fieldAt m a) a
+  unfolding elementAt
+  element-unsplit h = rw h
+
+  pub element-split : fixed (a .segment) (a .field) ≡ false → elementAt m a ≡ subcomponentAt m a
+  unfolding elementAt
+  element-split h = rw h
+
+  pub within-element : 4 ≤ length m → Within m (elementAt m a)
+  unfolding elementAt unsplit subcomponentAt componentAt repetitionAt
+  within-element h =
+      let field = within-field m (a .segment) _ (a .field) h (within-segment m (a .segment)) in
+      within-either m (fixed (a .segment) (a .field)) (unsplit (fieldAt m a) a) (subcomponentAt m a)
+      (within-either m (leb (a .repetition) 1 && (leb (a .component) 1 && leb (a .subcomponent) 1)) (fieldAt m a) Absent field tt)
+      (within-below _ m _ (a .subcomponent) (within-below _ m _ (a .component) (within-below _ m _ (a .repetition) field)))

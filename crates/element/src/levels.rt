@@ -5,7 +5,7 @@ use alphabet::Part;
 ghost use mathlib.Core.Path.{_≡_};
 ghost use Prim.Native.Nat.{_≤_};
 ghost use lib.ListN.{length};
-ghost use Rattle.element.specs.Levels.{Within, partIn, fieldIn, below, elementAt};
+ghost use Rattle.element.specs.Levels.{Within, partIn, fieldIn, below, unsplit, elementAt};
 
 // Part `index`, from 0, of a part of the message.
 fn part_in(message: &[u8], part: Part, separator: u8, index: usize) -> Part
@@ -45,18 +45,24 @@ fn field_in(message: &[u8], segment: usize, part: Part, field: usize) -> Part
     part_in(message, part, separator, index)
 }
 
-// Number `number`, from 1, of a level below a part; 0 is the whole, and a part that is not split further is its own first.
-fn part_below(message: &[u8], whole: bool, separator: u8, part: Part, number: usize) -> Part
+// Number `number`, from 1, of a level below a part; 0 is the whole.
+fn part_below(message: &[u8], separator: u8, part: Part, number: usize) -> Part
     requires { ⌜ Within (now message) part ⌝ }
-    ensures { λ r. ⌜ r ≡ below whole separator (now (message .entry)) part number ⌝ }
+    ensures { λ r. ⌜ r ≡ below separator (now (message .entry)) part number ⌝ }
 {
     if number == 0 {
         return part;
     }
-    if !whole {
-        return part_in(message, part, separator, number - 1);
-    }
-    if number == 1 { part } else { Part::Absent }
+    part_in(message, part, separator, number - 1)
+}
+
+// MSH-1 and MSH-2 are not split: repetition, component and subcomponent 0 or 1 give the whole, and there are no more.
+fn header_element(field: Part, address: Address) -> Part
+    ensures { λ r. ⌜ r ≡ unsplit field address ⌝ }
+{
+    let first = address.repetition <= 1;
+    let whole = first & ((address.component <= 1) & (address.subcomponent <= 1));
+    if whole { field } else { Part::Absent }
 }
 
 // Where an element stands in a message that was read.
@@ -66,11 +72,13 @@ pub fn part_of(message: &[u8], address: Address) -> Part
 {
     let segment = reading::segment_at(message, address.segment);
     let field = field_in(message, address.segment, segment, address.field);
-    let whole = (address.segment == 0) & (address.field <= 2);
+    if (address.segment == 0) & (address.field <= 2) {
+        return header_element(field, address);
+    }
     let component = alphabet::byte_at(message, 4);
     let repetition = alphabet::byte_at(message, 5);
     let subcomponent = alphabet::byte_at(message, 7);
-    let first = part_below(message, whole, repetition, field, address.repetition);
-    let second = part_below(message, whole, component, first, address.component);
-    part_below(message, whole, subcomponent, second, address.subcomponent)
+    let first = part_below(message, repetition, field, address.repetition);
+    let second = part_below(message, component, first, address.component);
+    part_below(message, subcomponent, second, address.subcomponent)
 }

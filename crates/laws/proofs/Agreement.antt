@@ -24,9 +24,9 @@ use Rattle.reading.specs.Reading.{reading}
 use Rattle.reading.proofs.Accepted.{accepted}
 use Rattle.reading.proofs.SegmentLaws.{segment-bytes}
 use Rattle.reading.specs.Segments.{delimitersOf, segments, segmentAt, nameOf, name}
-use Rattle.element.specs.Levels.{between, Within, partIn, fieldIn, fixed, below, repetitionAt, componentAt, elementAt}
+use Rattle.element.specs.Levels.{between, Within, partIn, fieldIn, fixed, below, repetitionAt, componentAt, subcomponentAt, elementAt}
 use Rattle.element.specs.Finding.{partBytes, found, elementBytes}
-use Rattle.element.proofs.LevelLaws.{in-absent, below-whole, below-split, within-field, within-in, within-segment}
+use Rattle.element.proofs.LevelLaws.{in-absent, within-field, within-in, within-segment, element-split}
 use Rattle.laws.specs.Elements.{address, Asks, whole-repetition, whole-component}
 use Rattle.laws.specs.Held.{HeldAgainst, RowFinds, own, other, numbersFrom, JudgedByElements}
 use Rattle.laws.proofs.ElementLaws.{absent-means, means-absent}
@@ -57,34 +57,30 @@ module _ (m : List ℕ) (segment field r : ℕ) (four : 4 ≤ length m) (free : 
   within-fieldPart : Within m fieldPart
   within-fieldPart = within-field m segment (segmentAt m segment) field four (within-segment m segment)
 
-  repetition-part : below (fixed segment field) (getD (delimitersOf m) 2 0) m fieldPart (suc r) ≡ partIn (getD (delimitersOf m) 2 0) m fieldPart r
-  repetition-part =
-      let e : suc r - 1 ≡ r = omega arith in
-      below-split (getD (delimitersOf m) 2 0) m fieldPart (suc r) free (λ e. omega arith) ∙ ap (partIn (getD (delimitersOf m) 2 0) m fieldPart) e
+  -- repetition r + 1, and a component of it
+  split-element : (c : ℕ) → elementAt m (address segment field (suc r) c 0) ≡ below (getD (delimitersOf m) 1 0) m (partIn (getD (delimitersOf m) 2 0) m fieldPart r) c
+  unfolding subcomponentAt componentAt repetitionAt below
+  split-element c = element-split m (address segment field (suc r) c 0) free
 
   -- the part judged of repetition r + 1 is the element at (segment, field, r + 1, component, 0)
   pub judged-element : (component : ℕ)
       → judgedPart (delimitersOf m) component (getD (repetitionsOf m segment (segmentAt m segment) field) r [])
       ≡ partBytes m (elementAt m (record { segment = segment; field = field; repetition = suc r; component = component; subcomponent = 0 }))
-  unfolding judgedPart elementAt componentAt repetitionAt
+  unfolding judgedPart below
   judged-element zero =
       repetition-bytes m fieldPart r
       ∙ sym (part-in-bytes (getD (delimitersOf m) 2 0) m fieldPart r within-fieldPart)
-      ∙ ap (partBytes m) (sym (below-whole (getD (delimitersOf m) 4 0) m _ 0 (fixed segment field) refl ∙ below-whole (getD (delimitersOf m) 1 0) m _ 0 (fixed segment field) refl ∙ repetition-part))
+      ∙ ap (partBytes m) (sym (split-element 0))
   judged-element (suc c) =
-      let e : suc c - 1 ≡ c = omega arith in
       ap (λ (b : List ℕ). getD (split (getD (delimitersOf m) 1 0) b) c [])
       (repetition-bytes m fieldPart r ∙ sym (part-in-bytes (getD (delimitersOf m) 2 0) m fieldPart r within-fieldPart))
       ∙ sym (part-in-bytes (getD (delimitersOf m) 1 0) m (partIn (getD (delimitersOf m) 2 0) m fieldPart r) c (within-in (getD (delimitersOf m) 2 0) m fieldPart r within-fieldPart))
-      ∙ ap (partBytes m)
-      (sym (below-whole (getD (delimitersOf m) 4 0) m _ 0 (fixed segment field) refl
-      ∙ below-split (getD (delimitersOf m) 1 0) m _ (suc c) free (λ e. omega arith)
-      ∙ ap₂ (partIn (getD (delimitersOf m) 1 0) m) repetition-part e))
+      ∙ ap (partBytes m) (sym (split-element (suc c)))
 
   -- there are as many repetitions as are not absent
   whole-element : elementAt m (address segment field (suc r) 0 0) ≡ partIn (getD (delimitersOf m) 2 0) m fieldPart r
-  unfolding elementAt componentAt repetitionAt
-  whole-element = below-whole (getD (delimitersOf m) 4 0) m _ 0 (fixed segment field) refl ∙ below-whole (getD (delimitersOf m) 1 0) m _ 0 (fixed segment field) refl ∙ repetition-part
+  unfolding below
+  whole-element = split-element 0
 
   counted-element : (r < length (repetitionsOf m segment (segmentAt m segment) field)) ↔ (elementAt m (address segment field (suc r) 0 0) ≡ Absent → ⊥)
   counted-element = ((λ h q. past fieldPart (sym whole-element ∙ q) h), (λ n. there fieldPart (λ q. n (whole-element ∙ q))))

@@ -2,10 +2,10 @@
 -- level with one part is that part. Assumes nothing.
 use mathlib.Core.Path.{_≡_, refl, sym, ap, subst, _∙_}
 use mathlib.Core.List.{List, []}
-use mathlib.Core.Bool.{Bool, true, false, not, cond, _||_}
-use Prim.Native.Nat.{ℕ, _+_, _-_, _≤_}
+use mathlib.Core.Bool.{Bool, true, false, not, cond, _&&_, _||_}
+use Prim.Native.Nat.{ℕ, zero, suc, _+_, _-_, _≤_}
 use native.Mathlib.Omega.{arith}
-use lib.Dec.{eqb}
+use lib.Dec.{eqb, leb}
 use lib.ListN.{length, getD, take, drop}
 use borrow.Author.Tests.{eqb-true, eq-eqb, not-false}
 use Rattle.alphabet.specs.Lists.{first, find}
@@ -19,7 +19,7 @@ use Rattle.alphabet.proofs.ListLaws.{piece-of-piece, first-before, first-none}
 use Rattle.alphabet.proofs.PartLaws.{part-bytes, standing-first, standing-absent, absent-past}
 use Rattle.reading.specs.Segments.{fieldSeparator, segmentAt}
 use Rattle.element.specs.States.{blank, isEmpty, stateOf}
-use Rattle.element.specs.Levels.{between, Within, moved, partIn, fieldIn, below, repetitionAt, componentAt, elementAt}
+use Rattle.element.specs.Levels.{between, Within, moved, partIn, fieldIn, fieldAt, below, repetitionAt, componentAt, subcomponentAt, fixed, unsplit, elementAt}
 use Rattle.element.specs.declared.address.Address.{Address}
 use Rattle.element.specs.declared.states.State.{State}
 use Rattle.element.specs.declared.states.State.the-variants.{Empty, Null, Present}
@@ -123,7 +123,7 @@ part-means sep m s e k b f h l q = at (partAt sep (between m s e) k) refl q
 -- ---- the whole of a level that has one part is that part
 
 pub whole-is-part : (sep : ℕ) (m : List ℕ) (s e : ℕ) → s ≤ e → e ≤ length m → find sep (between m s e) ≡ length (between m s e)
-    → below false sep m (At s e) 1 ≡ below false sep m (At s e) 0
+    → below sep m (At s e) 1 ≡ below sep m (At s e) 0
 unfolding below partIn partAt
 whole-is-part sep m s e h k n =
     let l = between-length m s e h k in
@@ -158,11 +158,10 @@ inside-either : (p : Part) (t : Bool) (q r : Part) → Inside p q → Inside p r
 inside-either p true q r a b = a
 inside-either p false q r a b = b
 
-inside-below : (whole : Bool) (sep : ℕ) (m : List ℕ) (p q : Part) (k : ℕ) → Within m q → Inside p q → Inside p (below whole sep m q k)
+inside-below : (sep : ℕ) (m : List ℕ) (p q : Part) (k : ℕ) → Within m q → Inside p q → Inside p (below sep m q k)
 unfolding below
-inside-below whole sep m p q k w h =
-    inside-either p (eqb k 0) q _ h
-    (inside-either p whole (cond (eqb k 1) q Absent) _ (inside-either p (eqb k 1) q Absent h tt) (inside-in sep m p q (k - 1) w h))
+inside-below sep m p q zero w h = h
+inside-below sep m p q (suc k) w h = inside-in sep m p q k w h
 
 inside-own : (m : List ℕ) (p : Part) → Within m p → Inside p p
 inside-own m Absent w = tt
@@ -189,11 +188,15 @@ inside-field m g k f = at (eqb k 0) refl
     at false e = in-part f
 
 pub element-inside : (m : List ℕ) → Message m → (a : Address) → Inside (segmentAt m (a .segment)) (elementAt m a)
-unfolding repetitionAt componentAt elementAt
+unfolding elementAt unsplit subcomponentAt componentAt repetitionAt
 element-inside m g a =
     let n = g .opened .nine-bytes in
     let field = within-field m (a .segment) _ (a .field) (omega arith) (within-segment m (a .segment)) in
-    let repetition = within-below _ _ m _ (a .repetition) field in
-    let component = within-below _ _ m _ (a .component) repetition in
-    inside-below _ _ m _ _ (a .subcomponent) component
-    (inside-below _ _ m _ _ (a .component) repetition (inside-below _ _ m _ _ (a .repetition) field (inside-field m g (a .segment) (a .field))))
+    let repetition = within-below _ m _ (a .repetition) field in
+    let component = within-below _ m _ (a .component) repetition in
+    let inside = inside-field m g (a .segment) (a .field) in
+    let one = leb (a .repetition) 1 && (leb (a .component) 1 && leb (a .subcomponent) 1) in
+    inside-either (segmentAt m (a .segment)) (fixed (a .segment) (a .field)) (unsplit (fieldAt m a) a) (subcomponentAt m a)
+    (inside-either (segmentAt m (a .segment)) one (fieldAt m a) Absent inside tt)
+    (inside-below _ m _ _ (a .subcomponent) component
+    (inside-below _ m _ _ (a .component) repetition (inside-below _ m _ _ (a .repetition) field inside)))

@@ -20,8 +20,8 @@ use Rattle.element.specs.declared.Found.{Found}
 use Rattle.element.specs.declared.address.Address.{Address}
 use Rattle.element.specs.declared.states.State.{State}
 use Rattle.element.specs.declared.states.State.the-variants.{Absent as no-part}
-use Rattle.element.proofs.FindingLaws.{within-element, lookup-read, found-passes, shown}
-use Rattle.element.proofs.LevelLaws.{between-length}
+use Rattle.element.proofs.FindingLaws.{lookup-read, found-passes, shown}
+use Rattle.element.proofs.LevelLaws.{between-length, within-element}
 use Rattle.laws.specs.Elements.{levels, startOf, Past, SplitFurther}
 use Rattle.laws.specs.Means.{Means, null, empty, present}
 use Rattle.laws.proofs.Asking.{answered-exactly, lookup-passes}

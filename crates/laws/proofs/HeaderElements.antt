@@ -1,13 +1,13 @@
 -- "Field 1 of MSH is the separator byte, field 2 the four encoding bytes, neither split further": what stands there at every address, and that it is present.
 -- Assumes nothing.
 use mathlib.Core.Path.{_≡_, refl, ap, ap₂, _∙_}
-use mathlib.Core.Bool.{true}
+use mathlib.Core.Bool.{Bool, true, false, cond, _&&_}
 use mathlib.Core.List.{List, [], _∷_}
 use Prim.Native.Nat.{ℕ, _≤_, _<_}
-use native.Mathlib.Decide.{decLe}
 use native.Mathlib.Omega.{arith}
+use lib.Dec.{leb}
 use lib.ListN.{length, getD}
-use borrow.Author.Tests.{eq-eqb, le-leb}
+use borrow.Author.Tests.{eq-eqb, le-leb, leb-true}
 use Rattle.alphabet.specs.declared.answers.Refusal.the-variants.{None}
 use Rattle.alphabet.specs.declared.parts.Part.{Part}
 use Rattle.alphabet.specs.declared.parts.Part.the-variants.{At, Absent}
@@ -15,36 +15,16 @@ use Rattle.alphabet.proofs.DelimiterLaws.{delimiters-differ}
 use Rattle.reading.specs.Message.{Message}
 use Rattle.reading.specs.Segments.{delimitersOf, segmentAt}
 use Rattle.element.specs.Finding.{found, elementBytes, partBytes}
-use Rattle.element.specs.Levels.{between, fixed, fieldIn, below, repetitionAt, componentAt, elementAt}
+use Rattle.element.specs.Levels.{between, fixed, fieldIn, unsplit, elementAt}
 use Rattle.element.specs.States.{stateOf}
 use Rattle.element.specs.declared.address.Address.{Address}
 use Rattle.element.specs.declared.states.State.the-variants.{Absent as no-part, Present}
-use Rattle.element.proofs.LevelLaws.{below-whole, below-own, below-past}
+use Rattle.element.proofs.LevelLaws.{element-unsplit}
 use Rattle.laws.specs.Elements.{NoneBeyondOne}
 use Rattle.laws.specs.Means.{Separator, component, subcomponent, repetition, OnlySeparators, present}
 use Rattle.laws.proofs.ElementLaws.{state-means, one-state}
 use Rattle.laws.proofs.FoundLaws.{was-read, four-long, shown-is, state-at, place-at, absent-nowhere}
 use Rattle.laws.proofs.HeaderFields.{first-field, second-field, one-byte, four-bytes}
-
--- ---- a level of a part that is not split
-
-module _ (sep : ℕ) (m : List ℕ) (p : Part) where
-  whole-below : (k : ℕ) → k ≤ 1 → below true sep m p k ≡ p
-  whole-below k h = at (decLe 1 k)
-    where
-      at : Dec (1 ≤ k) → below true sep m p k ≡ p
-      at (yes l) = below-own sep m p k refl (omega arith)
-      at (no l) = below-whole sep m p k true (omega (arith, l))
-
-  more-below : (k : ℕ) → (k ≤ 1 → ⊥) → below true sep m p k ≡ Absent
-  more-below k h = below-past sep m p k refl (λ e. h (omega arith)) (λ e. h (omega arith))
-
-absent-below : (sep : ℕ) (m : List ℕ) (k : ℕ) → below true sep m Absent k ≡ Absent
-absent-below sep m k = at (decLe k 1)
-  where
-    at : Dec (k ≤ 1) → below true sep m Absent k ≡ Absent
-    at (yes l) = whole-below sep m Absent k l
-    at (no l) = more-below sep m Absent k l
 
 -- ---- the two fields
 
@@ -57,36 +37,22 @@ module _ (m : List ℕ) (a : Address) (header : a .segment ≡ 0) (early : a .fi
 
   -- "0 or 1 give the whole"
   whole-field : NoneBeyondOne a → elementAt m a ≡ fieldPart
-  unfolding elementAt componentAt repetitionAt
+  unfolding unsplit
   whole-field h =
-      rw not-split
-      (whole-below (getD (delimitersOf m) 4 0) m _ (a .subcomponent) (h .2)
-      ∙ whole-below (getD (delimitersOf m) 1 0) m _ (a .component) (h .1)
-      ∙ whole-below (getD (delimitersOf m) 2 0) m fieldPart (a .repetition) (h .0))
+      element-unsplit m a not-split
+      ∙ rw (le-leb (a .repetition) 1 (h .0), le-leb (a .component) 1 (h .1), le-leb (a .subcomponent) 1 (h .2))
 
   -- "more is absent"
   no-more : (NoneBeyondOne a → ⊥) → elementAt m a ≡ Absent
-  unfolding elementAt componentAt repetitionAt
-  no-more h = rw not-split (at (decLe (a .repetition) 1) (decLe (a .component) 1) (decLe (a .subcomponent) 1))
+  unfolding unsplit
+  no-more h = element-unsplit m a not-split ∙ at (leb (a .repetition) 1) refl (leb (a .component) 1) refl (leb (a .subcomponent) 1) refl
     where
-      r : Part
-      r = below true (getD (delimitersOf m) 2 0) m fieldPart (a .repetition)
-
-      c : Part → Part
-      c p = below true (getD (delimitersOf m) 1 0) m p (a .component)
-
-      u : Part → Part
-      u p = below true (getD (delimitersOf m) 4 0) m p (a .subcomponent)
-
-      none : u Absent ≡ Absent
-      none = absent-below (getD (delimitersOf m) 4 0) m (a .subcomponent)
-
-      at : Dec (a .repetition ≤ 1) → Dec (a .component ≤ 1) → Dec (a .subcomponent ≤ 1) → u (c r) ≡ Absent
-      at (no n) y z =
-          ap u (ap c (more-below (getD (delimitersOf m) 2 0) m fieldPart (a .repetition) n) ∙ absent-below (getD (delimitersOf m) 1 0) m (a .component)) ∙ none
-      at (yes x) (no n) z = ap u (more-below (getD (delimitersOf m) 1 0) m r (a .component) n) ∙ none
-      at (yes x) (yes y) (no n) = more-below (getD (delimitersOf m) 4 0) m (c r) (a .subcomponent) n
-      at (yes x) (yes y) (yes z) = absurd (h (x, y, z))
+      at : (x : Bool) → leb (a .repetition) 1 ≡ x → (y : Bool) → leb (a .component) 1 ≡ y → (z : Bool) → leb (a .subcomponent) 1 ≡ z
+          → cond (x && (y && z)) fieldPart Absent ≡ Absent
+      at false e y f z g = refl
+      at true e false f z g = refl
+      at true e true f false g = refl
+      at true e true f true g = absurd (h (leb-true (a .repetition) 1 e, leb-true (a .component) 1 f, leb-true (a .subcomponent) 1 g))
 
   field-is : (f : ℕ) → a .field ≡ f → fieldPart ≡ fieldIn m 0 (segmentAt m 0) f
   field-is f e = ap₂ (λ (k n : ℕ). fieldIn m k (segmentAt m k) n) header e

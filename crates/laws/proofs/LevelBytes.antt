@@ -8,15 +8,15 @@ use Prim.Native.Nat.{ℕ, zero, suc, _+_, _-_, _≤_, _<_}
 use native.Mathlib.Omega.{arith}
 use lib.Dec.{eqb}
 use lib.ListN.{length, getD}
-use borrow.Author.Tests.{eqb-true, eqb-false, lt-leb}
+use borrow.Author.Tests.{eqb-true, eqb-false, ne-eqb, lt-leb}
 use Rattle.alphabet.specs.Parts.{split}
 use Rattle.alphabet.specs.declared.parts.Part.{Part}
 use Rattle.alphabet.specs.declared.parts.Part.the-variants.{At, Absent}
 use Rattle.reading.specs.Segments.{delimitersOf, fieldSeparator, segmentAt}
 use Rattle.element.specs.Finding.{partBytes}
-use Rattle.element.specs.Levels.{Within, fixed, partIn, fieldIn, below, repetitionAt, componentAt, elementAt}
+use Rattle.element.specs.Levels.{Within, fixed, partIn, fieldIn, below, repetitionAt, componentAt, subcomponentAt, elementAt}
 use Rattle.element.specs.declared.address.Address.{Address}
-use Rattle.element.proofs.LevelLaws.{in-absent, field-header, field-other, below-whole, below-split, within-segment, within-field, within-below}
+use Rattle.element.proofs.LevelLaws.{in-absent, field-header, field-other, within-segment, within-field, within-below, element-split}
 use Rattle.laws.specs.Elements.{level, segmentBytes, fieldPlace, fieldBytes, repetitionBytes, componentBytes, levels, before, beforeLevel, segmentStart, fieldStart, repetitionStart, componentStart, startOf, Past, no-field, no-repetition, no-component, no-subcomponent, SplitFurther}
 use Rattle.laws.proofs.ElementLaws.{absent-means, means-absent}
 use Rattle.laws.proofs.LevelStarts.{Begins, begins-segment, begins-in, begins-below}
@@ -26,13 +26,12 @@ use Rattle.laws.proofs.RawLaws.{part-in-bytes, segment-part-bytes}
 
 module _ (m : List ℕ) (sep : ℕ) where
   -- the bytes of a part below another
-  below-bytes : (p : Part) (k : ℕ) → Within m p → partBytes m (below false sep m p k) ≡ level sep k (partBytes m p)
+  below-bytes : (p : Part) (k : ℕ) → Within m p → partBytes m (below sep m p k) ≡ level sep k (partBytes m p)
   unfolding below
-  below-bytes p k w = at (eqb k 0)
-    where
-      at : (t : Bool) → partBytes m (cond t p (partIn sep m p (k - 1))) ≡ cond t (partBytes m p) (getD (split sep (partBytes m p)) (k - 1) [])
-      at true = refl
-      at false = part-in-bytes sep m p (k - 1) w
+  below-bytes p zero w = refl
+  below-bytes p (suc k) w =
+      let e : suc k - 1 ≡ k = omega arith in
+      rw (ne-eqb (suc k) 0 (λ z. omega arith), e) (part-in-bytes sep m p k w)
 
   -- a part of a part that is there is absent past the last one
   in-past : (p : Part) (k : ℕ) → partIn sep m p k ≡ Absent → (p ≡ Absent) ⊎ (length (split sep (partBytes m p)) ≤ k)
@@ -43,13 +42,15 @@ module _ (m : List ℕ) (sep : ℕ) where
   past-in Absent k h = in-absent sep m Absent k refl
   past-in (At s e) k h = ⊎-elim (λ q. absurd (let z : _≡_ {A = ℕ} 0 1 = cc in omega arith)) (means-absent sep m s e k) h
 
-  below-past : (p : Part) (k : ℕ) → below false sep m p k ≡ Absent → (p ≡ Absent) ⊎ (length (split sep (partBytes m p)) < k)
-  below-past p zero q = inl (sym (below-whole sep m p 0 false refl) ∙ q)
-  below-past p (suc k) q = ⊎-elim inl (λ n. inr (omega arith)) (in-past p (suc k - 1) (sym (below-split sep m p (suc k) refl (λ e. omega arith)) ∙ q))
+  below-past : (p : Part) (k : ℕ) → below sep m p k ≡ Absent → (p ≡ Absent) ⊎ (length (split sep (partBytes m p)) < k)
+  unfolding below
+  below-past p zero q = inl q
+  below-past p (suc k) q = ⊎-elim inl (λ n. inr (omega arith)) (in-past p k q)
 
-  past-below : (p : Part) (k : ℕ) → (p ≡ Absent) ⊎ (length (split sep (partBytes m p)) < k) → below false sep m p k ≡ Absent
-  past-below p zero h = below-whole sep m p 0 false refl ∙ ⊎-elim (λ q. q) (λ n. absurd (omega arith)) h
-  past-below p (suc k) h = below-split sep m p (suc k) refl (λ e. omega arith) ∙ past-in p (suc k - 1) (⊎-elim inl (λ n. inr (omega arith)) h)
+  past-below : (p : Part) (k : ℕ) → (p ≡ Absent) ⊎ (length (split sep (partBytes m p)) < k) → below sep m p k ≡ Absent
+  unfolding below
+  past-below p zero h = ⊎-elim (λ q. q) (λ n. absurd (omega arith)) h
+  past-below p (suc k) h = past-in p k (⊎-elim inl (λ n. inr (omega arith)) h)
 
 -- ---- the address
 
@@ -68,17 +69,17 @@ module _ (m : List ℕ) (a : Address) (four : 4 ≤ length m) (further : SplitFu
   fieldPart = fieldIn m (a .segment) segmentPart (a .field)
 
   abbrev repetitionPart : Part
-  repetitionPart = below false (getD (delimitersOf m) 2 0) m fieldPart (a .repetition)
+  repetitionPart = below (getD (delimitersOf m) 2 0) m fieldPart (a .repetition)
 
   abbrev componentPart : Part
-  componentPart = below false (getD (delimitersOf m) 1 0) m repetitionPart (a .component)
+  componentPart = below (getD (delimitersOf m) 1 0) m repetitionPart (a .component)
 
   abbrev subcomponentPart : Part
-  subcomponentPart = below false (getD (delimitersOf m) 4 0) m componentPart (a .subcomponent)
+  subcomponentPart = below (getD (delimitersOf m) 4 0) m componentPart (a .subcomponent)
 
   element-part : elementAt m a ≡ subcomponentPart
-  unfolding elementAt componentAt repetitionAt
-  element-part = rw (split-further a further)
+  unfolding subcomponentAt componentAt repetitionAt
+  element-part = element-split m a (split-further a further)
 
   field-part : fieldPart ≡ partIn (fieldSeparator m) m segmentPart (fieldPlace a)
   field-part = at (eqb (a .segment) 0) refl
@@ -94,10 +95,10 @@ module _ (m : List ℕ) (a : Address) (four : 4 ≤ length m) (further : SplitFu
   in-field = within-field m (a .segment) segmentPart (a .field) four (within-segment m (a .segment))
 
   in-repetition : Within m repetitionPart
-  in-repetition = within-below false (getD (delimitersOf m) 2 0) m fieldPart (a .repetition) in-field
+  in-repetition = within-below (getD (delimitersOf m) 2 0) m fieldPart (a .repetition) in-field
 
   in-component : Within m componentPart
-  in-component = within-below false (getD (delimitersOf m) 1 0) m repetitionPart (a .component) in-repetition
+  in-component = within-below (getD (delimitersOf m) 1 0) m repetitionPart (a .component) in-repetition
 
   segment-is : partBytes m segmentPart ≡ segmentBytes m a
   segment-is = segment-part-bytes m four (a .segment)

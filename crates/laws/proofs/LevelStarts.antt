@@ -7,6 +7,7 @@ use native.Mathlib.Nat.{add-zero, zero-add}
 use native.Mathlib.Omega.{arith}
 use lib.Dec.{eqb}
 use lib.ListN.{length, take, length-append}
+use borrow.Author.Tests.{ne-eqb}
 use Rattle.alphabet.specs.Bytes.{carriageReturn}
 use Rattle.alphabet.specs.Parts.{split, standing, partAt}
 use Rattle.alphabet.specs.declared.parts.Part.{Part}
@@ -64,10 +65,9 @@ module _ (sep : ℕ) (m : List ℕ) where
       subst (λ (i : ℕ). Begins (partIn sep m (At s e) k) (i + before sep k (between m s e))) h
       (moved-begins s (before sep k (between m s e)) (partAt sep (between m s e) k) (part-begins (between m s e) k))
 
-  pub begins-below : (p : Part) (k n : ℕ) → Begins p n → Begins (below false sep m p k) (n + beforeLevel sep k (partBytes m p))
+  pub begins-below : (p : Part) (k n : ℕ) → Begins p n → Begins (below sep m p k) (n + beforeLevel sep k (partBytes m p))
   unfolding below
-  begins-below p k n h = at (eqb k 0)
-    where
-      at : (t : Bool) → Begins (cond t p (partIn sep m p (k - 1))) (n + cond t 0 (before sep (k - 1) (partBytes m p)))
-      at true = subst (Begins p) (sym (add-zero n)) h
-      at false = begins-in p (k - 1) n h
+  begins-below p zero n h = subst (Begins p) (sym (add-zero n)) h
+  begins-below p (suc k) n h =
+      let e : suc k - 1 ≡ k = omega arith in
+      rw (ne-eqb (suc k) 0 (λ z. omega arith), e) (begins-in p k n h)

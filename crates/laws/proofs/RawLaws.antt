@@ -1,16 +1,17 @@
 -- The raw bytes at an address, as parts of the split: a field of a segment, and a component of its first repetition. Assumes nothing.
 use mathlib.Core.Path.{_≡_, refl, sym, ap, _∙_}
+use mathlib.Core.Bool.{Bool, true, false, cond}
 use mathlib.Core.List.{List, []}
 use Prim.Native.Nat.{ℕ, zero, suc, _-_, _≤_}
 use native.Mathlib.Omega.{arith}
 use lib.ListN.{length, getD, List·getD-eq-default}
-use borrow.Author.Tests.{le-leb, lt-leb, ne-eqb}
+use borrow.Author.Tests.{le-leb, lt-leb}
 use Rattle.alphabet.specs.Parts.{split}
 use Rattle.alphabet.specs.declared.parts.Part.{Part}
 use Rattle.alphabet.specs.declared.parts.Part.the-variants.{At, Absent}
 use Rattle.reading.specs.Segments.{delimitersOf, fieldSeparator, segments, segmentAt}
 use Rattle.reading.proofs.SegmentLaws.{segment-bytes, segment-past}
-use Rattle.element.specs.Levels.{between, Within, partIn, fieldIn, below, repetitionAt, componentAt, elementAt}
+use Rattle.element.specs.Levels.{between, Within, partIn, fieldIn, below, repetitionAt, componentAt, subcomponentAt, fixed, unsplit, elementAt}
 use Rattle.element.specs.Finding.{partBytes, rawBytes}
 use Rattle.element.specs.declared.address.Address.{Address}
 use Rattle.element.proofs.LevelLaws.{within-segment, within-field, within-in, field-header, field-other}
@@ -40,8 +41,12 @@ module _ (m : List ℕ) (long : 4 ≤ length m) where
   fieldPart k f = fieldIn m k (segmentAt m k) f
 
   pub raw-whole : (k f : ℕ) → rawBytes m (whole k f) ≡ partBytes m (fieldIn m k (segmentAt m k) f)
-  unfolding rawBytes elementAt componentAt repetitionAt below
-  raw-whole k f = rw (le-leb 4 (length m) long)
+  unfolding rawBytes elementAt unsplit subcomponentAt componentAt repetitionAt below
+  raw-whole k f = rw (le-leb 4 (length m) long) (at (fixed k f))
+    where
+      at : (t : Bool) → partBytes m (cond t (fieldPart k f) (fieldPart k f)) ≡ partBytes m (fieldPart k f)
+      at true = refl
+      at false = refl
 
   field-within : (k f : ℕ) → Within m (fieldPart k f)
   field-within k f = within-field m k (segmentAt m k) f long (within-segment m k)
@@ -68,9 +73,11 @@ module _ (m : List ℕ) (long : 4 ≤ length m) where
   -- component c of the first repetition of a field of MSH, which is not one of the first two
   pub raw-component : (f c : ℕ) → 3 ≤ f → 1 ≤ c
       → rawBytes m (component 0 f c) ≡ getD (split (getD (delimitersOf m) 1 0) (getD (split (getD (delimitersOf m) 2 0) (rawBytes m (whole 0 f))) 0 [])) (c - 1) []
-  unfolding rawBytes elementAt componentAt repetitionAt below
-  raw-component f c h l =
+  unfolding rawBytes elementAt subcomponentAt componentAt repetitionAt below
+  raw-component f zero h l = absurd (omega arith)
+  raw-component f (suc c) h l =
       let repetition = part-in-bytes (getD (delimitersOf m) 2 0) m (fieldPart 0 f) 0 (field-within 0 f) in
-      let inner = part-in-bytes (getD (delimitersOf m) 1 0) m (partIn (getD (delimitersOf m) 2 0) m (fieldPart 0 f) 0) (c - 1) (within-in (getD (delimitersOf m) 2 0) m (fieldPart 0 f) 0 (field-within 0 f)) in
-      rw (le-leb 4 (length m) long, lt-leb f 2 (omega arith), ne-eqb c 0 (λ z. omega arith))
-      (inner ∙ ap (λ (x : List ℕ). getD (split (getD (delimitersOf m) 1 0) x) (c - 1) []) repetition)
+      let inner = part-in-bytes (getD (delimitersOf m) 1 0) m (partIn (getD (delimitersOf m) 2 0) m (fieldPart 0 f) 0) c (within-in (getD (delimitersOf m) 2 0) m (fieldPart 0 f) 0 (field-within 0 f)) in
+      let e : suc c - 1 ≡ c = omega arith in
+      rw (le-leb 4 (length m) long, lt-leb f 2 (omega arith), e)
+      (inner ∙ ap (λ (x : List ℕ). getD (split (getD (delimitersOf m) 1 0) x) c []) repetition)

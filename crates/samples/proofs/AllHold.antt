@@ -10,7 +10,7 @@ use Rattle.alphabet.specs.Parts.{split, standing, partAt}
 use Rattle.reading.specs.Segments.{allButLast, segments, segmentAt}
 use Rattle.reading.specs.Reading.{reading, opening, segmentsCheck, segmentChecks}
 use Rattle.element.specs.Finding.{found, lookupCheck, elementOf, bytesAt}
-use Rattle.element.specs.Levels.{partIn, fieldIn, below, repetitionAt, componentAt, elementAt}
+use Rattle.element.specs.Levels.{partIn, fieldIn, below, repetitionAt, componentAt, subcomponentAt, unsplit, elementAt}
 use Rattle.element.specs.States.{stateOf}
 use Rattle.value.specs.Asked.{numberFrom, timeFrom}
 use Rattle.text.specs.Escape.{escapeByte, escapeBytes, escape}
@@ -33,15 +33,15 @@ unfolding All ofText Holds first firstWrongDelimiter fitting escaping unescaping
 texts = (refl, (refl, (refl, (refl, (refl, (refl, tt))))))
 
 numbers : All ofNumbers
-unfolding All ofNumbers Holds numberFrom nmRead nmCheck nmValue nmForm unsigned allDigits counted bytesAt found lookupCheck reading opening messageLimit segmentLimit firstWrongDelimiter first segmentsCheck segmentChecks segments allButLast split segmentAt standing elementOf elementAt componentAt repetitionAt below partIn partAt fieldIn stateOf
+unfolding All ofNumbers Holds numberFrom nmRead nmCheck nmValue nmForm unsigned allDigits counted bytesAt found lookupCheck reading opening messageLimit segmentLimit firstWrongDelimiter first segmentsCheck segmentChecks segments allButLast split segmentAt standing elementOf elementAt unsplit subcomponentAt componentAt repetitionAt below partIn partAt fieldIn stateOf
 numbers = (refl, (refl, ((refl, refl), ((refl, refl), ((refl, refl), (refl, ((refl, refl), tt)))))))
 
 times : All ofTimes
-unfolding All ofTimes Holds timeFrom timeRead isTime timeForm allDigits fractionForm zoneForm validDate dateOf figureAt counted validClock clockOf offsetOf bytesAt found lookupCheck reading opening messageLimit segmentLimit firstWrongDelimiter first segmentsCheck segmentChecks segments allButLast split segmentAt standing elementOf elementAt componentAt repetitionAt below partIn partAt fieldIn stateOf
+unfolding All ofTimes Holds timeFrom timeRead isTime timeForm allDigits fractionForm zoneForm validDate dateOf figureAt counted validClock clockOf offsetOf bytesAt found lookupCheck reading opening messageLimit segmentLimit firstWrongDelimiter first segmentsCheck segmentChecks segments allButLast split segmentAt standing elementOf elementAt unsplit subcomponentAt componentAt repetitionAt below partIn partAt fieldIn stateOf
 times = ((refl, refl), ((refl, refl), ((refl, refl), tt)))
 
 states : All ofStates
-unfolding All ofStates Holds found lookupCheck reading opening messageLimit segmentLimit firstWrongDelimiter first segmentsCheck segmentChecks segments allButLast split segmentAt standing elementOf elementAt componentAt repetitionAt below partIn partAt fieldIn stateOf
+unfolding All ofStates Holds found lookupCheck reading opening messageLimit segmentLimit firstWrongDelimiter first segmentsCheck segmentChecks segments allButLast split segmentAt standing elementOf elementAt unsplit subcomponentAt componentAt repetitionAt below partIn partAt fieldIn stateOf
 states = ((refl, refl), ((refl, refl), ((refl, refl), tt)))
 
 structures : All ofStructures

@@ -12,7 +12,7 @@ use Rattle.alphabet.specs.declared.answers.Check.the-variants.{Passes}
 use Rattle.reading.specs.Segments.{allButLast, segments, segmentAt, name, nameOf}
 use Rattle.reading.specs.Reading.{reading, opening, segmentsCheck, segmentChecks}
 use Rattle.element.specs.Finding.{elementOf, rawBytes}
-use Rattle.element.specs.Levels.{partIn, fieldIn, below, repetitionAt, componentAt, elementAt}
+use Rattle.element.specs.Levels.{partIn, fieldIn, below, repetitionAt, componentAt, subcomponentAt, unsplit, elementAt}
 use Rattle.samples.specs.Table.{reportOf}
 use Rattle.structure.specs.Shapes.{Yields, names}
 use Rattle.structure.specs.Shapes.Spans.{ended, stand, skip, once, last, more}
@@ -56,17 +56,17 @@ report : (m ns : List ℕ) {j : FaultRecord} → reading m ≡ Passes → gramma
 report m ns {j} r g n k = read r (by oruR01 g (subst (λ (l : List ℕ). Judged oruR01 l j) (sym n) k))
 
 pub report-10 : Answers (reportOf []) (refusedAs 1 1 false (name "PID" ∷ name "ORC" ∷ name "OBR" ∷ []))
-unfolding rawBytes reading opening messageLimit segmentLimit firstWrongDelimiter first segmentsCheck segmentChecks segments allButLast split structureOf chosen same segmentNames nameOf segmentAt standing elementOf elementAt componentAt repetitionAt below partIn partAt fieldIn
+unfolding rawBytes reading opening messageLimit segmentLimit firstWrongDelimiter first segmentsCheck segmentChecks segments allButLast split structureOf chosen same segmentNames nameOf segmentAt standing elementOf elementAt unsplit subcomponentAt componentAt repetitionAt below partIn partAt fieldIn
 report-10 = report (reportOf []) _ refl refl refl sample-10
 
 pub report-11 : Answers (reportOf ("PID" ∷ "EVN" ∷ []))
     (refusedAs 3 2 false (name "PD1" ∷ name "NK1" ∷ name "NTE" ∷ name "PV1" ∷ name "ORC" ∷ name "OBR" ∷ []))
-unfolding rawBytes reading opening messageLimit segmentLimit firstWrongDelimiter first segmentsCheck segmentChecks segments allButLast split structureOf chosen same segmentNames nameOf segmentAt standing elementOf elementAt componentAt repetitionAt below partIn partAt fieldIn
+unfolding rawBytes reading opening messageLimit segmentLimit firstWrongDelimiter first segmentsCheck segmentChecks segments allButLast split structureOf chosen same segmentNames nameOf segmentAt standing elementOf elementAt unsplit subcomponentAt componentAt repetitionAt below partIn partAt fieldIn
 report-11 = report (reportOf ("PID" ∷ "EVN" ∷ [])) _ refl refl refl sample-11
 
 pub report-12 : Answers (reportOf ("OBR" ∷ "EVN" ∷ []))
     (refusedAs 3 2 true (name "PID" ∷ name "ORC" ∷ name "OBR" ∷ name "NTE" ∷ name "OBX" ∷ name "CTI" ∷ name "DSC" ∷ []))
-unfolding rawBytes reading opening messageLimit segmentLimit firstWrongDelimiter first segmentsCheck segmentChecks segments allButLast split structureOf chosen same segmentNames nameOf segmentAt standing elementOf elementAt componentAt repetitionAt below partIn partAt fieldIn
+unfolding rawBytes reading opening messageLimit segmentLimit firstWrongDelimiter first segmentsCheck segmentChecks segments allButLast split structureOf chosen same segmentNames nameOf segmentAt standing elementOf elementAt unsplit subcomponentAt componentAt repetitionAt below partIn partAt fieldIn
 report-12 = report (reportOf ("OBR" ∷ "EVN" ∷ [])) _ refl refl refl sample-12
 
 -- "the observation group, whose body may be empty": MSH OBR is yielded with the group taken twice and empty both times

@@ -4,8 +4,8 @@ use Prim.Native.Nat.{_≤_}
 use mathlib.Core.Path.{sym, ap, _∙_}
 use lib.ListN.{length}
 use Rattle.element.specs.Finding.{elementIn, elementOf}
-use Rattle.element.proofs.LevelLaws.{within-at}
-use Rattle.element.proofs.FindingLaws.{within-element, element-at}
+use Rattle.element.proofs.LevelLaws.{within-at, within-element}
+use Rattle.element.proofs.FindingLaws.{element-at}
 use native.Mathlib.Omega.{arith}
 use denote.Ref.{now}
 use Rattle.element.proofs.element_of.Statement.{statement}

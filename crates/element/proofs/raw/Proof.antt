@@ -5,8 +5,8 @@ use mathlib.Core.Path.{sym, _∙_}
 use lib.ListN.{length}
 use native.Mathlib.Omega.{arith}
 use denote.Ref.{now}
-use Rattle.element.proofs.LevelLaws.{within-at}
-use Rattle.element.proofs.FindingLaws.{within-element, raw-short, raw-absent, raw-at}
+use Rattle.element.proofs.LevelLaws.{within-at, within-element}
+use Rattle.element.proofs.FindingLaws.{raw-short, raw-absent, raw-at}
 use Rattle.element.proofs.raw.Statement.{statement}
 use Rattle.element.proofs.raw.Tie as tie
 
