@@ -45,10 +45,9 @@ use Rattle.rules.specs.Table.{rows}
 use Rattle.laws.proofs.FaultNumbers.{none-sound}
 use Rattle.laws.proofs.ControlId.{control-id}
 use Rattle.structure.specs.SegmentNames.{segmentNames}
-use Rattle.structure.specs.Structures.{ack, structureOf}
+use Rattle.structure.specs.Structures.{ack, chosen, structureFor, builtIn, acknowledgement as ackListed}
 use Rattle.fault.specs.Faults.{plain}
 use Rattle.structure.specs.Judged.{Judged, Answers}
-use Rattle.structure.specs.declared.structures.Structure.the-variants.{Acknowledgement}
 use Rattle.verdict.specs.Verdicts.{Accepts}
 use Rattle.fault.specs.declared.FaultRecord.{FaultRecord}
 use Rattle.verdict.proofs.VerdictLaws.{accepts-exactly as verdict-accepts}
@@ -240,8 +239,8 @@ module _ (m time id lent : List ℕ) (small : AreBytes id) {r : Answer} {x : Lis
       ∙ same-delimiters m (return-inside m (against .2)) (sound .0)
 
   -- its type is ACK's, and its segments are MSH and MSA, in so many parts
-  pub of-type : structureOf w ≡ Acknowledgement
-  of-type = ap structureOf (writes .bytes) ∙ W.structure-written h (sound .0) (sound .1) time id (against .0) small code
+  pub of-type : structureFor builtIn w ≡ chosen ackListed
+  of-type = ap (structureFor builtIn) (writes .bytes) ∙ W.structure-written h (sound .0) (sound .1) time id (against .0) small code
 
   pub named-so : segmentNames w ≡ name "MSH" ∷ name "MSA" ∷ []
   named-so = ap segmentNames (writes .bytes) ∙ W.names-written h (sound .0) (sound .1) time id (against .0) small code

@@ -1,24 +1,16 @@
 -- "A structure has at most 64 places where a segment name stands": each that is listed has, which is computed. Assumes nothing.
 use mathlib.Core.Path.{_≡_, ap}
-use Prim.Native.Nat.{_≤_}
+use mathlib.Core.List.{List, [], _∷_}
+use Prim.Native.Nat.{ℕ, _≤_}
 use native.Mathlib.Omega.{arith}
-use Rattle.structure.specs.Shapes.{Shape, end, size}
-use Rattle.structure.specs.Structures.{Grammar, listed, unlisted, grammarOf}
-use Rattle.structure.specs.declared.structures.Structure.{Structure}
-use Rattle.structure.specs.declared.structures.Structure.the-variants.{ObservationReport, Acknowledgement, Merge, Admission, Transfer, Unlisted}
+use Rattle.structure.specs.Shapes.{Shape, size}
+use Rattle.structure.specs.Structures.{ListedStructure, builtIn}
 
--- the shape of a grammar, where it has one
-abbrev shapeOf : Grammar → Shape
-shapeOf (listed s) = s
-shapeOf unlisted = end
+-- what holds of each structure of a book
+abbrev pub EachListed : (ListedStructure → Type 0) → List ListedStructure → Type 0
+EachListed P [] = Unit {0}
+EachListed P (x ∷ book) = P x × EachListed P book
 
-pub at-most-64 : (kind : Structure) (s : Shape) → grammarOf kind ≡ listed s → size s ≤ 64
-at-most-64 kind s e = let n = ap (λ (g : Grammar). size (shapeOf g)) e in let k = sizes kind in omega arith
-  where
-    sizes : (kind : Structure) → size (shapeOf (grammarOf kind)) ≤ 64
-    sizes ObservationReport = omega arith
-    sizes Acknowledgement = omega arith
-    sizes Merge = omega arith
-    sizes Admission = omega arith
-    sizes Transfer = omega arith
-    sizes Unlisted = omega arith
+pub at-most-64 : EachListed (λ (x : ListedStructure). size (x .shape) ≤ 64) builtIn
+unfolding builtIn
+at-most-64 = (omega arith, (omega arith, (omega arith, (omega arith, (omega arith, (omega arith, tt))))))

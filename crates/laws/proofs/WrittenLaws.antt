@@ -35,11 +35,10 @@ use Rattle.structure.specs.Shapes.{Yields, names}
 use Rattle.structure.specs.Shapes.Spans.{stand, skip, ended as ended-shape}
 use Rattle.structure.specs.SegmentNames.{segmentNames, among, passedOver, kept}
 use Rattle.element.specs.Addresses.{typeAddress}
-use Rattle.structure.specs.Structures.{ack, structureOf, grammarOf}
+use Rattle.structure.specs.Structures.{ack, chosen, choose, structureFor, builtIn, acknowledgement as ackListed}
 use Rattle.fault.specs.Faults.{plain}
 use Rattle.structure.specs.Judged.{Judged, accepted, by, Answers, read}
-use Rattle.structure.specs.declared.structures.Structure.the-variants.{Acknowledgement}
-use Rattle.structure.proofs.NameLaws.{is-acknowledgement}
+use Rattle.structure.proofs.ChoiceLaws.{is-acknowledgement}
 use Rattle.acknowledgement.specs.Acknowledgement.{fieldAddress, sent, typePart, present, encoding, typeSent, headerParts, lettersOf, answerParts, acknowledgement, version}
 use Rattle.acknowledgement.specs.declared.letters.Code.{Code}
 use Rattle.acknowledgement.specs.declared.letters.Code.the-variants.{Accept, Error}
@@ -385,9 +384,9 @@ module _ (h : List ℕ) (o : Opened h) (one : find carriageReturn h + 1 ≡ leng
         ∙ ap₂ (λ (d x : List ℕ). getD (split (getD d 1 0) (getD (split (getD d 2 0) x) 0 [])) 0 []) same-delimiters (header-field 9 (λ e. omega arith))
         ∙ ap (λ (ps : List (List ℕ)). getD (split (getD ds 1 0) (getD ps 0 [])) 0 []) (split-last (getD ds 2 0) (typeSent h) (omega arith)) ∙ first-component
 
-    pub structure-written : structureOf written ≡ Acknowledgement
-    unfolding structureOf same
-    structure-written = is-acknowledgement (rawBytes written (typeAddress 2)) (rawBytes written (typeAddress 1)) (ap (λ (x : List ℕ). same x (ascii "ACK")) type-written)
+    pub structure-written : structureFor builtIn written ≡ chosen ackListed
+    unfolding structureFor same
+    structure-written = is-acknowledgement (rawBytes written (typeAddress 1)) (rawBytes written (typeAddress 2)) (ap (λ (x : List ℕ). same x (ascii "ACK")) type-written)
 
     pub names-written : segmentNames written ≡ name "MSH" ∷ name "MSA" ∷ []
     unfolding segmentNames nameOf headerParts answerParts join
@@ -400,4 +399,4 @@ module _ (h : List ℕ) (o : Opened h) (one : find carriageReturn h + 1 ≡ leng
 
     -- the structure judge accepts it
     pub judged-written : length written ≤ messageLimit → Answers written (plain None 0)
-    judged-written fits = read (reads-back fits) (by ack (ap grammarOf structure-written) fits-ack)
+    judged-written fits = read (reads-back fits) (by ackListed structure-written fits-ack)

@@ -11,11 +11,11 @@ pub data ListedAs : List ℕ → List ℕ → Shape → Type 0 where
   -- "ORU^R01 (v2.4)"
   oru : ListedAs (ascii "ORU") (ascii "R01") oruR01
   -- "ACK, any event"
-  acknowledgement : (event : List ℕ) → ListedAs (ascii "ACK") event ack
+  acknowledged : (event : List ℕ) → ListedAs (ascii "ACK") event ack
   -- "ADT^A40 (v2.4)"
-  merge : ListedAs (ascii "ADT") (ascii "A40") adtA40
+  merged : ListedAs (ascii "ADT") (ascii "A40") adtA40
   -- "ADT^A01 (house)"
-  admission : ListedAs (ascii "ADT") (ascii "A01") adtA01
+  admitted : ListedAs (ascii "ADT") (ascii "A01") adtA01
   -- "ADT^A02 and A12 (house)"
-  transfer : ListedAs (ascii "ADT") (ascii "A02") adtA02
+  transferred : ListedAs (ascii "ADT") (ascii "A02") adtA02
   cancelled : ListedAs (ascii "ADT") (ascii "A12") adtA02

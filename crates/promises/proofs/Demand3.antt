@@ -14,20 +14,20 @@ use Rattle.reading.specs.Reading.{reading}
 use Rattle.structure.specs.Shapes.{Shape, Yields, names}
 use Rattle.structure.specs.SegmentNames.{segmentNames, kept}
 use Rattle.element.specs.Addresses.{typeAddress}
-use Rattle.structure.specs.Structures.{listed, unlisted, structureOf, grammarOf}
+use Rattle.structure.specs.Structures.{ListedStructure, unlisted, structureFor, Lists, builtIn}
 use Rattle.element.specs.Finding.{rawBytes}
 use Rattle.laws.specs.Types.{ListedAs}
 use Rattle.laws.proofs.Chosen as Chosen
 use Rattle.fault.specs.Faults.{plain}
-use Rattle.structure.specs.Judged.{Judged, no-structure, by, Answers, unread, read}
+use Rattle.structure.specs.Judged.{Judged, no-structure, by, AnswersBy, unread, read, Answers}
 use Rattle.structure.specs.Judged.Judged.{accepted as yielded, refused as not-yielded}
 use Rattle.fault.specs.declared.FaultRecord.{FaultRecord}
-use Rattle.structure.proofs.OnlyOne.{only-one, goes-on, could-stand-is}
+use Rattle.structure.proofs.OnlyOne.{only-one-by, goes-on, could-stand-is}
 use Rattle.structure.proofs.OnlyOne.{accepts-exactly as judged-exactly}
 use Rattle.rules.specs.Table.{rows}
 use Rattle.fields.specs.Judging.{faultAnswer, judging}
-use Rattle.verdict.specs.Verdicts.{ofFields, Verdicts}
-use Rattle.verdict.specs.Verdicts.Verdicts.{refused as by-structure, judged as by-fields}
+use Rattle.verdict.specs.Verdicts.{VerdictsBy, Verdicts}
+use Rattle.verdict.specs.Verdicts.VerdictsBy.{refused as by-structure, judged as by-fields}
 use Rattle.promises.specs.Structures.{Exactly, accepted, refused}
 
 exactly : (s : Shape) (ns : List ℕ) {j : FaultRecord} → Judged s ns j → Exactly s ns j
@@ -46,32 +46,58 @@ exactly s ns (not-yielded place ends list r) =
       could-end = r .could-end;
     })
 
--- "whose type we list": a structure is listed for a type exactly where document 01's table has it, and any other type is 20
-pub listed-exactly : (m : List ℕ) (s : Shape) → (grammarOf (structureOf m) ≡ listed s) ↔ ListedAs (rawBytes m (typeAddress 1)) (rawBytes m (typeAddress 2)) s
-listed-exactly = Chosen.listed-exactly
+-- ---- for every book, a list of structures
 
-pub unlisted-refused : (m : List ℕ) {j : FaultRecord} → reading m ≡ Passes → grammarOf (structureOf m) ≡ unlisted → Answers m j → j ≡ plain NoStructure 0
-unlisted-refused m e g a = Chosen.judge-unlisted m e g a
-
--- a message that was read, and whose type is listed with the structure s
-module _ (m : List ℕ) (s : Shape) (done : reading m ≡ Passes) (known : grammarOf (structureOf m) ≡ listed s) where
-  judged : {j : FaultRecord} → Answers m j → Judged s (segmentNames m) j
-  judged (unread kind place e) = absurd (let z : _≡_ {A = ℕ} 0 1 = cc in omega arith)
-  judged (read e (no-structure g)) = absurd (let z : _≡_ {A = ℕ} 0 1 = cc in omega arith)
-  judged {j} (read e (by t g k)) = let q : t ≡ s = cc in subst (λ (x : Shape). Judged x (segmentNames m) j) q k
+-- a message that was read, and for whose type the book lists the structure s
+module _ (book : List ListedStructure) (m : List ℕ) (s : Shape) (done : reading m ≡ Passes) (known : Lists book m s) where
+  judged-by : {j : FaultRecord} → AnswersBy book m j → Judged s (segmentNames m) j
+  judged-by (unread kind place e) = absurd (let z : _≡_ {A = ℕ} 0 1 = cc in omega arith)
+  judged-by (read e (no-structure g)) = absurd (let q = known .1 in let z : _≡_ {A = ℕ} 0 1 = cc in omega arith)
+  judged-by {j} (read e (by x g k)) =
+      let q = known .1 in
+      let y : x ≡ known .0 = cc in
+      subst (λ (t : Shape). Judged t (segmentNames m) j) (ap (λ (z : ListedStructure). z .shape) y ∙ known .2) k
 
   -- exactly the grammar, exactly the place, exactly the list
-  pub structure-exactly : {j : FaultRecord} → Answers m j → Exactly s (segmentNames m) j
-  structure-exactly a = exactly s (segmentNames m) (judged a)
+  pub structure-exactly-by : {j : FaultRecord} → AnswersBy book m j → Exactly s (segmentNames m) j
+  structure-exactly-by a = exactly s (segmentNames m) (judged-by a)
 
-  pub accepts-exactly : {j : FaultRecord} → Answers m j → (j ≡ plain None 0) ↔ Yields s (kept (names s) (segmentNames m))
-  accepts-exactly a = judged-exactly s (segmentNames m) (judged a)
+  pub accepts-exactly-by : {j : FaultRecord} → AnswersBy book m j → (j ≡ plain None 0) ↔ Yields s (kept (names s) (segmentNames m))
+  accepts-exactly-by a = judged-exactly s (segmentNames m) (judged-by a)
 
--- the verdict agrees: what the structure judge refuses it refuses with the same place, list and flag; where he accepts, the fields decide
-pub verdict-refuses : (m : List ℕ) {j : FaultRecord} {r : FaultRecord} → Answers m j → Verdicts m r → (j .kind ≡ None → ⊥) → r ≡ j
-verdict-refuses m a (by-structure k b n) some = only-one m b a
-verdict-refuses m a (by-fields k b n) some = absurd (some (ap (λ (x : FaultRecord). x .kind) (only-one m a b) ∙ n))
+module _ (book : List ListedStructure) (m : List ℕ) where
+  -- any other type is 20
+  pub unlisted-refused-by : {j : FaultRecord} → reading m ≡ Passes → structureFor book m ≡ unlisted → AnswersBy book m j → j ≡ plain NoStructure 0
+  unlisted-refused-by e g a = Chosen.judge-unlisted book m e g a
 
-pub verdict-goes-on : (m : List ℕ) {j : FaultRecord} {r : FaultRecord} → Answers m j → Verdicts m r → j .kind ≡ None → r ≡ ofFields (faultAnswer (judging rows m))
-verdict-goes-on m a (by-structure k b n) e = absurd (n (ap (λ (x : FaultRecord). x .kind) (only-one m b a) ∙ e))
-verdict-goes-on m a (by-fields k b n) e = refl
+  -- the verdict agrees: what the structure judge refuses it refuses with the same record; where he accepts, the fields decide
+  pub verdict-refuses-by : {j r : FaultRecord} → AnswersBy book m j → VerdictsBy book m r → (j .kind ≡ None → ⊥) → r ≡ j
+  verdict-refuses-by a (by-structure k b n) some = only-one-by book m b a
+  verdict-refuses-by a (by-fields k b n) some = absurd (some (ap (λ (x : FaultRecord). x .kind) (only-one-by book m a b) ∙ n))
+
+  pub verdict-goes-on-by : {j r : FaultRecord} → AnswersBy book m j → VerdictsBy book m r → j .kind ≡ None → r ≡ faultAnswer (judging rows m)
+  verdict-goes-on-by a (by-structure k b n) e = absurd (n (ap (λ (x : FaultRecord). x .kind) (only-one-by book m b a) ∙ e))
+  verdict-goes-on-by a (by-fields k b n) e = refl
+
+-- ---- for the structures of document 01
+
+-- "whose type we list": a structure is listed for a type exactly where document 01's table has it, and any other type is 20
+pub listed-exactly : (m : List ℕ) (s : Shape) → Lists builtIn m s ↔ ListedAs (rawBytes m (typeAddress 1)) (rawBytes m (typeAddress 2)) s
+listed-exactly = Chosen.listed-exactly
+
+module _ (m : List ℕ) where
+  pub unlisted-refused : {j : FaultRecord} → reading m ≡ Passes → structureFor builtIn m ≡ unlisted → Answers m j → j ≡ plain NoStructure 0
+  unlisted-refused e g a = unlisted-refused-by builtIn m e g a
+
+  module _ (s : Shape) (done : reading m ≡ Passes) (known : Lists builtIn m s) where
+    pub structure-exactly : {j : FaultRecord} → Answers m j → Exactly s (segmentNames m) j
+    structure-exactly a = structure-exactly-by builtIn m s done known a
+
+    pub accepts-exactly : {j : FaultRecord} → Answers m j → (j ≡ plain None 0) ↔ Yields s (kept (names s) (segmentNames m))
+    accepts-exactly a = accepts-exactly-by builtIn m s done known a
+
+  pub verdict-refuses : {j r : FaultRecord} → Answers m j → Verdicts m r → (j .kind ≡ None → ⊥) → r ≡ j
+  verdict-refuses a v some = verdict-refuses-by builtIn m a v some
+
+  pub verdict-goes-on : {j r : FaultRecord} → Answers m j → Verdicts m r → j .kind ≡ None → r ≡ faultAnswer (judging rows m)
+  verdict-goes-on a v e = verdict-goes-on-by builtIn m a v e

@@ -15,7 +15,7 @@ use Rattle.text.specs.Answers.{escaping, unescaping, answer, filled}
 use Rattle.structure.specs.Shapes.{Shape, Yields, names}
 use Rattle.structure.specs.Listed.{In}
 use Rattle.structure.specs.SegmentNames.{segmentNames, kept}
-use Rattle.structure.specs.Structures.{listed, structureOf, grammarOf}
+use Rattle.structure.specs.Structures.{Lists, builtIn}
 use Rattle.fault.specs.Faults.{plain}
 use Rattle.structure.specs.Judged.{Answers}
 use Rattle.fault.specs.declared.FaultRecord.{FaultRecord}
@@ -95,7 +95,7 @@ module _ (m : List ℕ) (s : Shape) {j : FaultRecord} (a : Answers m j) (r : Ref
   }
 
 -- a message that was read, whose type is listed with the structure s, and that C sees refused
-pub names-one-by-one : (m : List ℕ) (s : Shape) → reading m ≡ Passes → grammarOf (structureOf m) ≡ listed s → {r : CStructure} → StructureSeen m r → (r .number ≡ 0 → ⊥)
+pub names-one-by-one : (m : List ℕ) (s : Shape) → reading m ≡ Passes → Lists builtIn m s → {r : CStructure} → StructureSeen m r → (r .number ≡ 0 → ⊥)
     → NamesOneByOne m s r
 names-one-by-one m s done known x some =
     subst (NamesOneByOne m s) (sym (x .seen-as))
@@ -107,7 +107,7 @@ names-one-by-one m s done known x some =
 
 -- ---- 0 is what the judges accept
 
-pub c-structure-exactly : (m : List ℕ) (s : Shape) → reading m ≡ Passes → grammarOf (structureOf m) ≡ listed s → {r : CStructure} → StructureSeen m r
+pub c-structure-exactly : (m : List ℕ) (s : Shape) → reading m ≡ Passes → Lists builtIn m s → {r : CStructure} → StructureSeen m r
     → (r .number ≡ 0) ↔ Yields s (kept (names s) (segmentNames m))
 c-structure-exactly m s done known x =
     let e = accepts-exactly m s done known (x .answers) in

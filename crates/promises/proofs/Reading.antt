@@ -18,6 +18,7 @@ use Rattle.reading.proofs.Accepted.{accepted, accepting}
 use Rattle.element.specs.Finding.{found, nowhere, rawBytes, elementBytes}
 use Rattle.element.specs.declared.address.Address.{Address}
 use Rattle.fault.specs.Faults.{plain}
+use Rattle.structure.specs.Structures.{builtIn}
 use Rattle.structure.specs.Judged.{Answers}
 use Rattle.fault.specs.declared.FaultRecord.{FaultRecord}
 use Rattle.laws.proofs.Chosen as Chosen
@@ -40,7 +41,7 @@ pub find-unread : (m : List ℕ) (a : Address) (kind : Refusal) (place : ℕ) �
 find-unread = Chosen.find-unread
 
 pub judge-unread : (m : List ℕ) (kind : Refusal) (place : ℕ) {j : FaultRecord} → reading m ≡ Fails kind place → Answers m j → j ≡ plain kind place
-judge-unread m kind place e a = Chosen.judge-unread m kind place e a
+judge-unread m kind place e a = Chosen.judge-unread builtIn m kind place e a
 
 -- what the raw bytes of an address are: those of the element, where it is found
 pub raw-is-element : (m : List ℕ) (a : Address) → found m a .answer .kind ≡ None → rawBytes m a ≡ elementBytes m a

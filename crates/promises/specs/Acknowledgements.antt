@@ -23,10 +23,9 @@ use Rattle.text.specs.Unescape.{text}
 use Rattle.text.specs.Answers.{unescaping}
 use Rattle.structure.specs.SegmentNames.{segmentNames}
 use Rattle.element.specs.Addresses.{typeAddress}
-use Rattle.structure.specs.Structures.{ack, structureOf}
+use Rattle.structure.specs.Structures.{ack, chosen, structureFor, builtIn, acknowledgement as ackListed}
 use Rattle.fault.specs.Faults.{plain}
 use Rattle.structure.specs.Judged.{Judged, Answers}
-use Rattle.structure.specs.declared.structures.Structure.the-variants.{Acknowledgement}
 use Rattle.verdict.specs.Verdicts.{Accepts}
 use Rattle.acknowledgement.specs.Acknowledgement.{header}
 use Rattle.acknowledgement.specs.Acknowledgement.{fieldAddress as inHeader}
@@ -40,7 +39,7 @@ pub record Carries (m time id w : List ℕ) : Type 0 where
   -- "reads back through our reader"
   pub reads-back : reading w ≡ Passes
   -- "fits the ACK structure": its type is ACK's, that structure yields its names, and the structure judge accepts it
-  pub is-ack : structureOf w ≡ Acknowledgement
+  pub is-ack : structureFor builtIn w ≡ chosen ackListed
   pub yields-ack : Judged ack (segmentNames w) (plain None 0)
   pub fits-ack : Answers w (plain None 0)
   -- "MSH", "Then MSA": these two segments, of twelve parts and of three

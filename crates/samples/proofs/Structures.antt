@@ -17,7 +17,7 @@ use Rattle.samples.specs.Table.{reportOf}
 use Rattle.structure.specs.Shapes.{Yields, names}
 use Rattle.structure.specs.Shapes.Spans.{ended, stand, skip, once, last, more}
 use Rattle.structure.specs.SegmentNames.{segmentNames, among, passedOver}
-use Rattle.structure.specs.Structures.{oruR01, listed, chosen, structureOf, grammarOf}
+use Rattle.structure.specs.Structures.{oruR01, chosen, choose, structureFor, builtIn, observationReport}
 use Rattle.structure.specs.Judged.{Judged, refusedAs, by, Answers, read}
 use Rattle.fault.specs.declared.FaultRecord.{FaultRecord}
 use Rattle.structure.specs.Engine.{into, gathered, endedWith, walked, listing, Tables}
@@ -52,21 +52,21 @@ sample-12 =
     told-misplaced oruR01 (names oruR01) follow 16128 (into 1) tables (name "MSH" ∷ name "OBR" ∷ name "EVN" ∷ []) 2 16258 _ refl true (Misplaced 2 16258 true) refl refl
 
 -- the messages themselves: each is read, its type is ORU^R01, and its names are the sample's
-report : (m ns : List ℕ) {j : FaultRecord} → reading m ≡ Passes → grammarOf (structureOf m) ≡ listed oruR01 → segmentNames m ≡ ns → Judged oruR01 ns j → Answers m j
-report m ns {j} r g n k = read r (by oruR01 g (subst (λ (l : List ℕ). Judged oruR01 l j) (sym n) k))
+report : (m ns : List ℕ) {j : FaultRecord} → reading m ≡ Passes → structureFor builtIn m ≡ chosen observationReport → segmentNames m ≡ ns → Judged oruR01 ns j → Answers m j
+report m ns {j} r g n k = read r (by observationReport g (subst (λ (l : List ℕ). Judged oruR01 l j) (sym n) k))
 
 pub report-10 : Answers (reportOf []) (refusedAs 1 1 false (name "PID" ∷ name "ORC" ∷ name "OBR" ∷ []))
-unfolding rawBytes reading opening messageLimit segmentLimit firstWrongDelimiter first segmentsCheck segmentChecks segments allButLast split structureOf chosen same segmentNames nameOf segmentAt standing elementOf elementAt unsplit subcomponentAt componentAt repetitionAt below partIn partAt fieldIn
+unfolding rawBytes reading opening messageLimit segmentLimit firstWrongDelimiter first segmentsCheck segmentChecks segments allButLast split structureFor choose builtIn same segmentNames nameOf segmentAt standing elementOf elementAt unsplit subcomponentAt componentAt repetitionAt below partIn partAt fieldIn
 report-10 = report (reportOf []) _ refl refl refl sample-10
 
 pub report-11 : Answers (reportOf ("PID" ∷ "EVN" ∷ []))
     (refusedAs 3 2 false (name "PD1" ∷ name "NK1" ∷ name "NTE" ∷ name "PV1" ∷ name "ORC" ∷ name "OBR" ∷ []))
-unfolding rawBytes reading opening messageLimit segmentLimit firstWrongDelimiter first segmentsCheck segmentChecks segments allButLast split structureOf chosen same segmentNames nameOf segmentAt standing elementOf elementAt unsplit subcomponentAt componentAt repetitionAt below partIn partAt fieldIn
+unfolding rawBytes reading opening messageLimit segmentLimit firstWrongDelimiter first segmentsCheck segmentChecks segments allButLast split structureFor choose builtIn same segmentNames nameOf segmentAt standing elementOf elementAt unsplit subcomponentAt componentAt repetitionAt below partIn partAt fieldIn
 report-11 = report (reportOf ("PID" ∷ "EVN" ∷ [])) _ refl refl refl sample-11
 
 pub report-12 : Answers (reportOf ("OBR" ∷ "EVN" ∷ []))
     (refusedAs 3 2 true (name "PID" ∷ name "ORC" ∷ name "OBR" ∷ name "NTE" ∷ name "OBX" ∷ name "CTI" ∷ name "DSC" ∷ []))
-unfolding rawBytes reading opening messageLimit segmentLimit firstWrongDelimiter first segmentsCheck segmentChecks segments allButLast split structureOf chosen same segmentNames nameOf segmentAt standing elementOf elementAt unsplit subcomponentAt componentAt repetitionAt below partIn partAt fieldIn
+unfolding rawBytes reading opening messageLimit segmentLimit firstWrongDelimiter first segmentsCheck segmentChecks segments allButLast split structureFor choose builtIn same segmentNames nameOf segmentAt standing elementOf elementAt unsplit subcomponentAt componentAt repetitionAt below partIn partAt fieldIn
 report-12 = report (reportOf ("OBR" ∷ "EVN" ∷ [])) _ refl refl refl sample-12
 
 -- "the observation group, whose body may be empty": MSH OBR is yielded with the group taken twice and empty both times

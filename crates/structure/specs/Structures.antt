@@ -104,6 +104,10 @@ choose (x ∷ book) type event = cond (meets type event x) (chosen x) (choose bo
 unfoldable pub structureFor : List ListedStructure → List ℕ → Choice
 structureFor book m = choose book (rawBytes m (typeAddress 1)) (rawBytes m (typeAddress 2))
 
+-- a book lists the structure s for a message's type
+abbrev pub Lists : List ListedStructure → List ℕ → Shape → Type 0
+Lists book m s = (x : ListedStructure) × (structureFor book m ≡ chosen x) × (x .shape ≡ s)
+
 -- ---- the structures of document 01, in its order
 
 abbrev listed : String → String → String → Shape → ListedStructure
