@@ -19,18 +19,23 @@ use Rattle.alphabet.proofs.PartLaws.{split-step, split-last, split-nothing, par
 use Rattle.rules.specs.Rules.{firstState, requiredCheck, repeatedCheck, saidCheck, isSaid, saidField, kindOf, componentOf, repetitionCheck, repetitionChecks, rowCheck}
 use Rattle.fields.specs.declared.walk.Cursor.{Cursor}
 use Rattle.rules.specs.Rules.{openingCheck}
-use Rattle.fields.specs.Walk.{partNumber, fieldBytes, saidBytes, Stands, Finds, leftOf, Goes}
+use Rattle.fields.specs.Walk.{fieldBytes, saidBytes, Stands, Finds, leftOf, Goes}
 use Rattle.rules.specs.declared.table.Kind.{Kind}
 use Rattle.rules.specs.declared.table.Row.{Row}
+use Rattle.fields.specs.declared.walk.Sought.{Sought}
 use Rattle.fields.specs.declared.walk.Turn.{Turn}
 
--- ---- which part a field is
+-- ---- where the bytes of a field are
 
-pub part-other : (number field : ℕ) → (number ≡ 0 → ⊥) → partNumber number field ≡ field
-part-other number field h = rw (ne-eqb number 0 h)
+module _ (ds s : List ℕ) (number field : ℕ) where
+  pub bytes-other : (number ≡ 0 → ⊥) → fieldBytes ds s number field ≡ getD (split (getD ds 0 0) s) field []
+  bytes-other h = rw (ne-eqb number 0 h)
 
-pub part-header : (number field n : ℕ) → number ≡ 0 → field - 1 ≡ n → partNumber number field ≡ n
-part-header number field n h e = rw (eq-eqb number 0 h) e
+  pub bytes-fixed : number ≡ 0 → field ≤ 2 → fieldBytes ds s number field ≡ []
+  bytes-fixed h l = rw (eq-eqb number 0 h, le-leb field 2 l)
+
+  pub bytes-header : number ≡ 0 → 2 < field → fieldBytes ds s number field ≡ getD (split (getD ds 0 0) s) (field - 1) []
+  bytes-header h l = rw (eq-eqb number 0 h, lt-leb field 2 l)
 
 -- ---- at the cursor
 
@@ -50,12 +55,12 @@ module _ (sep : ℕ) (s : List ℕ) (index place n : ℕ) (h : Stands sep s (rec
       ∙ ap (λ (i : ℕ). getD (split sep s) i []) z
 
   -- it is what was sought, whatever cursor goes on from it
-  pub finds-here : (wanted : ℕ) → index ≡ wanted → (next : Cursor) → Stands sep s next → Finds sep s wanted (record { cursor = next; start = place; end = place + n })
+  pub finds-here : (wanted : ℕ) → index ≡ wanted → (next : Cursor) → Stands sep s next → Finds sep s (getD (split sep s) wanted []) (record { cursor = next; start = place; end = place + n })
   finds-here wanted e next k =
       record { stands = k; ordered = omega arith; inside = walk-in sep s place n (h .inside) found; bytes = part-here ∙ ap (λ (i : ℕ). getD (split sep s) i []) e }
 
   -- behind the last part there is none
-  pub finds-none : (wanted : ℕ) → index < wanted → place + n ≡ length s → Finds sep s wanted (record { cursor = record { index = index; place = place }; start = place + n; end = place + n })
+  pub finds-none : (wanted : ℕ) → index < wanted → place + n ≡ length s → Finds sep s (getD (split sep s) wanted []) (record { cursor = record { index = index; place = place }; start = place + n; end = place + n })
   finds-none wanted l e =
       let z : place + n - (place + n) ≡ 0 = omega arith in
       let k : wanted ≡ index + suc (wanted - index - 1) = omega arith in
@@ -83,38 +88,41 @@ module _ (sep : ℕ) (s : List ℕ) (index place n : ℕ) (h : Stands sep s (rec
             ∙ ap (drop 1) (h .parts ∙ walk-more sep s place n (h .inside) found e);
       }
 
+-- no bytes were sought
+pub finds-nothing : (sep : ℕ) (s : List ℕ) (c : Cursor) → Stands sep s c → Finds sep s [] (record { cursor = c; start = 0; end = 0 })
+finds-nothing sep s c h = record { stands = h; ordered = omega arith; inside = omega arith; bytes = refl }
+
 -- ---- the field that says a type
 
-module _ (ds s : List ℕ) (number : ℕ) (kind : Kind) where
-  pub said-none : isSaid kind ≡ false → saidBytes ds s number kind ≡ []
-  said-none e = rw e
+module _ (ds s : List ℕ) (number : ℕ) (kind : Kind) (field : ℕ) (says : field ≡ saidField kind) where
+  pub said-none : field ≡ 0 → saidBytes ds s number kind ≡ []
+  said-none e = rw (sym says, eq-eqb field 0 e)
 
-  module _ (e : isSaid kind ≡ true) (k : ℕ) (part : k ≡ partNumber number (saidField kind)) where
-    first-of : saidBytes ds s number kind ≡ getD (split (getD ds 2 0) (getD (split (getD ds 0 0) s) k [])) 0 []
-    first-of = rw (e, sym part)
+  module _ (e : field ≡ 0 → ⊥) (f : Sought) (finds : Finds (getD ds 0 0) s (fieldBytes ds s number field) f) (n : ℕ) (found : n ≡ find (getD ds 2 0) (take (f .end - f .start) (drop (f .start) s))) where
+    -- its repetition 1 ends within it
+    pub said-in : f .start + n ≤ f .end
+    said-in =
+        let o = finds .ordered in
+        let i = finds .inside in
+        let l = first-le (eqb (getD ds 2 0)) (take (f .end - f .start) (drop (f .start) s)) in
+        let d = length-drop (f .start) s in
+        let t = length-take-le (f .end - f .start) (drop (f .start) s) (omega arith) in
+        omega arith
 
-    pub said-absent : partAt (getD ds 0 0) s k ≡ Absent → saidBytes ds s number kind ≡ []
-    said-absent q =
-        first-of
-        ∙ ap (λ (f : List ℕ). getD (split (getD ds 2 0) f) 0 []) (past-none (split (getD ds 0 0) s) k (none-past (getD ds 0 0) s k q))
-        ∙ ap (λ (ps : List (List ℕ)). getD ps 0 []) (split-nothing (getD ds 2 0))
+    said-is : getD (split (getD ds 2 0) (fieldBytes ds s number field)) 0 [] ≡ saidBytes ds s number kind
+    said-is = rw (sym says, ne-eqb field 0 e)
 
-    pub said-at : (a b n : ℕ) → partAt (getD ds 0 0) s k ≡ At a b → n ≡ find (getD ds 2 0) (take (b - a) (drop a s)) → take (a + n - a) (drop a s) ≡ saidBytes ds s number kind
-    said-at a b n q f =
-        let p = part-bytes (getD ds 0 0) s k a b q in
-        let p1 = p .1 in
-        let p2 = p .2 in
-        let l = first-le (eqb (getD ds 2 0)) (take (b - a) (drop a s)) in
-        let d = length-drop a s in
-        let t = length-take-le (b - a) (drop a s) (omega arith) in
-        let e : a + n - a ≡ n = omega arith in
-        let le : n ≤ b - a = omega arith in
-        ap (λ (i : ℕ). take i (drop a s)) e
-        ∙ sym (take-take n (b - a) (drop a s) le)
-        ∙ ap (λ (i : ℕ). take i (take (b - a) (drop a s))) f
-        ∙ sym (first-part (getD ds 2 0) (take (b - a) (drop a s)))
-        ∙ ap (λ (f : List ℕ). getD (split (getD ds 2 0) f) 0 []) (p .3)
-        ∙ sym first-of
+    pub said-first : take (f .start + n - f .start) (drop (f .start) s) ≡ saidBytes ds s number kind
+    said-first =
+        let i = said-in in
+        let k : f .start + n - f .start ≡ n = omega arith in
+        let le : n ≤ f .end - f .start = omega arith in
+        ap (λ (j : ℕ). take j (drop (f .start) s)) k
+        ∙ sym (take-take n (f .end - f .start) (drop (f .start) s) le)
+        ∙ ap (λ (j : ℕ). take j (take (f .end - f .start) (drop (f .start) s))) found
+        ∙ sym (first-part (getD ds 2 0) (take (f .end - f .start) (drop (f .start) s)))
+        ∙ ap (λ (b : List ℕ). getD (split (getD ds 2 0) b) 0 []) (finds .bytes)
+        ∙ said-is
 
 -- ---- a row begun
 

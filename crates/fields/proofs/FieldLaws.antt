@@ -1,35 +1,32 @@
--- A field's repetitions by its segment's bytes: they are those of `element`, where no row is of MSH-1, and an absent field is judged as one with no bytes.
+-- A field's repetitions by its segment's bytes: they are those of `element`, and an absent field is judged as one with no bytes.
 -- Assumes nothing.
 use mathlib.Core.Path.{_≡_, refl, sym, ap, _∙_}
 use mathlib.Core.List.{List, [], _∷_}
-use mathlib.Core.Bool.{Bool, true, false, not, _&&_, _||_}
+use mathlib.Core.Bool.{Bool, true, false, cond}
 use mathlib.Core.Logic.{_⊎_, inl, inr, ⊎-elim}
-use Prim.Native.Nat.{ℕ, zero, suc, _+_, _-_, _≤_, _<_}
+use Prim.Native.Nat.{ℕ, zero, suc, _+_, _-_, _≤_}
 use native.Mathlib.Omega.{arith}
 use lib.Dec.{eqb, leb}
 use lib.ListN.{length, getD, take, drop}
-use borrow.Author.Tests.{eqb-true, eqb-false, eq-eqb, leb-true, not-true}
-use Rattle.alphabet.specs.Bytes.{ascii}
+use borrow.Author.Tests.{eqb-true, eqb-false, eq-eqb, leb-true, leb-false}
 use Rattle.alphabet.specs.Answers.{inOrder}
 use Rattle.alphabet.specs.Lists.{first}
 use Rattle.alphabet.specs.Parts.{split, partAt}
 use Rattle.alphabet.specs.declared.parts.Part.{Part}
 use Rattle.alphabet.specs.declared.parts.Part.the-variants.{At, Absent}
-use Rattle.alphabet.proofs.BoolLaws.{false-true, and-both}
 use Rattle.alphabet.proofs.ListLaws.{piece-of-piece}
 use Rattle.alphabet.proofs.PartLaws.{split-nothing, part-bytes, past-none, none-past}
-use Rattle.reading.specs.Segments.{delimitersOf, fieldSeparator, name}
+use Rattle.reading.specs.Segments.{delimitersOf, fieldSeparator}
 use Rattle.element.specs.States.{stateOf}
 use Rattle.element.specs.declared.states.State.the-variants.{Absent, Empty}
-use Rattle.element.specs.Levels.{between, partIn, fieldIn}
+use Rattle.element.specs.Levels.{between, partIn, fixed, fieldIn}
 use Rattle.element.proofs.LevelLaws.{between-length, in-at, in-none, field-other, field-header}
-use Rattle.rules.specs.Table.{rows, noRow}
 use Rattle.rules.specs.Rules.{judgedPart, partState, repetitionCheck, repetitionChecks, requiredCheck, somePresent, isSaid, saidField, kindOf, componentOf, rowCheck}
 use Rattle.fields.specs.Judging.{repetitionsIn, repetitionsOf, saidIn}
-use Rattle.fields.specs.Walk.{partNumber, fieldBytes, saidBytes}
+use Rattle.fields.specs.Walk.{fieldBytes, saidBytes}
 use Rattle.rules.specs.declared.table.Kind.{Kind}
 use Rattle.rules.specs.declared.table.Row.{Row}
-use Rattle.fields.proofs.CursorLaws.{part-other, part-header}
+use Rattle.fields.proofs.CursorLaws.{bytes-other, bytes-fixed, bytes-header}
 
 -- ---- an absent field is judged as one with no bytes
 
@@ -96,70 +93,44 @@ module _ (m : List ℕ) (st en : ℕ) (ordered : st ≤ en) (inside : en ≤ len
           )
 
   module _ (number : ℕ) where
-    field-part : (f : ℕ) → (number ≡ 0 → f ≡ 1 → ⊥) → fieldIn m number (At st en) f ≡ partIn (fieldSeparator m) m (At st en) (partNumber number f)
-    field-part f h = at (eqb number 0) refl
+    abbrev Agrees : ℕ → Type 0
+    Agrees f = Alike (repetitionsOf m number (At st en) f) (split (getD (delimitersOf m) 2 0) (fieldBytes (delimitersOf m) segment number f))
+
+    from-part : (f i : ℕ) → fixed number f ≡ false → fieldIn m number (At st en) f ≡ partIn (fieldSeparator m) m (At st en) i
+        → fieldBytes (delimitersOf m) segment number f ≡ getD (split (fieldSeparator m) segment) i [] → Agrees f
+    from-part f i a b c = rw (a, b, c) (parts-alike i)
+
+    fields-alike : (f : ℕ) → Agrees f
+    fields-alike f = at (eqb number 0) refl
       where
-        at : (t : Bool) → eqb number 0 ≡ t → fieldIn m number (At st en) f ≡ partIn (fieldSeparator m) m (At st en) (partNumber number f)
-        at true e =
-            let z = eqb-true number 0 e in
-            field-header m number (At st en) f z (h z) ∙ ap (partIn (fieldSeparator m) m (At st en)) (sym (part-header number f (f - 1) z refl))
+        header : number ≡ 0 → (t : Bool) → leb f 2 ≡ t → Agrees f
+        header z true l =
+            inr (
+              rw (eq-eqb number 0 z, l),
+              ap (split (getD (delimitersOf m) 2 0)) (bytes-fixed (delimitersOf m) segment number f z (leb-true f 2 l)) ∙ split-nothing (getD (delimitersOf m) 2 0),
+            )
+        header z false l =
+            let g = leb-false f 2 l in
+            from-part f (f - 1) (rw (eq-eqb number 0 z, l)) (field-header m number (At st en) f z (λ e. omega arith)) (bytes-header (delimitersOf m) segment number f z (omega arith))
+
+        at : (t : Bool) → eqb number 0 ≡ t → Agrees f
+        at true e = header (eqb-true number 0 e) (leb f 2) refl
         at false e =
             let z = eqb-false number 0 e in
-            field-other m number (At st en) f z ∙ ap (partIn (fieldSeparator m) m (At st en)) (sym (part-other number f z))
+            from-part f f (rw e) (field-other m number (At st en) f z) (bytes-other (delimitersOf m) segment number f z)
 
-    fields-alike : (f : ℕ) → (number ≡ 0 → f ≡ 1 → ⊥) → Alike (repetitionsOf m number (At st en) f) (split (getD (delimitersOf m) 2 0) (fieldBytes (delimitersOf m) segment number f))
-    fields-alike f h = rw (field-part f h) (parts-alike (partNumber number f))
-
-    said-agrees : (kind : Kind) → (number ≡ 0 → isSaid kind ≡ false) → saidIn m number (At st en) kind ≡ saidBytes (delimitersOf m) segment number kind
-    said-agrees kind h = at (isSaid kind) refl
-      where
-        at : (t : Bool) → isSaid kind ≡ t → saidIn m number (At st en) kind ≡ saidBytes (delimitersOf m) segment number kind
-        at false e = rw e
-        at true e =
-            rw e
-            (alike-first (repetitionsOf m number (At st en) (saidField kind)) (split (getD (delimitersOf m) 2 0) (fieldBytes (delimitersOf m) segment number (saidField kind)))
-            (fields-alike (saidField kind) (λ z w. false-true (sym (h z) ∙ e))))
+    said-agrees : (kind : Kind) → saidIn m number (At st en) kind ≡ saidBytes (delimitersOf m) segment number kind
+    said-agrees kind =
+        ap (λ (said : List ℕ). cond (isSaid kind) said [])
+        (alike-first (repetitionsOf m number (At st en) (saidField kind)) (split (getD (delimitersOf m) 2 0) (fieldBytes (delimitersOf m) segment number (saidField kind))) (fields-alike (saidField kind)))
 
     -- a row asks the same of the segment's bytes
-    pub row-agrees : (row : Row) → (number ≡ 0 → (row .field ≡ 1 → ⊥) × (isSaid (row .kind) ≡ false))
+    pub row-agrees : (row : Row)
         → rowCheck (delimitersOf m) row (saidIn m number (At st en) (row .kind)) (repetitionsOf m number (At st en) (row .field))
         ≡ rowCheck (delimitersOf m) row (saidBytes (delimitersOf m) segment number (row .kind)) (split (getD (delimitersOf m) 2 0) (fieldBytes (delimitersOf m) segment number (row .field)))
-    row-agrees row h =
+    row-agrees row =
         alike-row (delimitersOf m) row (saidIn m number (At st en) (row .kind)) (repetitionsOf m number (At st en) (row .field))
         (split (getD (delimitersOf m) 2 0) (fieldBytes (delimitersOf m) segment number (row .field)))
-        (fields-alike (row .field) (λ z. h z .0))
+        (fields-alike (row .field))
         ∙ ap (λ (said : List ℕ). rowCheck (delimitersOf m) row said (split (getD (delimitersOf m) 2 0) (fieldBytes (delimitersOf m) segment number (row .field))))
-        (said-agrees (row .kind) (λ z. h z .1))
-
--- ---- no row is of MSH-1, and no row of MSH has a type that is said
-
-unfoldable headed : Row → Bool
-headed row = not (eqb (row .segment) (name "MSH")) || (leb 2 (row .field) && not (isSaid (row .kind)))
-
-unfoldable every : List Row → Bool
-every [] = true
-every (row ∷ rest) = headed row && every rest
-
-every-at : (rs : List Row) (i : ℕ) → every rs ≡ true → i < length rs → headed (getD rs i noRow) ≡ true
-unfolding every
-every-at [] i e h = absurd (omega arith)
-every-at (row ∷ rest) zero e h = and-both (headed row) (every rest) e .0
-every-at (row ∷ rest) (suc i) e h = every-at rest i (and-both (headed row) (every rest) e .1) (omega arith)
-
-every-row : every rows ≡ true
-unfolding rows every headed
-every-row = refl
-
-or-second : (x y : Bool) → x ≡ false → (x || y) ≡ true → y ≡ true
-or-second false y e h = h
-or-second true y e h = false-true (sym e)
-
-header-fits : (row : Row) → row .segment ≡ name "MSH" → headed row ≡ true → (row .field ≡ 1 → ⊥) × (isSaid (row .kind) ≡ false)
-unfolding headed
-header-fits row e h =
-    let b = and-both (leb 2 (row .field)) (not (isSaid (row .kind))) (or-second _ _ (ap not (eq-eqb (row .segment) (name "MSH") e)) h) in
-    let l = leb-true 2 (row .field) (b .0) in
-    ((λ q. omega arith), not-true (isSaid (row .kind)) (b .1))
-
-pub header-row : (i : ℕ) → i < length rows → getD rows i noRow .segment ≡ name "MSH" → (getD rows i noRow .field ≡ 1 → ⊥) × (isSaid (getD rows i noRow .kind) ≡ false)
-header-row i h e = header-fits (getD rows i noRow) e (every-at rows i every-row h)
+        (said-agrees (row .kind))

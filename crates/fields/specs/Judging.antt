@@ -14,21 +14,23 @@ use Rattle.alphabet.specs.declared.answers.Refusal.the-variants.{None}
 use Rattle.alphabet.specs.declared.parts.Part.{Part}
 use Rattle.alphabet.specs.declared.parts.Part.the-variants.{At, Absent}
 use Rattle.reading.specs.Segments.{delimitersOf, segments, nameOf, name}
-use Rattle.element.specs.Levels.{between, fieldIn}
+use Rattle.element.specs.Levels.{between, fixed, fieldIn}
+use Rattle.fault.specs.Faults.{atField, plain}
+use Rattle.fault.specs.declared.FaultRecord.{FaultRecord}
 use Rattle.rules.specs.Rules.{isSaid, saidField, rowCheck}
 use Rattle.rules.specs.declared.table.Kind.{Kind}
 use Rattle.rules.specs.declared.table.Row.{Row}
-use Rattle.fields.specs.declared.FieldFault.{FieldFault}
 
 -- ---- what a row is held against: a segment of the message, by its number, from 0, and where it stands
 
--- "Each level splits the part above it at its own separator; [..] an absent one into none." No row is of MSH-1 or MSH-2, which are not split.
+-- "Each level splits the part above it at its own separator; [..] an absent one into none."
 abbrev pub repetitionsIn : List ℕ → Part → List (List ℕ)
 repetitionsIn m Absent = []
 repetitionsIn m (At s e) = split (getD (delimitersOf m) 2 0) (between m s e)
 
+-- MSH-1 and MSH-2 are "neither split further": a row that names one is held against none
 abbrev pub repetitionsOf : List ℕ → ℕ → Part → ℕ → List (List ℕ)
-repetitionsOf m number part field = repetitionsIn m (fieldIn m number part field)
+repetitionsOf m number part field = cond (fixed number field) [] (repetitionsIn m (fieldIn m number part field))
 
 -- repetition 1 of the field that says a type: no bytes where it is absent, or where no field says it
 abbrev pub saidIn : List ℕ → ℕ → Part → Kind → List ℕ
@@ -77,7 +79,7 @@ segmentFaults rows m number at (s ∷ rest) = segmentFault rows m number at s �
 unfoldable pub judging : List Row → List ℕ → Fault
 judging rows m = firstFault (segmentFaults rows m 0 0 (segments m))
 
--- the answer: what is sound has 0, 0 and 0
-abbrev pub faultAnswer : Fault → FieldFault
-faultAnswer Sound = record { kind = None; segment = 0; field = 0; repetition = 0 }
-faultAnswer (Faulty kind segment field repetition) = record { kind = kind; segment = segment; field = field; repetition = repetition }
+-- the answer, in the record that all judges share
+abbrev pub faultAnswer : Fault → FaultRecord
+faultAnswer Sound = plain None 0
+faultAnswer (Faulty kind segment field repetition) = atField kind segment field repetition

@@ -16,14 +16,14 @@ use Rattle.fields.specs.declared.walk.Cursor.{Cursor}
 use Rattle.fields.specs.declared.walk.Sought.{Sought}
 use Rattle.fields.specs.declared.walk.Turn.{Turn}
 
--- which part of a segment a field is: MSH has its fields counted from the separator
-abbrev pub partNumber : ℕ → ℕ → ℕ
-partNumber number field = cond (eqb number 0) (field - 1) field
-
--- the bytes of a field, none where it is absent; and its repetition 1
+-- the bytes of a field, none where it is absent: MSH has its fields counted from the separator, and its first two are never split
 abbrev pub fieldBytes : List ℕ → List ℕ → ℕ → ℕ → List ℕ
-fieldBytes ds s number field = getD (split (getD ds 0 0) s) (partNumber number field) []
+fieldBytes ds s number field =
+    cond (eqb number 0)
+    (cond (leb field 2) [] (getD (split (getD ds 0 0) s) (field - 1) []))
+    (getD (split (getD ds 0 0) s) field [])
 
+-- repetition 1 of the field that says a type
 abbrev pub saidBytes : List ℕ → List ℕ → ℕ → Kind → List ℕ
 saidBytes ds s number kind = cond (isSaid kind) (getD (split (getD ds 2 0) (fieldBytes ds s number (saidField kind))) 0 []) []
 
@@ -33,12 +33,12 @@ pub record Stands (sep : ℕ) (s : List ℕ) (c : Cursor) : Type 0 where
   pub counted : c .index ≤ c .place
   pub parts : drop (c .index) (split sep s) ≡ split sep (drop (c .place) s)
 
--- what was sought: the bytes of part `wanted`
-pub record Finds (sep : ℕ) (s : List ℕ) (wanted : ℕ) (r : Sought) : Type 0 where
+-- what was sought: the place of some bytes
+pub record Finds (sep : ℕ) (s : List ℕ) (wanted : List ℕ) (r : Sought) : Type 0 where
   pub stands : Stands sep s (r .cursor)
   pub ordered : r .start ≤ r .end
   pub inside : r .end ≤ length s
-  pub bytes : take (r .end - r .start) (drop (r .start) s) ≡ getD (split sep s) wanted []
+  pub bytes : take (r .end - r .start) (drop (r .start) s) ≡ wanted
 
 -- what the repetitions of a row that are left are found to be; none are where `start` is past `end`
 abbrev pub leftOf : List ℕ → List ℕ → Turn → Check

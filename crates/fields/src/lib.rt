@@ -4,7 +4,9 @@ mod walk;
 
 use alphabet::Check;
 use alphabet::Refusal;
-use rules::all_rows;
+use fault::FaultRecord;
+use rules::COUNT;
+use rules::Row;
 use walk::Cursor;
 use walk::begin_row;
 use walk::next_repetition;
@@ -12,32 +14,13 @@ ghost use mathlib.Core.Path.{_≡_};
 ghost use Rattle.rules.specs.Table.{rows};
 ghost use Rattle.fields.specs.Judging.{nameAt, located, faultAnswer, judging};
 
-// The first fault: its kind, and the segment, from 0, the field and the repetition where it stands. Where nothing is wrong
-// the kind is `None` and the rest 0.
-pub struct FieldFault {
-    pub kind: Refusal,
-    pub segment: usize,
-    pub field: usize,
-    pub repetition: usize,
-}
-
-// What a check of a row found, with its segment and field.
-fn fault_at(check: Check, segment: usize, field: usize) -> FieldFault
+// What a check of a row found, with its segment and field, as a record.
+fn fault_at(check: Check, segment: usize, field: usize) -> FaultRecord
     ensures { λ r. ⌜ r ≡ faultAnswer (located segment field check) ⌝ }
 {
     match check {
-        Check::Passes => FieldFault {
-            kind: Refusal::None,
-            segment: 0,
-            field: 0,
-            repetition: 0,
-        },
-        Check::Fails { kind, place } => FieldFault {
-            kind: kind,
-            segment: segment,
-            field: field,
-            repetition: place,
-        },
+        Check::Passes => fault::plain(Refusal::None, 0),
+        Check::Fails { kind, place } => fault::at_field(kind, segment, field, place),
     }
 }
 
@@ -51,14 +34,14 @@ fn name_of(number: usize, segment: &[u8]) -> u32
     reading::name_of(segment)
 }
 
-// The first fault of the fields. Segments are taken as they were sent, rows as the table has them, repetitions in turn, and the
-// first fault leaves all three loops.
-pub fn judge_fields(message: &[u8]) -> FieldFault
+// The first fault of the fields, by any rows. Segments are taken as they were sent, rows as they are handed in, repetitions in
+// turn, and the first fault leaves all three loops.
+pub fn judge_by(message: &[u8], rows: [Row; COUNT]) -> FaultRecord
     ensures { λ r. ⌜ r ≡ faultAnswer (judging rows (now (message .entry))) ⌝ }
 {
-    let table = all_rows();
     let delimiters = reading::delimiters_of(message);
-    let mut fault = fault_at(Check::Passes, 0, 0);
+    let mut found = Check::Passes;
+    let mut field = 0;
     let mut number = 0;
     let mut start = 0;
     let mut end = reading::segment_end(message, start);
@@ -67,18 +50,18 @@ pub fn judge_fields(message: &[u8]) -> FieldFault
         let name = name_of(number, segment);
         let mut cursor = Cursor { index: 0, place: 0 };
         let mut index = 0;
-        while index < rules::COUNT {
-            let row = table[index];
+        while index < COUNT {
+            let row = rows[index];
             index += 1;
             if row.segment != name {
                 continue;
             }
+            field = row.field;
             let mut turn = begin_row(delimiters, segment, number, row, cursor);
             cursor = turn.cursor;
             loop {
-                let found = turn.found;
+                found = turn.found;
                 let Check::Passes = found else {
-                    fault = fault_at(found, number, row.field);
                     break 'judging;
                 };
                 if turn.end < turn.start {
@@ -91,5 +74,12 @@ pub fn judge_fields(message: &[u8]) -> FieldFault
         end = reading::segment_end(message, start);
         number += 1;
     }
-    fault
+    fault_at(found, number, field)
+}
+
+// The first fault of the fields, by the table of document 01.
+pub fn judge_fields(message: &[u8]) -> FaultRecord
+    ensures { λ r. ⌜ r ≡ faultAnswer (judging rows (now (message .entry))) ⌝ }
+{
+    judge_by(message, rules::all_rows())
 }

@@ -2,20 +2,20 @@
 // rise, pass over its bytes once. A row that asks for a field behind the cursor is answered from the segment's start.
 use alphabet::Check;
 use alphabet::Delimiters;
-use alphabet::Part;
 use rules::Kind;
 use rules::Row;
 use rules::check_opening;
 use rules::check_repetition;
 use rules::component_of;
-use rules::is_said;
 use rules::kind_of;
 use rules::said_field;
 ghost use mathlib.Core.Path.{_≡_};
 ghost use Prim.Native.Nat.{_+_, _≤_};
+ghost use mathlib.Core.List.{[]};
 ghost use lib.ListN.{getD, drop};
 ghost use Rattle.alphabet.specs.Lists.{find};
-ghost use Rattle.fields.specs.Walk.{partNumber, saidBytes, Stands, Finds, Begins, Goes, Steps};
+ghost use Rattle.alphabet.specs.Parts.{split};
+ghost use Rattle.fields.specs.Walk.{fieldBytes, saidBytes, Stands, Finds, Begins, Goes, Steps};
 
 // Part `index` of a segment, from 0, begins at `place`.
 pub struct Cursor {
@@ -41,16 +41,6 @@ pub struct Turn {
     pub repetition: usize,
     pub component: usize,
     pub kind: Kind,
-}
-
-// Which part of its segment a field is.
-fn part_number(number: usize, field: usize) -> usize
-    ensures { λ r. ⌜ r ≡ partNumber number field ⌝ }
-{
-    if number != 0 {
-        return field;
-    }
-    if field == 0 { 0 } else { field - 1 }
 }
 
 // The cursor, or the segment's start where the part that is wanted stands before it.
@@ -81,7 +71,7 @@ fn behind(segment: &[u8], separator: u8, cursor: Cursor, end: usize) -> Cursor
 // The part of an index, from 0; where there is none, no bytes.
 fn seek(segment: &[u8], separator: u8, cursor: Cursor, wanted: usize) -> Sought
     requires { ⌜ Stands separator (now segment) cursor ⌝ }
-    ensures { λ r. ⌜ Finds separator (now (segment .entry)) wanted r ⌝ }
+    ensures { λ r. ⌜ Finds separator (now (segment .entry)) (getD (split separator (now (segment .entry))) wanted []) r ⌝ }
 {
     let from = rewound(segment, separator, cursor, wanted);
     let mut index = from.index;
@@ -111,19 +101,44 @@ fn seek(segment: &[u8], separator: u8, cursor: Cursor, wanted: usize) -> Sought
     }
 }
 
+// A field of a segment, by its number: MSH's fields are counted from its separator, and the first two are never split.
+fn field_in(
+    delimiters: Delimiters,
+    segment: &[u8],
+    number: usize,
+    field: usize,
+    cursor: Cursor,
+) -> Sought
+    requires { ⌜ Stands (getD (delimiters .bytes) 0 0) (now segment) cursor ⌝ }
+    ensures { λ r. ⌜ Finds (getD (delimiters .bytes) 0 0) (now (segment .entry)) (fieldBytes (delimiters .bytes) (now (segment .entry)) number field) r ⌝ }
+{
+    let bytes = delimiters.bytes;
+    if number != 0 {
+        return seek(segment, bytes[0], cursor, field);
+    }
+    if field <= 2 {
+        return Sought {
+            cursor: cursor,
+            start: 0,
+            end: 0,
+        };
+    }
+    seek(segment, bytes[0], cursor, field - 1)
+}
+
 // Repetition 1 of the field of a segment that says a row's type; no bytes where none says it or it is absent.
 fn said_in(delimiters: Delimiters, segment: &[u8], number: usize, kind: Kind) -> &[u8]
     ensures { λ r. ⌜ now r ≡ saidBytes (delimiters .bytes) (now (segment .entry)) number kind ⌝ }
 {
-    if !is_said(kind) {
+    let field = said_field(kind);
+    if field == 0 {
         return &segment[..0];
     }
     let bytes = delimiters.bytes;
-    let wanted = part_number(number, said_field(kind));
-    let part = alphabet::nth_part(segment, bytes[0], wanted);
-    let Part::At { start, end } = part else {
-        return &segment[..0];
-    };
+    let first = Cursor { index: 0, place: 0 };
+    let sought = field_in(delimiters, segment, number, field, first);
+    let start = sought.start;
+    let end = sought.end;
     let last = start + alphabet::find(&segment[start..end], bytes[2]);
     &segment[start..last]
 }
@@ -139,11 +154,9 @@ pub fn begin_row(
     requires { ⌜ Stands (getD (delimiters .bytes) 0 0) (now segment) cursor ⌝ }
     ensures { λ r. ⌜ Begins (delimiters .bytes) (now (segment .entry)) number row r ⌝ }
 {
-    let bytes = delimiters.bytes;
     let kind = row.kind;
     let said = said_in(delimiters, segment, number, kind);
-    let wanted = part_number(number, row.field);
-    let sought = seek(segment, bytes[0], cursor, wanted);
+    let sought = field_in(delimiters, segment, number, row.field, cursor);
     let next = sought.cursor;
     let start = sought.start;
     let end = sought.end;

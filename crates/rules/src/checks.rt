@@ -157,7 +157,7 @@ pub fn said_field(kind: Kind) -> usize
 }
 
 // Whether another field says it.
-pub fn is_said(kind: Kind) -> bool
+fn is_said(kind: Kind) -> bool
     ensures { λ r. ⌜ r ≡ isSaid kind ⌝ }
 {
     said_field(kind) != 0

@@ -6,7 +6,6 @@ mod table;
 pub use checks::check_opening;
 pub use checks::check_repetition;
 pub use checks::component_of;
-pub use checks::is_said;
 pub use checks::kind_of;
 pub use checks::said_field;
 pub use table::COUNT;

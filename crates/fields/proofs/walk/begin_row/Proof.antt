@@ -1,20 +1,16 @@
 -- Rests on the law of a row begun, from what the callees ensure.
 use borrow.Author.Needs.{needs}
-use mathlib.Core.Path.{refl, ap, _∙_}
-use Prim.Native.Nat.{ℕ}
-use mathlib.Core.List.{[]}
-use lib.ListN.{getD}
+use mathlib.Core.Path.{refl}
 use denote.Ref.{now}
-use Rattle.alphabet.specs.Parts.{split}
 use Rattle.fields.proofs.CursorLaws.{row-asks}
 use Rattle.fields.proofs.walk.begin_row.Statement.{statement}
 use Rattle.fields.proofs.walk.begin_row.Tie as tie
 
 returns : tie.Need-returns
 returns c =
-    let a = c .before .before .before .before .before .before .before .before .before .before .args in
-    let f = c .before .before .before .before .before .seek .ensures in
-    let s = c .before .before .before .before .before .seek .result in
+    let a = c .before .before .before .before .before .before .before .before .args in
+    let f = c .before .before .before .before .before .field-in .ensures in
+    let s = c .before .before .before .before .before .field-in .result in
     let ds = a .delimiters .bytes in
     record {
       stands = f .stands;
@@ -26,8 +22,8 @@ returns c =
           (record { cursor = s .cursor; found = c .before .before .check-opening .result; start = s .start; end = s .end; repetition = 1; component = c .before .component-of .result; kind = c .kind-of .result })
           (f .ordered)
           refl
-          (c .before .before .before .before .before .before .before .said-in .ensures)
-          (f .bytes ∙ ap (λ (k : ℕ). getD (split (getD ds 0 0) (now (a .segment))) k []) (c .before .before .before .before .before .before .part-number .ensures))
+          (c .before .before .before .before .before .before .said-in .ensures)
+          (f .bytes)
           (c .before .before .check-opening .ensures)
           (c .before .component-of .ensures)
           (c .kind-of .ensures);
@@ -38,8 +34,6 @@ begin-row-spec =
     tie.close
     (tie.spec
     (λ c κs. search needs)
-    (λ c κs. search needs)
-    (λ c. search needs)
     (λ c κs. search needs)
     (λ c. search needs)
     (λ c. search needs)
