@@ -57,6 +57,16 @@ module _ (m : List ℕ) (segment field r : ℕ) (four : 4 ≤ length m) (free : 
   within-fieldPart : Within m fieldPart
   within-fieldPart = within-field m segment (segmentAt m segment) field four (within-segment m segment)
 
+  -- it is no field that is never split
+  split-field : repetitionsOf m segment (segmentAt m segment) field ≡ repetitionsIn m fieldPart
+  split-field = ap (λ (t : Bool). cond t [] (repetitionsIn m fieldPart)) free
+
+  repetition-held : getD (repetitionsOf m segment (segmentAt m segment) field) r [] ≡ partBytes m (partIn (getD (delimitersOf m) 2 0) m fieldPart r)
+  repetition-held =
+      ap (λ (rs : List (List ℕ)). getD rs r []) split-field
+      ∙ repetition-bytes m fieldPart r
+      ∙ sym (part-in-bytes (getD (delimitersOf m) 2 0) m fieldPart r within-fieldPart)
+
   repetition-part : below (fixed segment field) (getD (delimitersOf m) 2 0) m fieldPart (suc r) ≡ partIn (getD (delimitersOf m) 2 0) m fieldPart r
   repetition-part =
       let e : suc r - 1 ≡ r = omega arith in
@@ -68,13 +78,11 @@ module _ (m : List ℕ) (segment field r : ℕ) (four : 4 ≤ length m) (free : 
       ≡ partBytes m (elementAt m (record { segment = segment; field = field; repetition = suc r; component = component; subcomponent = 0 }))
   unfolding judgedPart elementAt componentAt repetitionAt
   judged-element zero =
-      repetition-bytes m fieldPart r
-      ∙ sym (part-in-bytes (getD (delimitersOf m) 2 0) m fieldPart r within-fieldPart)
+      repetition-held
       ∙ ap (partBytes m) (sym (below-whole (getD (delimitersOf m) 4 0) m _ 0 (fixed segment field) refl ∙ below-whole (getD (delimitersOf m) 1 0) m _ 0 (fixed segment field) refl ∙ repetition-part))
   judged-element (suc c) =
       let e : suc c - 1 ≡ c = omega arith in
-      ap (λ (b : List ℕ). getD (split (getD (delimitersOf m) 1 0) b) c [])
-      (repetition-bytes m fieldPart r ∙ sym (part-in-bytes (getD (delimitersOf m) 2 0) m fieldPart r within-fieldPart))
+      ap (λ (b : List ℕ). getD (split (getD (delimitersOf m) 1 0) b) c []) repetition-held
       ∙ sym (part-in-bytes (getD (delimitersOf m) 1 0) m (partIn (getD (delimitersOf m) 2 0) m fieldPart r) c (within-in (getD (delimitersOf m) 2 0) m fieldPart r within-fieldPart))
       ∙ ap (partBytes m)
       (sym (below-whole (getD (delimitersOf m) 4 0) m _ 0 (fixed segment field) refl
@@ -87,7 +95,9 @@ module _ (m : List ℕ) (segment field r : ℕ) (four : 4 ≤ length m) (free : 
   whole-element = below-whole (getD (delimitersOf m) 4 0) m _ 0 (fixed segment field) refl ∙ below-whole (getD (delimitersOf m) 1 0) m _ 0 (fixed segment field) refl ∙ repetition-part
 
   counted-element : (r < length (repetitionsOf m segment (segmentAt m segment) field)) ↔ (elementAt m (address segment field (suc r) 0 0) ≡ Absent → ⊥)
-  counted-element = ((λ h q. past fieldPart (sym whole-element ∙ q) h), (λ n. there fieldPart (λ q. n (whole-element ∙ q))))
+  counted-element =
+      let e = ap length split-field in
+      ((λ h q. past fieldPart (sym whole-element ∙ q) (omega arith)), (λ n. let t = there fieldPart (λ q. n (whole-element ∙ q)) in omega arith))
     where
       past : (p : Part) → partIn (getD (delimitersOf m) 2 0) m p r ≡ Absent → r < length (repetitionsIn m p) → ⊥
       past Absent q h = omega arith
