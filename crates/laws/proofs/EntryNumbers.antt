@@ -46,7 +46,7 @@ use Rattle.rules.specs.Table.{rows}
 use Rattle.fields.specs.Judging.{faultAnswer, judging}
 use Rattle.verdict.specs.Verdicts.{Verdicts}
 use Rattle.verdict.specs.Verdicts.Verdicts.{refused as by-structure, judged as by-fields}
-use Rattle.verdict.specs.declared.FaultRecord.{FaultRecord}
+use Rattle.fault.specs.declared.FaultRecord.{FaultRecord}
 use Rattle.acknowledgement.specs.Acknowledgement.{badId, acknowledgeable, refusing, roomy, acknowledgement, header, Acknowledges}
 use Rattle.acknowledgement.specs.Acknowledgement.Acknowledges.{not-written, written}
 use Rattle.laws.proofs.FaultNumbers.{fields-number}

@@ -19,9 +19,9 @@ use Rattle.reading.proofs.Honest.{reading-fails}
 use Rattle.structure.proofs.OnlyOne.{only-one}
 use Rattle.rules.specs.Table.{rows}
 use Rattle.fields.specs.Judging.{faultAnswer, judging}
-use Rattle.verdict.specs.Verdicts.{ofStructure, ofFields, Verdicts, Accepts}
+use Rattle.verdict.specs.Verdicts.{ofStructure, Verdicts, Accepts}
 use Rattle.verdict.specs.Verdicts.Verdicts.{refused as by-structure, judged as by-fields}
-use Rattle.verdict.specs.declared.FaultRecord.{FaultRecord}
+use Rattle.fault.specs.declared.FaultRecord.{FaultRecord}
 
 -- no second verdict
 pub one-verdict : (m : List ℕ) {r t : FaultRecord} → Verdicts m r → Verdicts m t → r ≡ t

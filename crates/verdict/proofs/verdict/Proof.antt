@@ -3,7 +3,7 @@ use mathlib.Core.Path.{_≡_, sym, ap, _∙_, subst}
 use borrow.Author.Needs.{needs}
 use denote.Ref.{now}
 use Rattle.alphabet.specs.Answers.{numberOf}
-use Rattle.verdict.specs.Verdicts.{ofFields, Verdicts, refused, judged}
+use Rattle.verdict.specs.Verdicts.{Verdicts, refused, judged}
 use Rattle.alphabet.proofs.CheckLaws.{number-none}
 use Rattle.verdict.proofs.verdict.Statement.{statement}
 use Rattle.verdict.proofs.verdict.Tie as tie
@@ -17,11 +17,10 @@ returns c =
 
 returns-2 : tie.Need-returns-2
 returns-2 c =
-    let n = c .before .before .before in
+    let n = c .before .before in
     let j = n .before .judge-structure in
     let m = now (n .before .before .before .args .message) in
-    subst (Verdicts m) (sym (c .of-fields .ensures ∙ ap ofFields (c .before .judge-fields .ensures)))
-    (judged (j .result) (j .ensures) (number-none (j .result .kind) (sym (n .number .ensures) ∙ c .before .before .if1 .left)))
+    subst (Verdicts m) (sym (c .judge-fields .ensures)) (judged (j .result) (j .ensures) (number-none (j .result .kind) (sym (n .number .ensures) ∙ c .before .if1 .left)))
 
 pub verdict-spec : {M : Type 1} → statement M
 verdict-spec =
@@ -31,6 +30,5 @@ verdict-spec =
     (λ c κs. search needs)
     (λ c κs. search needs)
     returns
-    (λ c κs. search needs)
     (λ c κs. search needs)
     returns-2)
