@@ -57,6 +57,16 @@ module _ (m : List ℕ) (segment field r : ℕ) (four : 4 ≤ length m) (free : 
   within-fieldPart : Within m fieldPart
   within-fieldPart = within-field m segment (segmentAt m segment) field four (within-segment m segment)
 
+  -- it is no field that is never split
+  split-field : repetitionsOf m segment (segmentAt m segment) field ≡ repetitionsIn m fieldPart
+  split-field = ap (λ (t : Bool). cond t [] (repetitionsIn m fieldPart)) free
+
+  repetition-held : getD (repetitionsOf m segment (segmentAt m segment) field) r [] ≡ partBytes m (partIn (getD (delimitersOf m) 2 0) m fieldPart r)
+  repetition-held =
+      ap (λ (rs : List (List ℕ)). getD rs r []) split-field
+      ∙ repetition-bytes m fieldPart r
+      ∙ sym (part-in-bytes (getD (delimitersOf m) 2 0) m fieldPart r within-fieldPart)
+
   -- repetition r + 1, and a component of it
   split-element : (c : ℕ) → elementAt m (address segment field (suc r) c 0) ≡ below (getD (delimitersOf m) 1 0) m (partIn (getD (delimitersOf m) 2 0) m fieldPart r) c
   unfolding subcomponentAt componentAt repetitionAt below
@@ -68,12 +78,10 @@ module _ (m : List ℕ) (segment field r : ℕ) (four : 4 ≤ length m) (free : 
       ≡ partBytes m (elementAt m (record { segment = segment; field = field; repetition = suc r; component = component; subcomponent = 0 }))
   unfolding judgedPart below
   judged-element zero =
-      repetition-bytes m fieldPart r
-      ∙ sym (part-in-bytes (getD (delimitersOf m) 2 0) m fieldPart r within-fieldPart)
+      repetition-held
       ∙ ap (partBytes m) (sym (split-element 0))
   judged-element (suc c) =
-      ap (λ (b : List ℕ). getD (split (getD (delimitersOf m) 1 0) b) c [])
-      (repetition-bytes m fieldPart r ∙ sym (part-in-bytes (getD (delimitersOf m) 2 0) m fieldPart r within-fieldPart))
+      ap (λ (b : List ℕ). getD (split (getD (delimitersOf m) 1 0) b) c []) repetition-held
       ∙ sym (part-in-bytes (getD (delimitersOf m) 1 0) m (partIn (getD (delimitersOf m) 2 0) m fieldPart r) c (within-in (getD (delimitersOf m) 2 0) m fieldPart r within-fieldPart))
       ∙ ap (partBytes m) (sym (split-element (suc c)))
 
@@ -83,7 +91,9 @@ module _ (m : List ℕ) (segment field r : ℕ) (four : 4 ≤ length m) (free : 
   whole-element = split-element 0
 
   counted-element : (r < length (repetitionsOf m segment (segmentAt m segment) field)) ↔ (elementAt m (address segment field (suc r) 0 0) ≡ Absent → ⊥)
-  counted-element = ((λ h q. past fieldPart (sym whole-element ∙ q) h), (λ n. there fieldPart (λ q. n (whole-element ∙ q))))
+  counted-element =
+      let e = ap length split-field in
+      ((λ h q. past fieldPart (sym whole-element ∙ q) (omega arith)), (λ n. let t = there fieldPart (λ q. n (whole-element ∙ q)) in omega arith))
     where
       past : (p : Part) → partIn (getD (delimitersOf m) 2 0) m p r ≡ Absent → r < length (repetitionsIn m p) → ⊥
       past Absent q h = omega arith
