@@ -1,0 +1,35 @@
+// ADT^A40 as tables: MSH EVN { PID [PD1] MRG [PV1] }
+use crate::segments;
+
+const EVN: u64 = 1 << 1;
+
+const PID: u64 = 1 << 2;
+
+const PD1: u64 = 1 << 3;
+
+const MRG: u64 = 1 << 4;
+
+const PV1: u64 = 1 << 5;
+
+// The names, by place.
+pub const NAMES: [u32; 6] = [
+    segments::MSH,
+    segments::EVN,
+    segments::PID,
+    segments::PD1,
+    segments::MRG,
+    segments::PV1,
+];
+
+// What can come next behind each place.
+pub const FOLLOW: [u64; 6] = [
+    EVN, // MSH
+    PID, // EVN
+    PD1 | MRG, // PID
+    MRG, // PD1
+    PV1 | PID, // MRG
+    PID, // PV1
+];
+
+// The places behind which a message can end.
+pub const LAST: u64 = MRG | PV1;
