@@ -13,7 +13,7 @@ use Rattle.structure.specs.Shapes.{Shape}
 use Rattle.structure.specs.SegmentNames.{segmentNames}
 use Rattle.structure.specs.Structures.{ListedStructure, Choice, chosen, unlisted, structureFor}
 use Rattle.structure.specs.Judged.{Judged, StructuredBy, no-structure, by}
-use Rattle.structure.specs.Engine.{into, Tables, rowsWith, RowsOf}
+use Rattle.structure.specs.Engine.{into, Tables, rowsWith, RowsAre, RowsOf}
 use Rattle.structure.specs.declared.rows.Rows.{Rows}
 use Rattle.structure.proofs.ListingLaws.{filled, filled-more, filled-front}
 
@@ -25,15 +25,15 @@ copied-more l p h k =
     ap (λ (i : ℕ). set (filled (take p l)) i (getD l p 0)) (sym n) ∙ filled-more (take p l) (getD l p 0) (omega arith) ∙ ap filled more
 
 -- rows that were copied from the tables of a structure are its rows
-pub rows-of-tables : (x : ListedStructure) (ns follow : List ℕ) (last : ℕ) (r : Rows) → r ≡ rowsWith ns follow last → 1 ≤ length ns → length ns ≤ 64
-    → length follow ≡ length ns → Tables (x .shape) ns follow last (into 1) → RowsOf (chosen x) r
+pub rows-are : (s : Shape) (ns follow : List ℕ) (last : ℕ) (r : Rows) → r ≡ rowsWith ns follow last → 1 ≤ length ns → length ns ≤ 64 → length follow ≡ length ns
+    → Tables s ns follow last (into 1) → RowsAre s r
 unfolding rowsWith
-rows-of-tables x ns follow last r e some most same t =
-    subst (RowsOf (chosen x)) (sym e) (
+rows-are s ns follow last r e some most same t =
+    subst (RowsAre s) (sym e) (
       some,
       most,
-      subst (λ (l : List ℕ). Tables (x .shape) l (take (length ns) (filled follow)) last (into 1)) (sym (filled-front ns))
-          (subst (λ (l : List ℕ). Tables (x .shape) ns l last (into 1)) (sym (ap (λ (i : ℕ). take i (filled follow)) (sym same) ∙ filled-front follow)) t),
+      subst (λ (l : List ℕ). Tables s l (take (length ns) (filled follow)) last (into 1)) (sym (filled-front ns))
+          (subst (λ (l : List ℕ). Tables s ns l last (into 1)) (sym (ap (λ (i : ℕ). take i (filled follow)) (sym same) ∙ filled-front follow)) t),
     )
 
 pub no-rows : (r : Rows) → r ≡ rowsWith [] [] 0 → r .count ≡ 0

@@ -151,8 +151,11 @@ unfoldable pub rowsWith : List ℕ → List ℕ → ℕ → Rows
 rowsWith ns follow last =
     record { names = ns ++ replicate (64 - length ns) 0; follow = follow ++ replicate (64 - length follow) 0; count = length ns; last = last }
 
--- the rows are the tables of the structure that is chosen, at whose place 0 a message begins; there are none where none is
+-- the rows are the tables of a structure, at whose place 0 a message begins
+abbrev pub RowsAre : Shape → Rows → Type 0
+RowsAre s r = (1 ≤ r .count) × (r .count ≤ 64) × Tables s (take (r .count) (r .names)) (take (r .count) (r .follow)) (r .last) (into 1)
+
+-- the rows of the structure that is chosen; there are none where none is
 abbrev pub RowsOf : Choice → Rows → Type 0
-RowsOf (chosen x) r =
-    (1 ≤ r .count) × (r .count ≤ 64) × Tables (x .shape) (take (r .count) (r .names)) (take (r .count) (r .follow)) (r .last) (into 1)
+RowsOf (chosen x) r = RowsAre (x .shape) r
 RowsOf unlisted r = r .count ≡ 0

@@ -1,5 +1,9 @@
 // ADT^A01 as tables: MSH EVN PID [{NK1}] PV1 [PV2] [{AL1}] [{IN1}] [ZVI] [ZPD]
+use crate::rows::Rows;
+use crate::rows::rows_from;
 use crate::segments;
+ghost use Rattle.structure.specs.Structures.{adtA01};
+ghost use Rattle.structure.specs.Engine.{RowsAre};
 
 const EVN: u64 = 1 << 1;
 
@@ -20,7 +24,7 @@ const ZVI: u64 = 1 << 8;
 const ZPD: u64 = 1 << 9;
 
 // The names, by place.
-pub const NAMES: [u32; 10] = [
+const NAMES: [u32; 10] = [
     segments::MSH,
     segments::EVN,
     segments::PID,
@@ -34,7 +38,7 @@ pub const NAMES: [u32; 10] = [
 ];
 
 // What can come next behind each place.
-pub const FOLLOW: [u64; 10] = [
+const FOLLOW: [u64; 10] = [
     EVN, // MSH
     PID, // EVN
     NK1 | PV1, // PID
@@ -48,4 +52,11 @@ pub const FOLLOW: [u64; 10] = [
 ];
 
 // The places behind which a message can end.
-pub const LAST: u64 = PV1 | PV2 | AL1 | IN1 | ZVI | ZPD;
+const LAST: u64 = PV1 | PV2 | AL1 | IN1 | ZVI | ZPD;
+
+// The tables.
+pub fn tables() -> Rows
+    ensures { λ r. ⌜ RowsAre adtA01 r ⌝ }
+{
+    rows_from(&NAMES, &FOLLOW, LAST)
+}

@@ -1,5 +1,9 @@
 // ADT^A02 and A12 as tables: MSH EVN PID PV1 [PV2] [ZVI] [ZPD]
+use crate::rows::Rows;
+use crate::rows::rows_from;
 use crate::segments;
+ghost use Rattle.structure.specs.Structures.{adtA02};
+ghost use Rattle.structure.specs.Engine.{RowsAre};
 
 const EVN: u64 = 1 << 1;
 
@@ -14,7 +18,7 @@ const ZVI: u64 = 1 << 5;
 const ZPD: u64 = 1 << 6;
 
 // The names, by place.
-pub const NAMES: [u32; 7] = [
+const NAMES: [u32; 7] = [
     segments::MSH,
     segments::EVN,
     segments::PID,
@@ -25,7 +29,7 @@ pub const NAMES: [u32; 7] = [
 ];
 
 // What can come next behind each place.
-pub const FOLLOW: [u64; 7] = [
+const FOLLOW: [u64; 7] = [
     EVN, // MSH
     PID, // EVN
     PV1, // PID
@@ -36,4 +40,11 @@ pub const FOLLOW: [u64; 7] = [
 ];
 
 // The places behind which a message can end.
-pub const LAST: u64 = PV1 | PV2 | ZVI | ZPD;
+const LAST: u64 = PV1 | PV2 | ZVI | ZPD;
+
+// The tables.
+pub fn tables() -> Rows
+    ensures { λ r. ⌜ RowsAre adtA02 r ⌝ }
+{
+    rows_from(&NAMES, &FOLLOW, LAST)
+}

@@ -1,5 +1,9 @@
 // ADT^A40 as tables: MSH EVN { PID [PD1] MRG [PV1] }
+use crate::rows::Rows;
+use crate::rows::rows_from;
 use crate::segments;
+ghost use Rattle.structure.specs.Structures.{adtA40};
+ghost use Rattle.structure.specs.Engine.{RowsAre};
 
 const EVN: u64 = 1 << 1;
 
@@ -12,7 +16,7 @@ const MRG: u64 = 1 << 4;
 const PV1: u64 = 1 << 5;
 
 // The names, by place.
-pub const NAMES: [u32; 6] = [
+const NAMES: [u32; 6] = [
     segments::MSH,
     segments::EVN,
     segments::PID,
@@ -22,7 +26,7 @@ pub const NAMES: [u32; 6] = [
 ];
 
 // What can come next behind each place.
-pub const FOLLOW: [u64; 6] = [
+const FOLLOW: [u64; 6] = [
     EVN, // MSH
     PID, // EVN
     PD1 | MRG, // PID
@@ -32,4 +36,11 @@ pub const FOLLOW: [u64; 6] = [
 ];
 
 // The places behind which a message can end.
-pub const LAST: u64 = MRG | PV1;
+const LAST: u64 = MRG | PV1;
+
+// The tables.
+pub fn tables() -> Rows
+    ensures { λ r. ⌜ RowsAre adtA40 r ⌝ }
+{
+    rows_from(&NAMES, &FOLLOW, LAST)
+}

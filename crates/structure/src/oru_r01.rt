@@ -1,7 +1,11 @@
 // ORU^R01 as tables:
 // MSH { [PID [PD1] [{NK1}] [{NTE}] [PV1 [PV2]]] { [ORC] OBR [{NTE}] [{ [OBX] [{NTE}] }] [{CTI}] } } [DSC]
 // The three places of NTE are told apart by what the note belongs to.
+use crate::rows::Rows;
+use crate::rows::rows_from;
 use crate::segments;
+ghost use Rattle.structure.specs.Structures.{oruR01};
+ghost use Rattle.structure.specs.Engine.{RowsAre};
 
 const PID: u64 = 1 << 1;
 
@@ -30,7 +34,7 @@ const CTI: u64 = 1 << 12;
 const DSC: u64 = 1 << 13;
 
 // The names, by place.
-pub const NAMES: [u32; 14] = [
+const NAMES: [u32; 14] = [
     segments::MSH,
     segments::PID,
     segments::PD1,
@@ -48,7 +52,7 @@ pub const NAMES: [u32; 14] = [
 ];
 
 // What can come next behind each place.
-pub const FOLLOW: [u64; 14] = [
+const FOLLOW: [u64; 14] = [
     PID | ORC | OBR, // MSH
     PD1 | NK1 | PATIENT_NTE | PV1 | ORC | OBR, // PID
     NK1 | PATIENT_NTE | PV1 | ORC | OBR, // PD1
@@ -66,4 +70,11 @@ pub const FOLLOW: [u64; 14] = [
 ];
 
 // The places behind which a message can end.
-pub const LAST: u64 = OBR | ORDER_NTE | OBX | RESULT_NTE | CTI | DSC;
+const LAST: u64 = OBR | ORDER_NTE | OBX | RESULT_NTE | CTI | DSC;
+
+// The tables.
+pub fn tables() -> Rows
+    ensures { λ r. ⌜ RowsAre oruR01 r ⌝ }
+{
+    rows_from(&NAMES, &FOLLOW, LAST)
+}

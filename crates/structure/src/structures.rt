@@ -70,12 +70,12 @@ fn rows_of(structure: Structure) -> Rows
     ensures { λ r. ⌜ RowsOf (choiceOf structure) r ⌝ }
 {
     match structure {
-        Structure::ObservationReport => rows_from(&oru_r01::NAMES, &oru_r01::FOLLOW, oru_r01::LAST),
-        Structure::Acknowledgement => rows_from(&ack::NAMES, &ack::FOLLOW, ack::LAST),
-        Structure::Merge => rows_from(&adt_a40::NAMES, &adt_a40::FOLLOW, adt_a40::LAST),
-        Structure::Admission => rows_from(&adt_a01::NAMES, &adt_a01::FOLLOW, adt_a01::LAST),
-        Structure::Transfer => rows_from(&adt_a02::NAMES, &adt_a02::FOLLOW, adt_a02::LAST),
-        Structure::Cancel => rows_from(&adt_a02::NAMES, &adt_a02::FOLLOW, adt_a02::LAST),
+        Structure::ObservationReport => oru_r01::tables(),
+        Structure::Acknowledgement => ack::tables(),
+        Structure::Merge => adt_a40::tables(),
+        Structure::Admission => adt_a01::tables(),
+        Structure::Transfer => adt_a02::tables(),
+        Structure::Cancel => adt_a02::tables(),
         Structure::Unlisted => rows_from(&[], &[], 0),
     }
 }
