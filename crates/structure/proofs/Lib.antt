@@ -5,6 +5,7 @@ pub mod RunLaws
 pub mod GatherLaws
 pub mod Going
 pub mod ListingLaws
+pub mod RowLaws
 pub mod WalkLaws
 pub mod Telling
 pub mod OnlyOne

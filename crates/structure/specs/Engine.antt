@@ -3,14 +3,15 @@
 use mathlib.Core.Path.{_≡_}
 use mathlib.Core.Bool.{Bool, true, false, cond, not, _&&_, _||_}
 use mathlib.Core.List.{List, [], _∷_, _++_}
-use Prim.Native.Nat.{ℕ, zero, suc, _+_, _/_, _%_, _^_}
+use Prim.Native.Nat.{ℕ, zero, suc, _+_, _-_, _/_, _%_, _^_, _≤_}
 use lib.Bits.{bitOr}
 use lib.Dec.{eqb}
-use lib.ListN.{length, getD}
+use lib.ListN.{length, getD, take, replicate}
 use Rattle.structure.specs.Shapes.{Shape, names, numbered}
 use Rattle.structure.specs.Shapes.Shape.{end, seg, opt, rep}
 use Rattle.structure.specs.SegmentNames.{among, passedOver}
 use Rattle.structure.specs.Structures.{Choice, chosen, unlisted, observationReport, acknowledgement, merge, admission, transfer, cancel}
+use Rattle.structure.specs.declared.rows.Rows.{Rows}
 use Rattle.structure.specs.declared.structures.Structure.{Structure}
 use Rattle.structure.specs.declared.structures.Structure.the-variants.{ObservationReport, Acknowledgement, Merge, Admission, Transfer, Cancel, Unlisted}
 use Rattle.structure.specs.declared.walking.Walked.{Walked}
@@ -144,3 +145,17 @@ choiceOf Admission = chosen admission
 choiceOf Transfer = chosen transfer
 choiceOf Cancel = chosen cancel
 choiceOf Unlisted = unlisted
+
+-- the tables as one value: zeros stand behind the names and the sets
+unfoldable pub rowsWith : List ℕ → List ℕ → ℕ → Rows
+rowsWith ns follow last =
+    record { names = ns ++ replicate (64 - length ns) 0; follow = follow ++ replicate (64 - length follow) 0; count = length ns; last = last }
+
+-- the rows are the tables of a structure, at whose place 0 a message begins
+abbrev pub RowsAre : Shape → Rows → Type 0
+RowsAre s r = (1 ≤ r .count) × (r .count ≤ 64) × Tables s (take (r .count) (r .names)) (take (r .count) (r .follow)) (r .last) (into 1)
+
+-- the rows of the structure that is chosen; there are none where none is
+abbrev pub RowsOf : Choice → Rows → Type 0
+RowsOf (chosen x) r = RowsAre (x .shape) r
+RowsOf unlisted r = r .count ≡ 0

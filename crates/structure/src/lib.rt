@@ -1,8 +1,15 @@
 // Which segments stand in a message, and whether its structure yields them. A refusal says at which segment, what could
 // have stood there, and whether the message could have ended there. Every function takes any bytes.
+mod ack;
+mod adt_a01;
+mod adt_a02;
+mod adt_a40;
 mod judging;
 mod listing;
 mod names;
+mod oru_r01;
+mod rows;
+mod segments;
 mod structures;
 mod walking;
 

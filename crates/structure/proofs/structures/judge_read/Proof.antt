@@ -1,110 +1,66 @@
--- Rests on a test that is computed: the rows of each structure are that structure's tables.
-use mathlib.Core.Path.{_≡_, refl, sym, ap, _∙_, subst}
-use mathlib.Core.Bool.{false}
-use lib.ListN.{length}
+-- Rests on the laws of the rows: they are the tables of the structure that the message's type chooses, or there are none.
+use Prim.Native.Nat.{_≤_}
+use mathlib.Core.Path.{_≡_, sym, _∙_, subst}
+use lib.Seq.{length-take-le}
+use lib.ListN.{length, take}
 use native.Mathlib.Omega.{arith}
 use borrow.Author.Needs.{needs}
 use denote.Ref.{now}
-use Rattle.structure.specs.Structures.{oruR01, ack, adtA40, adtA01, adtA02, observationReport, acknowledgement, merge, admission, transfer, cancel}
+use Rattle.structure.specs.Structures.{builtIn}
+use Rattle.structure.specs.Judged.{Structured}
 use Rattle.structure.specs.Engine.{choiceOf}
-use Rattle.structure.specs.Judged.{Structured, no-structure, by}
-use Rattle.structure.proofs.TableTest.{tables-of}
+use Rattle.structure.proofs.RowLaws.{rows-few, by-no-rows, by-rows}
 use Rattle.structure.proofs.structures.judge_read.Statement.{statement}
 use Rattle.structure.proofs.structures.judge_read.Tie as tie
+
+-- a structure has at most 64 rows, and so many fit the lists
+few : (c : tie.After-rows-of) → c .rows-of .result .count ≤ 64
+few c = rows-few (choiceOf (c .before .structure-of .result)) (c .rows-of .result) (c .rows-of .ensures)
+
+fit-names : (c : tie.After-rows-of) → c .rows-of .result .count ≤ length (c .rows-of .result .names)
+fit-names c = let n : length (c .rows-of .result .names) ≡ 64 = search needs in let h = few c in omega arith
+
+fit-follow : (c : tie.After-rows-of) → c .rows-of .result .count ≤ length (c .rows-of .result .follow)
+fit-follow c = let n : length (c .rows-of .result .follow) ≡ 64 = search needs in let h = few c in omega arith
+
+count-names : (c : tie.After-rows-of) → length (take (c .rows-of .result .count) (c .rows-of .result .names)) ≡ c .rows-of .result .count
+count-names c = length-take-le _ _ (fit-names c)
+
+count-follow : (c : tie.After-rows-of) → length (take (c .rows-of .result .count) (c .rows-of .result .follow)) ≡ c .rows-of .result .count
+count-follow c = length-take-le _ _ (fit-follow c)
+
+judge-by-requires : tie.Need-judge-by-requires
+judge-by-requires c κs =
+    let k = c .before .before .before .before .before .before in
+    let n = count-names k in
+    let h = few k in
+    (omega arith, count-follow k ∙ sym n)
 
 returns : tie.Need-returns
 returns c =
     let k = c .before .before .before in
-    by observationReport (sym (k .before .before .structure-of .ensures) ∙ ap choiceOf (k .enum-told .given .1)) (c .judge-by .ensures oruR01 (tables-of oruR01 _ _ _ _ refl tt tt))
+    let m = now (k .before .before .before .args .message) in
+    subst (Structured m) (sym (c .plain .ensures))
+    (by-no-rows builtIn m (choiceOf (k .before .structure-of .result)) (k .rows-of .result) (k .before .structure-of .ensures) (k .rows-of .ensures) (c .before .if1 .taken))
 
 returns-2 : tie.Need-returns-2
 returns-2 c =
-    let k = c .before .before .before .before .before in
-    by acknowledgement (sym (k .before .before .structure-of .ensures) ∙ ap choiceOf (k .enum-told2 .given .1)) (c .judge-by2 .ensures ack (tables-of ack _ _ _ _ refl tt tt))
-
-returns-3 : tie.Need-returns-3
-returns-3 c =
-    let k = c .before .before .before .before .before in
-    by merge (sym (k .before .before .structure-of .ensures) ∙ ap choiceOf (k .enum-told3 .given .1)) (c .judge-by3 .ensures adtA40 (tables-of adtA40 _ _ _ _ refl tt tt))
-
-returns-4 : tie.Need-returns-4
-returns-4 c =
-    let k = c .before .before .before .before .before in
-    by admission (sym (k .before .before .structure-of .ensures) ∙ ap choiceOf (k .enum-told4 .given .1)) (c .judge-by4 .ensures adtA01 (tables-of adtA01 _ _ _ _ refl tt tt))
-
-returns-5 : tie.Need-returns-5
-returns-5 c =
-    let k = c .before .before .before .before .before in
-    by transfer (sym (k .before .before .structure-of .ensures) ∙ ap choiceOf (k .enum-told5 .given .1)) (c .judge-by5 .ensures adtA02 (tables-of adtA02 _ _ _ _ refl tt tt))
-
-returns-6 : tie.Need-returns-6
-returns-6 c =
-    let k = c .before .before .before .before .before in
-    by cancel (sym (k .before .before .structure-of .ensures) ∙ ap choiceOf (k .enum-told6 .given .1)) (c .judge-by6 .ensures adtA02 (tables-of adtA02 _ _ _ _ refl tt tt))
-
-returns-7 : tie.Need-returns-7
-returns-7 c =
-    let k = c .before in
-    let a = k .before .before .before .before .args in
-    subst (Structured (now (a .message))) (sym (c .plain .ensures)) (no-structure (sym (k .before .before .structure-of .ensures) ∙ ap choiceOf (k .enum-told7 .given .1)))
+    let k = c .before .before .before .before .before .before .before in
+    let m = now (k .before .before .before .args .message) in
+    by-rows builtIn m (choiceOf (k .before .structure-of .result)) (k .rows-of .result) (k .before .structure-of .ensures) (k .rows-of .ensures)
+    (c .before .before .before .before .before .if1 .left) (c .judge-by .ensures)
 
 pub judge-read-spec : {M : Type 1} → statement M
 judge-read-spec =
     tie.close
     (tie.spec
     (λ c κs. search needs)
-    (λ c. search needs)
-    (λ c. search needs)
-    (λ c. search needs)
-    (λ c. search needs)
-    (λ c. search needs)
-    (λ c κs. (omega arith, refl))
-    (λ c. search needs)
-    (λ c. search needs)
-    (λ c. search needs)
-    (λ c. search needs)
-    (λ c. search needs)
-    (λ c. search needs)
-    (λ c. search needs)
-    (λ c κs. (omega arith, refl))
-    (λ c. search needs)
-    (λ c. search needs)
-    (λ c. search needs)
-    (λ c. search needs)
-    (λ c. search needs)
-    (λ c. search needs)
-    (λ c. search needs)
-    (λ c κs. (omega arith, refl))
-    (λ c. search needs)
-    (λ c. search needs)
-    (λ c. search needs)
-    (λ c. search needs)
-    (λ c. search needs)
-    (λ c. search needs)
-    (λ c. search needs)
-    (λ c κs. (omega arith, refl))
-    (λ c. search needs)
-    (λ c. search needs)
-    (λ c. search needs)
-    (λ c. search needs)
-    (λ c. search needs)
-    (λ c. search needs)
-    (λ c. search needs)
-    (λ c κs. (omega arith, refl))
-    (λ c. search needs)
-    (λ c. search needs)
-    (λ c. search needs)
-    (λ c. search needs)
-    (λ c. search needs)
-    (λ c. search needs)
-    (λ c. search needs)
-    (λ c κs. (omega arith, refl))
-    (λ c. search needs)
+    (λ c κs. search needs)
     (λ c κs. search needs)
     returns
-    returns-2
-    returns-3
-    returns-4
-    returns-5
-    returns-6
-    returns-7)
+    (λ c. fit-names (c .before .before .before .before))
+    (λ c. sym (count-names (c .before .before .before .before .before)))
+    (λ c. fit-follow (c .before .before .before .before .before))
+    (λ c. sym (count-follow (c .before .before .before .before .before .before)))
+    judge-by-requires
+    returns-2)

@@ -1,0 +1,50 @@
+// ADT^A02 and A12 as tables: MSH EVN PID PV1 [PV2] [ZVI] [ZPD]
+use crate::rows::Rows;
+use crate::rows::rows_from;
+use crate::segments;
+ghost use Rattle.structure.specs.Structures.{adtA02};
+ghost use Rattle.structure.specs.Engine.{RowsAre};
+
+const EVN: u64 = 1 << 1;
+
+const PID: u64 = 1 << 2;
+
+const PV1: u64 = 1 << 3;
+
+const PV2: u64 = 1 << 4;
+
+const ZVI: u64 = 1 << 5;
+
+const ZPD: u64 = 1 << 6;
+
+// The names, by place.
+const NAMES: [u32; 7] = [
+    segments::MSH,
+    segments::EVN,
+    segments::PID,
+    segments::PV1,
+    segments::PV2,
+    segments::ZVI,
+    segments::ZPD,
+];
+
+// What can come next behind each place.
+const FOLLOW: [u64; 7] = [
+    EVN, // MSH
+    PID, // EVN
+    PV1, // PID
+    PV2 | ZVI | ZPD, // PV1
+    ZVI | ZPD, // PV2
+    ZPD, // ZVI
+    0, // ZPD
+];
+
+// The places behind which a message can end.
+const LAST: u64 = PV1 | PV2 | ZVI | ZPD;
+
+// The tables.
+pub fn tables() -> Rows
+    ensures { λ r. ⌜ RowsAre adtA02 r ⌝ }
+{
+    rows_from(&NAMES, &FOLLOW, LAST)
+}
