@@ -6,26 +6,29 @@ use Prim.Native.Nat.{ℕ, _+_, _≤_, _<_}
 use native.Mathlib.Numerals.{add-one}
 use native.Mathlib.Omega.{arith}
 use lib.ListN.{length, getD, take, drop, length-append, drop-of-length-le}
-use lib.Dec.{leb, ltb}
+use lib.Dec.{leb, ltb, eqb}
 use lib.Seq.{drop-cons}
-use borrow.Author.Tests.{ltb-true, ltb-false, le-leb, lt-leb}
+use borrow.Author.Tests.{eqb-true, ne-eqb, ltb-true, ltb-false, le-leb, lt-leb}
 use denote.Ref.{RefT, now}
+use Rattle.alphabet.proofs.BoolLaws.{false-true, and-both}
 use Rattle.alphabet.proofs.LimitLaws.{id-limit-small}
 use Rattle.alphabet.proofs.ListLaws.{drop-next}
 use Rattle.alphabet.proofs.HexLaws.{drop-two}
 use Rattle.alphabet.specs.Bytes.{carriageReturn, ascii}
 use Rattle.alphabet.specs.Delimiters.{firstWrongDelimiter}
 use Rattle.alphabet.specs.Limits.{messageLimit, idLimit}
+use Rattle.alphabet.specs.Lists.{first}
 use Rattle.alphabet.specs.Parts.{join}
 use Rattle.alphabet.specs.declared.answers.Refusal.the-variants.{AcknowledgementTooLong}
-use Rattle.reading.specs.Segments.{delimitersOf, fieldSeparator}
+use Rattle.reading.specs.Segments.{isHeader, delimitersOf, fieldSeparator}
 use Rattle.reading.specs.Message.{ended}
+use Rattle.element.specs.States.{stateOf}
 use Rattle.text.specs.Escape.{escape}
 use Rattle.text.specs.Unescape.{text, fault}
 use Rattle.text.specs.Answers.{escaping}
 use Rattle.text.proofs.OutcomeLaws.{escape-most, escaping-fits}
 use Rattle.acknowledgement.specs.Acknowledgement.{sent, typePart, present, encoding, typeSent, version, headerParts, lettersOf, answerParts, acknowledgement, roomy}
-use Rattle.acknowledgement.specs.Pieces.{together, least, pieces, chosen, texts}
+use Rattle.acknowledgement.specs.Pieces.{together, least, eventMark, event, fixedText, pieces}
 use Rattle.acknowledgement.specs.declared.letters.Code.{Code}
 use Rattle.acknowledgement.specs.declared.letters.Code.the-variants.{Accept, Error}
 
@@ -58,8 +61,16 @@ count-next l i h = ap length (pieces-next l i h) ∙ length-append (now (getD l 
 pub one-byte : (l : List ℕ) (i : ℕ) → i < length l → take 1 (drop i l) ≡ getD l i 0 ∷ []
 one-byte l i h = ap (take 1) (drop-next l i h)
 
-pub encoding-bytes : (h : List ℕ) → 8 ≤ length h → take 4 (drop 4 h) ≡ encoding h
-encoding-bytes h l = ap (take 4) (drop-two h 4 (omega arith)) ∙ ap (λ (r : List ℕ). getD h 4 0 ∷ getD h 5 0 ∷ take 2 r) (drop-two h 6 (omega arith))
+-- the front of a header is MSH and its delimiters
+pub front-bytes : (h : List ℕ) → 8 ≤ length h → isHeader h ≡ true → take 8 h ≡ ascii "MSH" ++ fieldSeparator h ∷ encoding h
+front-bytes h l is =
+    let a = and-both (eqb (getD h 0 0) 77) _ is in
+    let b = and-both (eqb (getD h 1 0) 83) _ (a .1) in
+    ap (take 8) (drop-two h 0 (omega arith))
+    ∙ ap (λ (r : List ℕ). getD h 0 0 ∷ getD h 1 0 ∷ take 6 r) (drop-two h 2 (omega arith))
+    ∙ ap (λ (r : List ℕ). getD h 0 0 ∷ getD h 1 0 ∷ getD h 2 0 ∷ getD h 3 0 ∷ take 4 r) (drop-two h 4 (omega arith))
+    ∙ ap (λ (r : List ℕ). getD h 0 0 ∷ getD h 1 0 ∷ getD h 2 0 ∷ getD h 3 0 ∷ getD h 4 0 ∷ getD h 5 0 ∷ take 2 r) (drop-two h 6 (omega arith))
+    ∙ (λ i. eqb-true (getD h 0 0) 77 (a .0) i ∷ eqb-true (getD h 1 0) 83 (b .0) i ∷ eqb-true (getD h 2 0) 72 (b .1) i ∷ fieldSeparator h ∷ encoding h)
 
 -- ---- room
 
@@ -114,43 +125,48 @@ join-spread sep [] w = refl
 join-spread sep (p ∷ []) w = refl
 join-spread sep (p ∷ q ∷ ps) w = append-assoc p (sep ∷ join sep (q ∷ ps)) w ∙ ap (λ (z : List ℕ). p ++ sep ∷ z) (join-spread sep (q ∷ ps) w)
 
--- a byte and what follows it are there or not together
-both-or-none : (t : Bool) (b : ℕ) (e z : List ℕ) → cond t (b ∷ []) [] ++ (cond t e [] ++ z) ≡ cond t (b ∷ e) [] ++ z
-both-or-none true b e z = refl
-both-or-none false b e z = refl
+-- the event and the separator before it are there or not together: what is present has a byte
+event-whole : (h z : List ℕ) → eventMark h (event h) ++ (event h ++ z) ≡ cond (present h (typePart h 2)) (getD h 4 0 ∷ typePart h 2) [] ++ z
+unfolding stateOf first
+event-whole h z = at (typePart h 2) (present h (typePart h 2)) refl
+  where
+    at : (e : List ℕ) (t : Bool) → present h e ≡ t → eventMark h (cond t e []) ++ (cond t e [] ++ z) ≡ cond t (getD h 4 0 ∷ e) [] ++ z
+    at e false p = refl
+    at [] true p = absurd (false-true p)
+    at (b ∷ r) true p = rw (ne-eqb (length (b ∷ r)) 0 (λ e. omega arith))
 
-module _ (h time id : List ℕ) (letters : Code) where
+module _ (h time id : List ℕ) where
   abbrev sep : ℕ
   sep = fieldSeparator h
 
-  abbrev second : List ℕ
-  second = spread sep (answerParts h letters) (carriageReturn ∷ [])
-
-  spread-is : spread sep (headerParts h time id) (carriageReturn ∷ second) ≡ acknowledgement h time id letters
-  unfolding acknowledgement ended
-  spread-is =
-      sym
-      (join-spread sep (headerParts h time id) _
-      ∙ ap (λ (z : List ℕ). spread sep (headerParts h time id) (carriageReturn ∷ z)) (join-spread sep (answerParts h letters) (carriageReturn ∷ [])))
+  -- what stands between the delimiters and the type, and more behind it
+  abbrev names : List ℕ → List ℕ
+  names z = sep ∷ (sent h 5 ++ sep ∷ (sent h 6 ++ sep ∷ (sent h 3 ++ sep ∷ (sent h 4 ++ sep ∷ (time ++ sep ∷ sep ∷ z)))))
 
   -- what stands behind the type
-  abbrev rest : List ℕ
-  rest = sep ∷ (escape (delimitersOf h) id ++ sep ∷ (sent h 11 ++ sep ∷ (version ++ carriageReturn ∷ second)))
+  abbrev second : Code → List ℕ
+  second code = spread sep (answerParts h code) (carriageReturn ∷ [])
 
-  same-letters : (c : Code) → chosen c (ascii "AA") (ascii "AE") ≡ lettersOf c
-  same-letters Accept = refl
-  same-letters Error = refl
+  abbrev rest : Code → List ℕ
+  rest code = sep ∷ (escape (delimitersOf h) id ++ sep ∷ (sent h 11 ++ sep ∷ (version ++ carriageReturn ∷ second code)))
 
-  together-is : together (pieces h time (escape (delimitersOf h) id) (lettersOf letters) (ascii "MSH") (ascii "ACK") version (ascii "MSA") (carriageReturn ∷ [])) ≡ acknowledgement h time id letters
-  unfolding together pieces headerParts answerParts typeSent spread
-  together-is =
-      ap
-      (λ (z : List ℕ). ascii "MSH" ++ sep ∷ (encoding h ++ sep ∷ (sent h 5 ++ sep ∷ (sent h 6 ++ sep ∷ (sent h 3 ++ sep ∷ (sent h 4 ++ sep ∷ (time ++ sep ∷ sep ∷ (ascii "ACK" ++ z))))))))
-      (both-or-none (present h (typePart h 2)) (getD h 4 0) (typePart h 2) rest)
-      ∙ spread-is
+  spread-is : (code : Code) → spread sep (headerParts h time id) (carriageReturn ∷ second code) ≡ acknowledgement h time id code
+  unfolding acknowledgement ended
+  spread-is code =
+      sym
+      (join-spread sep (headerParts h time id) _
+      ∙ ap (λ (z : List ℕ). spread sep (headerParts h time id) (carriageReturn ∷ z)) (join-spread sep (answerParts h code) (carriageReturn ∷ [])))
 
-  pub texts-together : together (texts h time (escape (delimitersOf h) id) letters) ≡ acknowledgement h time id letters
-  unfolding texts
-  texts-together =
-      ap (λ (l : List ℕ). together (pieces h time (escape (delimitersOf h) id) l (ascii "MSH") (ascii "ACK") version (ascii "MSA") (carriageReturn ∷ []))) (same-letters letters)
-      ∙ together-is
+  -- the pieces one behind another, with the fixed texts where they stand
+  cut : (code : Code) → together (pieces h time (escape (delimitersOf h) id) (fixedText code)) ≡ take 8 h ++ names (ascii "ACK" ++ (eventMark h (event h) ++ (event h ++ rest code)))
+  unfolding together pieces answerParts spread
+  cut Accept = refl
+  cut Error = refl
+
+  pub pieces-together : (code : Code) → 8 ≤ length h → isHeader h ≡ true → together (pieces h time (escape (delimitersOf h) id) (fixedText code)) ≡ acknowledgement h time id code
+  unfolding headerParts typeSent spread
+  pieces-together code l is =
+      cut code
+      ∙ ap (λ (z : List ℕ). z ++ names (ascii "ACK" ++ (eventMark h (event h) ++ (event h ++ rest code)))) (front-bytes h l is)
+      ∙ ap (λ (z : List ℕ). (ascii "MSH" ++ sep ∷ encoding h) ++ names (ascii "ACK" ++ z)) (event-whole h (rest code))
+      ∙ spread-is code

@@ -1,6 +1,6 @@
 // An acknowledgement as pieces that stand one behind another: bytes of the sender's header, bytes of the caller's, and fixed texts. All are
 // measured before the first is written, so that one that does not fit writes nothing. The pieces share a lifetime, so that one array can
-// hold them; the fixed texts are handed in, since a text of a function's own ends with the function.
+// hold them; the fixed texts are handed down as one, since a text of a function's own ends with the function.
 use crate::letters::Code;
 use crate::sender::field_of;
 use crate::sender::is_present;
@@ -11,14 +11,15 @@ use text::Room;
 ghost use mathlib.Core.Path.{_≡_};
 ghost use Rattle.alphabet.specs.Delimiters.{firstWrongDelimiter};
 ghost use Rattle.alphabet.specs.Limits.{idLimit};
+ghost use mathlib.Core.Bool.{true};
 ghost use mathlib.Core.List.{map};
 ghost use Prim.Native.Nat.{_≤_};
 ghost use lib.ListN.{length};
 ghost use Rattle.alphabet.specs.Filling.{over};
-ghost use Rattle.reading.specs.Segments.{delimitersOf};
+ghost use Rattle.reading.specs.Segments.{isHeader, delimitersOf};
 ghost use Rattle.text.specs.Answers.{roomFor, answer, filled};
 ghost use Rattle.acknowledgement.specs.Acknowledgement.{roomy, acknowledgement};
-ghost use Rattle.acknowledgement.specs.Pieces.{together, eventMark, event, pieces, chosen, texts, least};
+ghost use Rattle.acknowledgement.specs.Pieces.{together, least, eventMark, event, fixedText, pieces};
 
 // The length of all pieces, where that is at most `room`. It is counted against the room, since a sum of lengths need not be a usize.
 fn measure(pieces: &[&[u8]], room: usize) -> Room
@@ -51,17 +52,6 @@ fn put_pieces(pieces: &[&[u8]], buffer: &mut [u8])
     }
 }
 
-// The separator before the event of the sender's type; none where the event is not present.
-fn event_mark<'a>(header: &'a [u8]) -> &'a [u8]
-    requires { ⌜ 8 ≤ length (now header) ⌝ }
-    ensures { λ r. ⌜ now r ≡ eventMark (now (header .entry)) ⌝ }
-{
-    if is_present(header, type_part(header, 2)) {
-        return &header[4..5];
-    }
-    &header[..0]
-}
-
 // The event of the sender's type; none where it is not present.
 fn event_of<'a>(header: &'a [u8]) -> &'a [u8]
     ensures { λ r. ⌜ now r ≡ event (now (header .entry)) ⌝ }
@@ -73,35 +63,40 @@ fn event_of<'a>(header: &'a [u8]) -> &'a [u8]
     &header[..0]
 }
 
-// All pieces, in order: MSH with its twelve fields, then MSA.
-fn pieces_of<'a>(
-    header: &'a [u8],
-    time: &'a [u8],
-    id: &'a [u8],
-    letters: &'a [u8],
-    msh: &'a [u8],
-    ack: &'a [u8],
-    version: &'a [u8],
-    msa: &'a [u8],
-    end: &'a [u8],
-) -> [&'a [u8]; 31]
+// The separator before an event; none where there is no event.
+fn event_mark<'a>(header: &'a [u8], event: &[u8]) -> &'a [u8]
     requires { ⌜ 8 ≤ length (now header) ⌝ }
-    ensures { λ r. ⌜ map now r ≡ pieces (now (header .entry)) (now (time .entry)) (now (id .entry)) (now (letters .entry)) (now (msh .entry)) (now (ack .entry)) (now (version .entry)) (now (msa .entry)) (now (end .entry)) ⌝ }
+    ensures { λ r. ⌜ now r ≡ eventMark (now (header .entry)) (now (event .entry)) ⌝ }
 {
+    if event.len() == 0 {
+        return &header[..0];
+    }
+    &header[4..5]
+}
+
+// All pieces, in order: MSH with its twelve fields, then MSA. MSH and the delimiters are the front of the sender's header.
+fn pieces_of<'a>(header: &'a [u8], time: &'a [u8], id: &'a [u8], fixed: &'a [u8]) -> [&'a [u8]; 29]
+    requires { ⌜ 8 ≤ length (now header) ⌝ }
+    requires { ⌜ 12 ≤ length (now fixed) ⌝ }
+    ensures { λ r. ⌜ map now r ≡ pieces (now (header .entry)) (now (time .entry)) (now (id .entry)) (now (fixed .entry)) ⌝ }
+{
+    let front = &header[..8];
     let mark = &header[3..4];
-    let encoding = &header[4..8];
     let three = field_of(header, 3);
     let four = field_of(header, 4);
     let five = field_of(header, 5);
     let six = field_of(header, 6);
     let ten = field_of(header, 10);
     let eleven = field_of(header, 11);
-    let before_event = event_mark(header);
     let event = event_of(header);
+    let before_event = event_mark(header, event);
+    let ack = &fixed[..3];
+    let version = &fixed[3..6];
+    let msa = &fixed[6..9];
+    let letters = &fixed[9..11];
+    let end = &fixed[11..12];
     [
-        msh,
-        mark,
-        encoding,
+        front,
         mark,
         five,
         mark,
@@ -148,19 +143,15 @@ fn write_pieces<'a>(
     header: &'a [u8],
     time: &'a [u8],
     id: &'a [u8],
-    letters: &'a [u8],
-    msh: &'a [u8],
-    ack: &'a [u8],
-    version: &'a [u8],
-    msa: &'a [u8],
-    end: &'a [u8],
+    fixed: &'a [u8],
     buffer: &mut [u8],
 ) -> Answer
     requires { ⌜ 8 ≤ length (now header) ⌝ }
-    ensures { λ r. ⌜ r ≡ answer (roomy (length (now (buffer .entry))) (together (pieces (now (header .entry)) (now (time .entry)) (now (id .entry)) (now (letters .entry)) (now (msh .entry)) (now (ack .entry)) (now (version .entry)) (now (msa .entry)) (now (end .entry))))) ⌝ }
-    ensures { λ _. ⌜ now (buffer .exit) ≡ filled (roomy (length (now (buffer .entry))) (together (pieces (now (header .entry)) (now (time .entry)) (now (id .entry)) (now (letters .entry)) (now (msh .entry)) (now (ack .entry)) (now (version .entry)) (now (msa .entry)) (now (end .entry))))) (now (buffer .entry)) ⌝ }
+    requires { ⌜ 12 ≤ length (now fixed) ⌝ }
+    ensures { λ r. ⌜ r ≡ answer (roomy (length (now (buffer .entry))) (together (pieces (now (header .entry)) (now (time .entry)) (now (id .entry)) (now (fixed .entry))))) ⌝ }
+    ensures { λ _. ⌜ now (buffer .exit) ≡ filled (roomy (length (now (buffer .entry))) (together (pieces (now (header .entry)) (now (time .entry)) (now (id .entry)) (now (fixed .entry))))) (now (buffer .entry)) ⌝ }
 {
-    let pieces = pieces_of(header, time, id, letters, msh, ack, version, msa, end);
+    let pieces = pieces_of(header, time, id, fixed);
     let room = smaller(buffer.len(), alphabet::message_limit());
     let size = measure(&pieces, room);
     match size {
@@ -180,41 +171,14 @@ fn write_pieces<'a>(
     }
 }
 
-// The letters of a code, which are handed in.
-fn letters_of<'a>(code: Code, accept: &'a [u8], error: &'a [u8]) -> &'a [u8]
-    ensures { λ r. ⌜ now r ≡ chosen code (now (accept .entry)) (now (error .entry)) ⌝ }
+// The texts that no message changes, one behind another: `ACK`, `2.4`, `MSA`, the letters of the code, and CR.
+fn fixed_text(code: Code) -> [u8; 12]
+    ensures { λ r. ⌜ r ≡ fixedText code ⌝ }
 {
     match code {
-        Code::Accept => accept,
-        Code::Error => error,
+        Code::Accept => *b"ACK2.4MSAAA\r",
+        Code::Error => *b"ACK2.4MSAAE\r",
     }
-}
-
-// Writes an acknowledgement, the caller's ID being escaped already.
-fn write_texts<'a>(
-    header: &'a [u8],
-    time: &'a [u8],
-    id: &'a [u8],
-    code: Code,
-    buffer: &mut [u8],
-) -> Answer
-    requires { ⌜ 8 ≤ length (now header) ⌝ }
-    ensures { λ r. ⌜ r ≡ answer (roomy (length (now (buffer .entry))) (together (texts (now (header .entry)) (now (time .entry)) (now (id .entry)) code))) ⌝ }
-    ensures { λ _. ⌜ now (buffer .exit) ≡ filled (roomy (length (now (buffer .entry))) (together (texts (now (header .entry)) (now (time .entry)) (now (id .entry)) code))) (now (buffer .entry)) ⌝ }
-{
-    let letters = letters_of(code, b"AA", b"AE");
-    write_pieces(
-        header,
-        time,
-        id,
-        letters,
-        b"MSH",
-        b"ACK",
-        b"2.4",
-        b"MSA",
-        b"\r",
-        buffer,
-    )
 }
 
 // A buffer for the ID, of which each byte may be written as five. By a call of its own it is no list of so many bytes in the
@@ -234,6 +198,7 @@ pub fn write<'a>(
     buffer: &mut [u8],
 ) -> Answer
     requires { ⌜ 8 ≤ length (now header) ⌝ }
+    requires { ⌜ isHeader (now header) ≡ true ⌝ }
     requires { ⌜ firstWrongDelimiter (delimitersOf (now header)) ≡ 5 ⌝ }
     requires { ⌜ length (now id) ≤ idLimit ⌝ }
     ensures { λ r. ⌜ r ≡ answer (roomy (length (now (buffer .entry))) (acknowledgement (now (header .entry)) (now (time .entry)) (now (id .entry)) code)) ⌝ }
@@ -243,5 +208,6 @@ pub fn write<'a>(
     let mut escaped = id_buffer();
     let written = text::escape(delimiters, id, &mut escaped);
     let n = written.length;
-    write_texts(header, time, &escaped[..n], code, buffer)
+    let fixed = fixed_text(code);
+    write_pieces(header, time, &escaped[..n], &fixed, buffer)
 }

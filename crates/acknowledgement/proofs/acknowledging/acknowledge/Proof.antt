@@ -10,7 +10,7 @@ use Rattle.alphabet.specs.Answers.{numberOf}
 use Rattle.alphabet.specs.declared.answers.Refusal.{Refusal}
 use Rattle.alphabet.specs.declared.answers.Refusal.the-variants.{None}
 use Rattle.alphabet.specs.Delimiters.{firstWrongDelimiter}
-use Rattle.reading.specs.Segments.{delimitersOf}
+use Rattle.reading.specs.Segments.{isHeader, delimitersOf}
 use Rattle.text.specs.Unescape.{fault}
 use Rattle.text.specs.Answers.{answer}
 use Rattle.alphabet.proofs.CheckLaws.{number-none}
@@ -46,7 +46,10 @@ write-requires c κs =
     let n = nothing-against m (now (a .time)) (now (a .id)) (nothing e) in
     let o = sound-header m (n .2) in (
       omega (arith, ap length (h .header-of .ensures), o .nine-bytes),
-      (ap (λ (x : List ℕ). firstWrongDelimiter (delimitersOf x)) (h .header-of .ensures) ∙ o .delimiters-right, id-short m (now (a .time)) (now (a .id)) (n .1)),
+      (
+        ap isHeader (h .header-of .ensures) ∙ o .header,
+        (ap (λ (x : List ℕ). firstWrongDelimiter (delimitersOf x)) (h .header-of .ensures) ∙ o .delimiters-right, id-short m (now (a .time)) (now (a .id)) (n .1)),
+      ),
     )
 
 returns-2 : tie.Need-returns-2

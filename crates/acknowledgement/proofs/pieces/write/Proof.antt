@@ -14,8 +14,8 @@ use Rattle.text.specs.Escape.{escape}
 use Rattle.text.specs.Unescape.{Outcome}
 use Rattle.text.specs.Answers.{escaping, answer, filled}
 use Rattle.acknowledgement.specs.Acknowledgement.{roomy}
-use Rattle.acknowledgement.specs.Pieces.{together, texts}
-use Rattle.acknowledgement.proofs.PieceLaws.{id-fits, texts-together}
+use Rattle.acknowledgement.specs.Pieces.{together, fixedText, pieces}
+use Rattle.acknowledgement.proofs.PieceLaws.{id-fits, pieces-together}
 use Rattle.acknowledgement.proofs.pieces.write.Statement.{statement}
 use Rattle.acknowledgement.proofs.pieces.write.Tie as tie
 
@@ -30,7 +30,7 @@ escaped c =
     let b = c .before .before in
     let s = b .before .before .before .before .before .before in
     let d = b .id-buffer .result in
-    let f = id-fits (delimitersOf (now (s .args .header))) (now (s .args .id)) (length d) (s .pre .1 .0) (s .pre .1 .1) (b .id-buffer .ensures) in
+    let f = id-fits (delimitersOf (now (s .args .header))) (now (s .args .id)) (length d) (s .pre .1 .1 .0) (s .pre .1 .1 .1) (b .id-buffer .ensures) in
     let o = ap (λ ds. escaping ds (now (s .args .id)) (length d)) (b .before .delimiters-of .ensures) ∙ f .0 in (
       ap (λ (r : Answer). r .length) (c .escape .ensures .0) ∙ ap (λ (x : Outcome). answer x .length) o,
       c .escape .ensures .1 ∙ ap (λ (x : Outcome). filled x d) o,
@@ -59,14 +59,16 @@ inside c =
 returns : tie.Need-returns
 returns c =
     let p = c .before .before in
-    let e = p .before .before .before .before in
-    let a = e .before .before .before .before .before .before .before .before .args in
+    let k = p .before .before .before .before in
+    let e = k .before .before in
+    let s = e .before .before .before .before .before .before .before .before in
+    let a = s .args in
     let h = now (a .header) in
     let d = now (a .buffer) in
     let o =
-    ap (λ (x : List ℕ). roomy (length d) (together (texts h (now (a .time)) x (a .code)))) (handed e)
-    ∙ ap (roomy (length d)) (texts-together h (now (a .time)) (now (a .id)) (a .code)) in
-    (p .write-texts .ensures .0 ∙ ap answer o, p .write-texts .ensures .1 ∙ ap (λ (x : Outcome). filled x d) o)
+    ap₂ (λ (x f : List ℕ). roomy (length d) (together (pieces h (now (a .time)) x f))) (handed e) (k .fixed-text .ensures)
+    ∙ ap (roomy (length d)) (pieces-together h (now (a .time)) (now (a .id)) (a .code) (s .pre .0) (s .pre .1 .0)) in
+    (p .write-pieces .ensures .0 ∙ ap answer o, p .write-pieces .ensures .1 ∙ ap (λ (x : Outcome). filled x d) o)
 
 pub write-spec : {M : Type 1} → statement M
 write-spec =
@@ -76,8 +78,10 @@ write-spec =
     (λ c κs. search needs)
     (λ c. search needs)
     (λ c κs. search needs)
-    (λ c. inside (c .before))
-    (λ c. sym (length-take-le _ _ (inside (c .before .before))))
+    (λ c κs. search needs)
+    (λ c. inside (c .before .before))
+    (λ c. sym (length-take-le _ _ (inside (c .before .before .before))))
+    (λ c. search needs)
     (λ c κs. search needs)
     (λ c. search needs)
     returns)

@@ -20,13 +20,13 @@ use Rattle.acknowledgement.proofs.pieces.write_pieces.Tie as tie
 -- what was measured: all pieces, against the smaller of the two
 measured : (c : tie.After-measure)
     → let p = c .before .before .before .before in
-    let a = p .before .before .before .before .before .before .before .before .before .before .before .args in
+    let a = p .before .before .before .before .before .before .args in
     c .measure .result
     ≡ roomFor (least (length (now (a .buffer))) messageLimit)
-    (length (together (pieces (now (a .header)) (now (a .time)) (now (a .id)) (now (a .letters)) (now (a .msh)) (now (a .ack)) (now (a .version)) (now (a .msa)) (now (a .end)))))
+    (length (together (pieces (now (a .header)) (now (a .time)) (now (a .id)) (now (a .fixed)))))
 measured c =
     let p = c .before .before .before .before in
-    let a = p .before .before .before .before .before .before .before .before .before .before .before .args in
+    let a = p .before .before .before .before .before .before .args in
     c .measure .ensures
     ∙ ap₂ (λ (n : ℕ) (l : List (List ℕ)). roomFor n (length (together l)))
     (c .before .before .smaller .ensures ∙ ap (least (length (now (a .buffer)))) (c .before .before .before .message-limit .ensures))
@@ -40,7 +40,7 @@ put-pieces-requires c κs =
     let k = c .before .before .before in
     let m = k .before .before in
     let p = m .before .before .before .before in
-    let a = p .before .before .before .before .before .before .before .before .before .before .before .args in
+    let a = p .before .before .before .before .before .before .args in
     let t = takes-is (least (length (now (a .buffer))) messageLimit) _ (k .size .given .0 .0) (sym (k .size .given .1) ∙ measured m) in
     omega (arith, t .1, least-first (length (now (a .buffer))) messageLimit, ap (λ l. length (together l)) (p .pieces-of .ensures))
 
@@ -48,7 +48,7 @@ returns : tie.Need-returns
 unfolding answer filled
 returns c =
     let m = c .before .before in
-    let a = m .before .before .before .before .before .before .before .before .before .before .before .before .before .before .before .args in
+    let a = m .before .before .before .before .before .before .before .before .before .before .args in
     let d = now (a .buffer) in
     ended _ _ d (roomy-short (length d) _ (short-is (least (length d) messageLimit) _ (sym (c .enum-told .given .1) ∙ measured m)))
 
@@ -58,7 +58,7 @@ returns-2 c =
     let k = c .before .before .before .before .before .before in
     let m = k .before .before in
     let p = m .before .before .before .before in
-    let a = p .before .before .before .before .before .before .before .before .before .before .before .args in
+    let a = p .before .before .before .before .before .before .args in
     let d = now (a .buffer) in
     let t = takes-is (least (length d) messageLimit) _ (k .size .given .0 .0) (sym (k .size .given .1) ∙ measured m) in
     let r = ended _ _ d (roomy-takes (length d) _ (t .1)) in
