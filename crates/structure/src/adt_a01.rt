@@ -5,6 +5,7 @@ use crate::segments;
 ghost use Rattle.structure.specs.Structures.{adtA01};
 ghost use Rattle.structure.specs.Engine.{RowsAre};
 
+// The places behind MSH, place 0: bit p is place p.
 const EVN: u64 = 1 << 1;
 
 const PID: u64 = 1 << 2;
@@ -37,24 +38,24 @@ const NAMES: [u32; 10] = [
     segments::ZPD,
 ];
 
-// What can come next behind each place.
+// The places that can be filled next, by place.
 const FOLLOW: [u64; 10] = [
-    EVN, // MSH
-    PID, // EVN
-    NK1 | PV1, // PID
-    NK1 | PV1, // NK1
-    PV2 | AL1 | IN1 | ZVI | ZPD, // PV1
-    AL1 | IN1 | ZVI | ZPD, // PV2
-    AL1 | IN1 | ZVI | ZPD, // AL1
-    IN1 | ZVI | ZPD, // IN1
-    ZPD, // ZVI
-    0, // ZPD
+    EVN, // behind MSH
+    PID, // behind EVN
+    NK1 | PV1, // behind PID
+    NK1 | PV1, // behind NK1
+    PV2 | AL1 | IN1 | ZVI | ZPD, // behind PV1
+    AL1 | IN1 | ZVI | ZPD, // behind PV2
+    AL1 | IN1 | ZVI | ZPD, // behind AL1
+    IN1 | ZVI | ZPD, // behind IN1
+    ZPD, // behind ZVI
+    0, // behind ZPD
 ];
 
 // The places behind which a message can end.
 const LAST: u64 = PV1 | PV2 | AL1 | IN1 | ZVI | ZPD;
 
-// The tables.
+// The tables of ADT^A01.
 pub fn tables() -> Rows
     ensures { λ r. ⌜ RowsAre adtA01 r ⌝ }
 {

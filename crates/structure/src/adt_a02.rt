@@ -5,6 +5,7 @@ use crate::segments;
 ghost use Rattle.structure.specs.Structures.{adtA02};
 ghost use Rattle.structure.specs.Engine.{RowsAre};
 
+// The places behind MSH, place 0: bit p is place p.
 const EVN: u64 = 1 << 1;
 
 const PID: u64 = 1 << 2;
@@ -28,21 +29,21 @@ const NAMES: [u32; 7] = [
     segments::ZPD,
 ];
 
-// What can come next behind each place.
+// The places that can be filled next, by place.
 const FOLLOW: [u64; 7] = [
-    EVN, // MSH
-    PID, // EVN
-    PV1, // PID
-    PV2 | ZVI | ZPD, // PV1
-    ZVI | ZPD, // PV2
-    ZPD, // ZVI
-    0, // ZPD
+    EVN, // behind MSH
+    PID, // behind EVN
+    PV1, // behind PID
+    PV2 | ZVI | ZPD, // behind PV1
+    ZVI | ZPD, // behind PV2
+    ZPD, // behind ZVI
+    0, // behind ZPD
 ];
 
 // The places behind which a message can end.
 const LAST: u64 = PV1 | PV2 | ZVI | ZPD;
 
-// The tables.
+// The tables of ADT^A02 and A12.
 pub fn tables() -> Rows
     ensures { λ r. ⌜ RowsAre adtA02 r ⌝ }
 {

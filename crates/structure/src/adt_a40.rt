@@ -5,6 +5,7 @@ use crate::segments;
 ghost use Rattle.structure.specs.Structures.{adtA40};
 ghost use Rattle.structure.specs.Engine.{RowsAre};
 
+// The places behind MSH, place 0: bit p is place p.
 const EVN: u64 = 1 << 1;
 
 const PID: u64 = 1 << 2;
@@ -25,20 +26,20 @@ const NAMES: [u32; 6] = [
     segments::PV1,
 ];
 
-// What can come next behind each place.
+// The places that can be filled next, by place.
 const FOLLOW: [u64; 6] = [
-    EVN, // MSH
-    PID, // EVN
-    PD1 | MRG, // PID
-    MRG, // PD1
-    PV1 | PID, // MRG
-    PID, // PV1
+    EVN, // behind MSH
+    PID, // behind EVN
+    PD1 | MRG, // behind PID
+    MRG, // behind PD1
+    PV1 | PID, // behind MRG
+    PID, // behind PV1
 ];
 
 // The places behind which a message can end.
 const LAST: u64 = MRG | PV1;
 
-// The tables.
+// The tables of ADT^A40.
 pub fn tables() -> Rows
     ensures { λ r. ⌜ RowsAre adtA40 r ⌝ }
 {

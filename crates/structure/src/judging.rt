@@ -1,5 +1,5 @@
-// How a walk by a structure's tables becomes a judgement: accepted, or a segment that cannot stand where it stands, or a
-// message that ended early, with the names that could have stood there.
+// How a walk by a structure's tables becomes a judgement: accepted, or a segment that cannot stand where it stands, or
+// a message that ended early, with the names that could have stood there.
 use crate::listing::names_at;
 use crate::walking::Next;
 use crate::walking::Walked;
@@ -23,7 +23,8 @@ pub fn judge_by(
     begin: Next,
 ) -> FaultRecord
     requires { ⌜ (length (now names) ≤ 64) × (length (now follow) ≡ length (now names)) ⌝ }
-    ensures { λ r. ⌜ ((s : Shape) → Tables s (now (names .entry)) (now (follow .entry)) last (entry (begin .places) (begin .ends))
+    ensures { λ r. ⌜ ((s : Shape)
+        → Tables s (now (names .entry)) (now (follow .entry)) last (entry (begin .places) (begin .ends))
         → Judged s (segmentNames (now (message .entry))) r) ⌝ }
 {
     let walked = walk(message, names, follow, last, begin);

@@ -7,6 +7,7 @@ use crate::segments;
 ghost use Rattle.structure.specs.Structures.{oruR01};
 ghost use Rattle.structure.specs.Engine.{RowsAre};
 
+// The places behind MSH, place 0: bit p is place p.
 const PID: u64 = 1 << 1;
 
 const PD1: u64 = 1 << 2;
@@ -51,28 +52,28 @@ const NAMES: [u32; 14] = [
     segments::DSC,
 ];
 
-// What can come next behind each place.
+// The places that can be filled next, by place.
 const FOLLOW: [u64; 14] = [
-    PID | ORC | OBR, // MSH
-    PD1 | NK1 | PATIENT_NTE | PV1 | ORC | OBR, // PID
-    NK1 | PATIENT_NTE | PV1 | ORC | OBR, // PD1
-    NK1 | PATIENT_NTE | PV1 | ORC | OBR, // NK1
-    PATIENT_NTE | PV1 | ORC | OBR, // NTE
-    PV2 | ORC | OBR, // PV1
-    ORC | OBR, // PV2
-    OBR, // ORC
-    ORDER_NTE | OBX | RESULT_NTE | CTI | ORC | OBR | PID | DSC, // OBR
-    ORDER_NTE | OBX | RESULT_NTE | CTI | ORC | OBR | PID | DSC, // NTE
-    OBX | RESULT_NTE | CTI | ORC | OBR | PID | DSC, // OBX
-    OBX | RESULT_NTE | CTI | ORC | OBR | PID | DSC, // NTE
-    CTI | ORC | OBR | PID | DSC, // CTI
-    0, // DSC
+    PID | ORC | OBR, // behind MSH
+    PD1 | NK1 | PATIENT_NTE | PV1 | ORC | OBR, // behind PID
+    NK1 | PATIENT_NTE | PV1 | ORC | OBR, // behind PD1
+    NK1 | PATIENT_NTE | PV1 | ORC | OBR, // behind NK1
+    PATIENT_NTE | PV1 | ORC | OBR, // behind PATIENT_NTE
+    PV2 | ORC | OBR, // behind PV1
+    ORC | OBR, // behind PV2
+    OBR, // behind ORC
+    ORDER_NTE | OBX | RESULT_NTE | CTI | ORC | OBR | PID | DSC, // behind OBR
+    ORDER_NTE | OBX | RESULT_NTE | CTI | ORC | OBR | PID | DSC, // behind ORDER_NTE
+    OBX | RESULT_NTE | CTI | ORC | OBR | PID | DSC, // behind OBX
+    OBX | RESULT_NTE | CTI | ORC | OBR | PID | DSC, // behind RESULT_NTE
+    CTI | ORC | OBR | PID | DSC, // behind CTI
+    0, // behind DSC
 ];
 
 // The places behind which a message can end.
 const LAST: u64 = OBR | ORDER_NTE | OBX | RESULT_NTE | CTI | DSC;
 
-// The tables.
+// The tables of ORU^R01.
 pub fn tables() -> Rows
     ensures { λ r. ⌜ RowsAre oruR01 r ⌝ }
 {

@@ -1,12 +1,12 @@
-// The tables of a structure as one value, so that who judges by a structure is handed them alike, wherever they come from.
+// The tables of a structure as one value: whoever judges by a structure is handed them alike, wherever they come from.
 ghost use mathlib.Core.Path.{_≡_};
 ghost use Prim.Native.Nat.{_≤_};
 ghost use lib.ListN.{length};
 ghost use Rattle.structure.specs.Engine.{rowsWith};
 
-// A row for each place where a name stands: the name, and the set of places that can be filled next, in which bit p is place
-// p. They are the first `count` of the lists; zeros stand behind them. `last` is the set of places behind which a message can
-// end.
+// A row for each place where a name stands: the name, and the set of places that can be filled next, in which bit p is
+// place p. The rows are the first `count` of the lists; zeros stand behind them. `last` is the set of places behind
+// which a message can end.
 pub struct Rows {
     pub names: [u32; 64],
     pub follow: [u64; 64],

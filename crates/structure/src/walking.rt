@@ -1,5 +1,5 @@
-// The walk over a message's segments by the tables of a structure. What is known is a set of places, those that could be
-// filled next, as the bits of one number, and whether the message could end; each segment name steps it.
+// The walk over a message's segments by the tables of a structure. What is known is a set of places, those that could
+// be filled next, as the bits of one number, and whether the message could end; each segment name steps it.
 use crate::names::is_passed_over;
 ghost use mathlib.Core.Path.{_≡_};
 ghost use Prim.Native.Nat.{_≤_};
@@ -13,8 +13,8 @@ pub struct Next {
     pub ends: bool,
 }
 
-// What a walk comes to. Where it stops, the places that could have been filled there, and whether the message could have
-// ended there, which it could not where it ended too early.
+// What a walk comes to. Where it stops, the places that could have been filled there, and whether the message could
+// have ended there, which it could not where it ended too early.
 pub enum Walked {
     Accepted,
     Misplaced {
@@ -32,7 +32,8 @@ pub enum Walked {
 // it, and `last` the places behind which a message can end.
 pub fn step(names: &[u32], follow: &[u64], last: u64, places: u64, name: u32) -> Next
     requires { ⌜ (length (now names) ≤ 64) × (length (now follow) ≡ length (now names)) ⌝ }
-    ensures { λ r. ⌜ entry (r .places) (r .ends) ≡ stepped (now (names .entry)) (now (follow .entry)) last places name ⌝ }
+    ensures { λ r. ⌜ entry (r .places) (r .ends)
+        ≡ stepped (now (names .entry)) (now (follow .entry)) last places name ⌝ }
 {
     let mut next: u64 = 0;
     let mut ends = false;
@@ -66,7 +67,9 @@ fn ended(next: Next, number: usize) -> Walked
 // Walks the segments of a message, from what can come first.
 pub fn walk(message: &[u8], names: &[u32], follow: &[u64], last: u64, begin: Next) -> Walked
     requires { ⌜ (length (now names) ≤ 64) × (length (now follow) ≡ length (now names)) ⌝ }
-    ensures { λ r. ⌜ r ≡ walked (now (names .entry)) (now (follow .entry)) last (entry (begin .places) (begin .ends)) 0 (segmentNames (now (message .entry))) ⌝ }
+    ensures { λ r. ⌜ r
+        ≡ walked (now (names .entry)) (now (follow .entry)) last (entry (begin .places) (begin .ends)) 0
+        (segmentNames (now (message .entry))) ⌝ }
 {
     let mut next = begin;
     let mut number = 0;
