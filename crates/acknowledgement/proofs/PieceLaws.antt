@@ -27,7 +27,7 @@ use Rattle.text.specs.Escape.{escape}
 use Rattle.text.specs.Unescape.{text, fault}
 use Rattle.text.specs.Answers.{escaping}
 use Rattle.text.proofs.OutcomeLaws.{escape-most, escaping-fits}
-use Rattle.acknowledgement.specs.Acknowledgement.{sent, typePart, present, encoding, typeSent, version, headerParts, lettersOf, answerParts, acknowledgement, roomy}
+use Rattle.acknowledgement.specs.Acknowledgement.{sent, typePart, present, encoding, typeSent, version, headerParts, answerParts, acknowledgement, roomy}
 use Rattle.acknowledgement.specs.Pieces.{together, least, eventMark, event, fixedText, pieces}
 use Rattle.acknowledgement.specs.declared.letters.Code.{Code}
 use Rattle.acknowledgement.specs.declared.letters.Code.the-variants.{Accept, Error}

@@ -19,6 +19,7 @@ pub mod Grammar
 pub mod FaultNumbers
 pub mod Agreement
 pub mod ControlId
+pub mod LineLaws
 pub mod SenderLaws
 pub mod WrittenLaws
 pub mod Acknowledged

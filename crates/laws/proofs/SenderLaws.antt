@@ -18,18 +18,8 @@ use Rattle.reading.specs.Segments.{allButLast, segments, delimitersOf, fieldSep
 use Rattle.reading.specs.Message.{Opened}
 use Rattle.laws.proofs.RawLaws.{raw-header, raw-component}
 use Rattle.laws.proofs.Clean.{permitted-printable}
+use Rattle.laws.proofs.LineLaws.{Printable, Not, Clean}
 use Rattle.acknowledgement.specs.Acknowledgement.{sent, typePart}
-
-abbrev pub Printable : ℕ → Type 0
-Printable b = printable b ≡ true
-
--- not the byte x
-abbrev pub Not : ℕ → ℕ → Type 0
-Not x b = b ≡ x → ⊥
-
--- may stand in a field between separators
-abbrev pub Clean : ℕ → ℕ → Type 0
-Clean sep b = Printable b × Not sep b
 
 plain-allowed : (b : ℕ) → allowed b ≡ true → Not carriageReturn b → Printable b
 plain-allowed b e n = subst (λ (t : Bool). (t || printable b) ≡ true) (ne-eqb b carriageReturn n) e

@@ -2,29 +2,28 @@
 use mathlib.Core.Path.{_≡_, refl, sym, ap, ap₂, _∙_, subst}
 use mathlib.Core.Bool.{Bool, true, false, cond, _||_}
 use mathlib.Core.List.{List, [], _∷_, _++_, map}
-use Prim.Native.Nat.{ℕ, zero, suc, _+_, _-_, _≤_, _<_}
+use Prim.Native.Nat.{ℕ, _+_, _-_, _≤_, _<_}
 use native.Mathlib.Omega.{arith}
 use lib.Dec.{eqb}
 use lib.ListN.{length, getD}
 use borrow.Author.Tests.{eq-eqb, le-leb}
-use Rattle.alphabet.specs.Bytes.{carriageReturn, printable, allowed, digit, ascii}
-use Rattle.alphabet.specs.Delimiters.{permitted, firstWrongDelimiter}
+use Rattle.alphabet.specs.Bytes.{carriageReturn, digit, ascii}
+use Rattle.alphabet.specs.Delimiters.{permitted}
 use Rattle.alphabet.specs.Limits.{messageLimit}
 use Rattle.alphabet.specs.Lists.{find, same}
 use Rattle.alphabet.specs.Parts.{split, join}
 use Rattle.alphabet.specs.declared.answers.Check.the-variants.{Passes}
-use Rattle.alphabet.proofs.BoolLaws.{false-true, from-to}
+use Rattle.alphabet.proofs.BoolLaws.{from-to}
 use Rattle.alphabet.proofs.DelimiterLaws.{delimiter-own}
 use Rattle.alphabet.proofs.LimitLaws.{segment-limit-two}
-use Rattle.laws.proofs.EachLaws.{Each, Every, each-append, each-at, at-each, each-weaken, each-join, every-weaken, each-free, every-at}
-use Rattle.alphabet.proofs.PartLaws.{split-join, split-cons, split-last}
-use Rattle.reading.specs.Segments.{segments, delimitersOf, fieldSeparator, named, isHeader, name, nameOf}
+use Rattle.laws.proofs.EachLaws.{Each, Every, each-append, at-each, each-weaken, each-free}
+use Rattle.alphabet.proofs.PartLaws.{split-cons, split-last}
+use Rattle.reading.specs.Segments.{segments, delimitersOf, fieldSeparator, named, name, nameOf}
 use Rattle.reading.specs.Reading.{reading}
 use Rattle.reading.specs.Message.{ended, Opened, Message}
-use Rattle.reading.proofs.SegmentLaws.{segments-ended}
 use Rattle.reading.proofs.Accepted.{accepting}
 use Rattle.element.specs.Finding.{rawBytes}
-use Rattle.laws.proofs.RawLaws.{raw-header, raw-other, raw-component}
+use Rattle.laws.proofs.RawLaws.{raw-component}
 use Rattle.times.specs.Times.{isTs}
 use Rattle.laws.proofs.ValueBytes.{time-each, digit-none}
 use Rattle.text.specs.Escape.{escape}
@@ -42,7 +41,8 @@ use Rattle.structure.proofs.ChoiceLaws.{is-acknowledgement}
 use Rattle.acknowledgement.specs.Acknowledgement.{fieldAddress, sent, typePart, present, encoding, typeSent, headerParts, lettersOf, answerParts, acknowledgement, version}
 use Rattle.acknowledgement.specs.declared.letters.Code.{Code}
 use Rattle.acknowledgement.specs.declared.letters.Code.the-variants.{Accept, Error}
-use Rattle.laws.proofs.SenderLaws.{Printable, Not, Clean, field-clean, event-clean, delimiter-printable, delimiters-apart, no-delimiter, sign-clean}
+use Rattle.laws.proofs.LineLaws.{Printable, Not, Clean, Lines, lines-segments, lines-message, lines-header-field, lines-field, joined-printable, joined-parts}
+use Rattle.laws.proofs.SenderLaws.{field-clean, event-clean, delimiter-printable, delimiters-apart, no-delimiter, sign-clean}
 
 or-true : (t : Bool) → (t || true) ≡ true
 or-true true = refl
@@ -178,40 +178,44 @@ module _ (h : List ℕ) (o : Opened h) (one : find carriageReturn h + 1 ≡ leng
     abbrev pub written : List ℕ
     written = acknowledgement h time id letters
 
-    printable-join : (ps : List (List ℕ)) → Every (Each Fine) ps → Each Printable (join sep ps)
-    printable-join ps e =
-        each-join Printable sep ps (delimiter-printable h o one 0 (omega arith))
-        (every-weaken (Each Fine) (Each Printable) (λ p q. each-weaken Fine Printable (λ b r. r .0) p q) ps e)
-
-    first-printable : Each Printable first
-    first-printable = printable-join (headerParts h time id) header-fine
-
-    second-printable : Each Printable second
-    second-printable = printable-join (answerParts h letters) answer-fine
-
-    no-return : (l : List ℕ) → Each Printable l → find carriageReturn l ≡ length l
-    no-return l p = each-free carriageReturn l (each-weaken Printable (Not carriageReturn) (λ b q e. false-true (sym (ap printable e) ∙ q)) l p)
-
-    both-free : (k : ℕ) → k < 2 → find carriageReturn (getD (first ∷ second ∷ []) k []) ≡ length (getD (first ∷ second ∷ []) k [])
-    both-free zero l = no-return first first-printable
-    both-free (suc zero) l = no-return second second-printable
-    both-free (suc (suc k)) l = absurd (omega arith)
-
-    pub segments-written : segments written ≡ first ∷ second ∷ []
-    unfolding acknowledgement
-    segments-written = segments-ended (first ∷ second ∷ []) both-free
-
-    parts-free : (ps : List (List ℕ)) → Every (Each Fine) ps → (k : ℕ) → find sep (getD ps k []) ≡ length (getD ps k [])
-    unfolding Each
-    parts-free ps e k = each-free sep (getD ps k []) (each-weaken Fine (Not sep) (λ b r. r .1) (getD ps k []) (every-at (Each Fine) ps tt e k))
-
     first-parts : split sep first ≡ headerParts h time id
     unfolding headerParts
-    first-parts = split-join sep (headerParts h time id) (omega arith) (λ k l. parts-free (headerParts h time id) header-fine k)
+    first-parts = joined-parts sep (headerParts h time id) (omega arith) header-fine
 
     second-parts : split sep second ≡ answerParts h letters
     unfolding answerParts
-    second-parts = split-join sep (answerParts h letters) (omega arith) (λ k l. parts-free (answerParts h letters) answer-fine k)
+    second-parts = joined-parts sep (answerParts h letters) (omega arith) answer-fine
+
+    first-named : named sep first ≡ true
+    unfolding headerParts join
+    first-named = rw (eq-eqb sep sep refl) (or-true (eqb (length first) 3))
+
+    second-named : named sep second ≡ true
+    unfolding answerParts join
+    second-named = rw (eq-eqb sep sep refl) (or-true (eqb (length second) 3))
+
+    -- the two are the lines of a message with the sender's delimiters
+    both-lines : Lines ds (first ∷ second ∷ [])
+    unfolding headerParts answerParts join Every
+    both-lines = record {
+      some = omega arith;
+      most = segment-limit-two;
+      printed = (
+        joined-printable sep (delimiter-printable h o one 0 (omega arith)) (headerParts h time id) header-fine,
+        (joined-printable sep (delimiter-printable h o one 0 (omega arith)) (answerParts h letters) answer-fine, tt),
+      );
+      named-well = (first-named, (second-named, tt));
+      long = omega arith;
+      header = refl;
+      delimiters = refl;
+      behind = rw (eq-eqb sep sep refl) (or-true (eqb (length first) 8));
+      no-other = (refl, tt);
+      right = o .delimiters-right;
+    }
+
+    pub segments-written : segments written ≡ first ∷ second ∷ []
+    unfolding acknowledgement
+    segments-written = lines-segments both-lines
 
     -- ---- it begins as the sender's does
 
@@ -225,73 +229,10 @@ module _ (h : List ℕ) (o : Opened h) (one : find carriageReturn h + 1 ≡ leng
 
     -- ---- it reads back
 
-    printable-allowed : (b : ℕ) → Printable b → allowed b ≡ true
-    printable-allowed b p = at (eqb b carriageReturn)
-      where
-        at : (t : Bool) → (t || printable b) ≡ true
-        at true = refl
-        at false = p
-
-    all-allowed-written : Each (λ (b : ℕ). allowed b ≡ true) written
-    unfolding acknowledgement ended Each
-    all-allowed-written =
-        each-append (λ (b : ℕ). allowed b ≡ true) first (carriageReturn ∷ second ++ carriageReturn ∷ []) (each-weaken Printable (λ (b : ℕ). allowed b ≡ true) printable-allowed first first-printable)
-        (refl, each-append (λ (b : ℕ). allowed b ≡ true) second (carriageReturn ∷ []) (each-weaken Printable (λ (b : ℕ). allowed b ≡ true) printable-allowed second second-printable) (refl, tt))
-
-    byte-eight-written : (eqb (getD written 8 0) (fieldSeparator written) || eqb (getD written 8 0) carriageReturn) ≡ true
-    unfolding acknowledgement headerParts ended join
-    byte-eight-written = rw (eq-eqb sep sep refl)
-
-    header-written : isHeader written ≡ true
-    unfolding acknowledgement headerParts ended join
-    header-written = refl
-
-    first-named : named sep first ≡ true
-    unfolding headerParts join
-    first-named = rw (eq-eqb sep sep refl) (or-true (eqb (length first) 3))
-
-    second-named : (named sep second ≡ true) × (isHeader second ≡ false)
-    unfolding answerParts join
-    second-named = (rw (eq-eqb sep sep refl) (or-true (eqb (length second) 3)), refl)
-
-    all-named-written : (k : ℕ) → k < 2 → named sep (getD (first ∷ second ∷ []) k []) ≡ true
-    all-named-written zero l = first-named
-    all-named-written (suc zero) l = second-named .0
-    all-named-written (suc (suc k)) l = absurd (omega arith)
-
-    one-header-written : (k : ℕ) → 0 < k → k < 2 → isHeader (getD (first ∷ second ∷ []) k []) ≡ false
-    one-header-written zero z l = absurd (omega arith)
-    one-header-written (suc zero) z l = second-named .1
-    one-header-written (suc (suc k)) z l = absurd (omega arith)
-
     module _ (fits : length written ≤ messageLimit) where
-      opened-written : Opened written
-      opened-written = record {
-        some-bytes = let n = is-long in omega arith;
-        most-bytes = fits;
-        nine-bytes = is-long;
-        header = header-written;
-        byte-eight = byte-eight-written;
-        delimiters-right = ap firstWrongDelimiter same-delimiters ∙ o .delimiters-right;
-        all-allowed = each-at (λ (b : ℕ). allowed b ≡ true) written all-allowed-written;
-      }
-
-      same-separator : fieldSeparator written ≡ sep
-      same-separator = ap (λ (l : List ℕ). getD l 0 0) same-delimiters
-
       pub message-written : Message written
       unfolding acknowledgement
-      message-written =
-          let two = ap length segments-written in
-          let least = segment-limit-two in
-          record {
-            opened = opened-written;
-            all-ended = ap ended segments-written;
-            some-segments = omega arith;
-            most-segments = omega arith;
-            all-named = λ k l. ap₂ (λ (x : ℕ) (ss : List (List ℕ)). named x (getD ss k [])) same-separator segments-written ∙ all-named-written k (omega arith);
-            one-header = λ k z l. ap (λ (ss : List (List ℕ)). isHeader (getD ss k [])) segments-written ∙ one-header-written k z (omega arith);
-          }
+      message-written = lines-message both-lines fits
 
       -- "reads back through our reader"
       pub reads-back : reading written ≡ Passes
@@ -299,21 +240,14 @@ module _ (h : List ℕ) (o : Opened h) (one : find carriageReturn h + 1 ≡ leng
 
     -- ---- its fields
 
-    at-least-four : 4 ≤ length written
-    at-least-four = let n = is-long in omega arith
-
     -- "fields 3, 4, 5, 6 are the sender's 5, 6, 3, 4": field f of its MSH is the part of that number
     pub header-field : (f : ℕ) → (f ≡ 1 → ⊥) → rawBytes written (fieldAddress f) ≡ getD (headerParts h time id) (f - 1) []
-    header-field f n =
-        raw-header written at-least-four f n
-        ∙ ap₂ (λ (x : ℕ) (ss : List (List ℕ)). getD (split x (getD ss 0 [])) (f - 1) []) (ap (λ (l : List ℕ). getD l 0 0) same-delimiters) segments-written
-        ∙ ap (λ (ps : List (List ℕ)). getD ps (f - 1) []) first-parts
+    unfolding acknowledgement
+    header-field f n = lines-header-field both-lines f n ∙ ap (λ (ps : List (List ℕ)). getD ps (f - 1) []) first-parts
 
     answer-field : (f : ℕ) → rawBytes written (record { segment = 1; field = f; repetition = 0; component = 0; subcomponent = 0 }) ≡ getD (answerParts h letters) f []
-    answer-field f =
-        raw-other written at-least-four 1 f (λ e. omega arith)
-        ∙ ap₂ (λ (x : ℕ) (ss : List (List ℕ)). getD (split x (getD ss 1 [])) f []) (ap (λ (l : List ℕ). getD l 0 0) same-delimiters) segments-written
-        ∙ ap (λ (ps : List (List ℕ)). getD ps f []) second-parts
+    unfolding acknowledgement
+    answer-field f = lines-field both-lines 1 f (λ e. omega arith) ∙ ap (λ (ps : List (List ℕ)). getD ps f []) second-parts
 
     -- "carries the sender's own control ID": MSA-2 is the sender's MSH-10, byte for byte
     pub carries-id : rawBytes written (record { segment = 1; field = 2; repetition = 0; component = 0; subcomponent = 0 }) ≡ sent h 10
@@ -380,7 +314,7 @@ module _ (h : List ℕ) (o : Opened h) (one : find carriageReturn h + 1 ≡ leng
     unfolding headerParts
     type-written =
         let n = type-free in
-        raw-component written at-least-four 9 1 (omega arith) (omega arith)
+        raw-component written (let n = is-long in omega arith) 9 1 (omega arith) (omega arith)
         ∙ ap₂ (λ (d x : List ℕ). getD (split (getD d 1 0) (getD (split (getD d 2 0) x) 0 [])) 0 []) same-delimiters (header-field 9 (λ e. omega arith))
         ∙ ap (λ (ps : List (List ℕ)). getD (split (getD ds 1 0) (getD ps 0 [])) 0 []) (split-last (getD ds 2 0) (typeSent h) (omega arith)) ∙ first-component
 

@@ -1,12 +1,9 @@
 -- Rests on number 0 being compared as the test of `codeOf`.
 use mathlib.Core.Path.{sym, ap, _∙_}
 use mathlib.Core.Bool.{Bool, cond}
-use lib.Dec.{eqb}
 use borrow.Author.Needs.{needs}
 use borrow.Author.Tests.{eq-eqb, ne-eqb}
-use Rattle.alphabet.specs.Answers.{numberOf}
 use Rattle.acknowledgement.specs.Acknowledgement.{codeOf}
-use Rattle.acknowledgement.specs.declared.letters.Code.{Code}
 use Rattle.acknowledgement.specs.declared.letters.Code.the-variants.{Accept, Error}
 use Rattle.acknowledgement.proofs.letters.code_of.Statement.{statement}
 use Rattle.acknowledgement.proofs.letters.code_of.Tie as tie

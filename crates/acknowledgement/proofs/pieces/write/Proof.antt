@@ -14,7 +14,7 @@ use Rattle.text.specs.Escape.{escape}
 use Rattle.text.specs.Unescape.{Outcome}
 use Rattle.text.specs.Answers.{escaping, answer, filled}
 use Rattle.acknowledgement.specs.Acknowledgement.{roomy}
-use Rattle.acknowledgement.specs.Pieces.{together, fixedText, pieces}
+use Rattle.acknowledgement.specs.Pieces.{together, pieces}
 use Rattle.acknowledgement.proofs.PieceLaws.{id-fits, pieces-together}
 use Rattle.acknowledgement.proofs.pieces.write.Statement.{statement}
 use Rattle.acknowledgement.proofs.pieces.write.Tie as tie
