@@ -23,7 +23,7 @@ use Rattle.structure.specs.Judged.Judged.{accepted as yielded, refused as not-y
 use Rattle.structure.specs.declared.judging.Judgement.{Judgement}
 use Rattle.structure.proofs.OnlyOne.{only-one, goes-on, could-stand-is}
 use Rattle.structure.proofs.OnlyOne.{accepts-exactly as judged-exactly}
-use Rattle.rules.specs.Table.{rows}
+use Rattle.field_table.specs.Table.{rows}
 use Rattle.fields.specs.Judging.{faultAnswer, judging}
 use Rattle.verdict.specs.Verdicts.{ofStructure, ofFields, Verdicts}
 use Rattle.verdict.specs.Verdicts.Verdicts.{refused as by-structure, judged as by-fields}

@@ -17,7 +17,7 @@ use Rattle.structure.specs.Judged.{plain, Judged, accepted, refused, Structured
 use Rattle.structure.specs.declared.judging.Judgement.{Judgement}
 use Rattle.reading.proofs.Honest.{reading-fails}
 use Rattle.structure.proofs.OnlyOne.{only-one}
-use Rattle.rules.specs.Table.{rows}
+use Rattle.field_table.specs.Table.{rows}
 use Rattle.fields.specs.Judging.{faultAnswer, judging}
 use Rattle.verdict.specs.Verdicts.{ofStructure, Verdicts, Accepts}
 use Rattle.verdict.specs.Verdicts.Verdicts.{refused as by-structure, judged as by-fields}

@@ -10,7 +10,7 @@ use Rattle.structure.specs.SegmentNames.{segmentNames, kept}
 use Rattle.structure.specs.Structures.{listed, structureOf, grammarOf}
 use Rattle.structure.specs.Judged.{Answers}
 use Rattle.structure.specs.declared.judging.Judgement.{Judgement}
-use Rattle.rules.specs.Table.{rows}
+use Rattle.field_table.specs.Table.{rows}
 use Rattle.fields.specs.Judging.{faultAnswer, judging}
 use Rattle.fault.specs.declared.FaultRecord.{FaultRecord}
 
