@@ -20,8 +20,8 @@ use Rattle.rules.specs.Rules.{firstState, requiredCheck, repeatedCheck, saidChe
 use Rattle.fields.specs.declared.walk.Cursor.{Cursor}
 use Rattle.rules.specs.Rules.{openingCheck}
 use Rattle.fields.specs.Walk.{fieldBytes, saidBytes, Stands, Finds, leftOf, Goes}
-use Rattle.rules.specs.declared.table.Kind.{Kind}
-use Rattle.rules.specs.declared.table.Row.{Row}
+use Rattle.field_table.specs.declared.Kind.{Kind}
+use Rattle.field_table.specs.declared.Row.{Row}
 use Rattle.fields.specs.declared.walk.Sought.{Sought}
 use Rattle.fields.specs.declared.walk.Turn.{Turn}
 

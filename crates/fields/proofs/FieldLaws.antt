@@ -24,8 +24,8 @@ use Rattle.element.proofs.LevelLaws.{between-length, in-at, in-none, field-othe
 use Rattle.rules.specs.Rules.{judgedPart, partState, repetitionCheck, repetitionChecks, requiredCheck, somePresent, isSaid, saidField, kindOf, componentOf, rowCheck}
 use Rattle.fields.specs.Judging.{repetitionsIn, repetitionsOf, saidIn}
 use Rattle.fields.specs.Walk.{fieldBytes, saidBytes}
-use Rattle.rules.specs.declared.table.Kind.{Kind}
-use Rattle.rules.specs.declared.table.Row.{Row}
+use Rattle.field_table.specs.declared.Kind.{Kind}
+use Rattle.field_table.specs.declared.Row.{Row}
 use Rattle.fields.proofs.CursorLaws.{bytes-other, bytes-fixed, bytes-header}
 
 -- ---- an absent field is judged as one with no bytes

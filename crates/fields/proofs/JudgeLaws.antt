@@ -18,11 +18,11 @@ use Rattle.alphabet.specs.declared.answers.Refusal.{Refusal}
 use Rattle.alphabet.specs.declared.parts.Part.the-variants.{At}
 use Rattle.reading.specs.Segments.{allButLast, segments, delimitersOf}
 use Rattle.reading.proofs.SegmentLaws.{segments-walk, segments-over}
-use Rattle.rules.specs.Table.{noRow}
+use Rattle.field_table.specs.Table.{noRow}
 use Rattle.rules.specs.Rules.{rowCheck}
 use Rattle.fields.specs.Judging.{Fault, Sound, Faulty, nameAt, saidIn, repetitionsOf, located, orFault, firstFault, rowFault, segmentFault, segmentFaults, judging}
 use Rattle.fields.specs.Walk.{fieldBytes, saidBytes}
-use Rattle.rules.specs.declared.table.Row.{Row}
+use Rattle.field_table.specs.declared.Row.{Row}
 use Rattle.fields.proofs.FieldLaws.{row-agrees}
 
 -- what is left of the rows from `index` on, for the segment s of a number, which stands at `start`

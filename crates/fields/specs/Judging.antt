@@ -18,8 +18,8 @@ use Rattle.element.specs.Levels.{between, fixed, fieldIn}
 use Rattle.fault.specs.Faults.{atField, plain}
 use Rattle.fault.specs.declared.FaultRecord.{FaultRecord}
 use Rattle.rules.specs.Rules.{isSaid, saidField, rowCheck}
-use Rattle.rules.specs.declared.table.Kind.{Kind}
-use Rattle.rules.specs.declared.table.Row.{Row}
+use Rattle.field_table.specs.declared.Kind.{Kind}
+use Rattle.field_table.specs.declared.Row.{Row}
 
 -- ---- what a row is held against: a segment of the message, by its number, from 0, and where it stands
 

@@ -10,8 +10,8 @@ use Rattle.alphabet.specs.Parts.{split}
 use Rattle.alphabet.specs.declared.answers.Check.{Check}
 use Rattle.alphabet.specs.declared.answers.Check.the-variants.{Passes}
 use Rattle.rules.specs.Rules.{isSaid, saidField, repetitionChecks, rowCheck}
-use Rattle.rules.specs.declared.table.Kind.{Kind}
-use Rattle.rules.specs.declared.table.Row.{Row}
+use Rattle.field_table.specs.declared.Kind.{Kind}
+use Rattle.field_table.specs.declared.Row.{Row}
 use Rattle.fields.specs.declared.walk.Cursor.{Cursor}
 use Rattle.fields.specs.declared.walk.Sought.{Sought}
 use Rattle.fields.specs.declared.walk.Turn.{Turn}

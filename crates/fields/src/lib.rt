@@ -5,13 +5,13 @@ mod walk;
 use alphabet::Check;
 use alphabet::Refusal;
 use fault::FaultRecord;
-use rules::COUNT;
-use rules::Row;
+use field_table::COUNT;
+use field_table::Row;
 use walk::Cursor;
 use walk::begin_row;
 use walk::next_repetition;
 ghost use mathlib.Core.Path.{_≡_};
-ghost use Rattle.rules.specs.Table.{rows};
+ghost use Rattle.field_table.specs.Table.{rows};
 ghost use Rattle.fields.specs.Judging.{nameAt, located, faultAnswer, judging};
 
 // What a check of a row found, with its segment and field, as a record.
@@ -29,7 +29,7 @@ fn name_of(number: usize, segment: &[u8]) -> u32
     ensures { λ r. ⌜ r ≡ nameAt number (now (segment .entry)) ⌝ }
 {
     if number == 0 {
-        return rules::MSH;
+        return field_table::MSH;
     }
     reading::name_of(segment)
 }
@@ -81,5 +81,5 @@ pub fn judge_by(message: &[u8], rows: [Row; COUNT]) -> FaultRecord
 pub fn judge_fields(message: &[u8]) -> FaultRecord
     ensures { λ r. ⌜ r ≡ faultAnswer (judging rows (now (message .entry))) ⌝ }
 {
-    judge_by(message, rules::all_rows())
+    judge_by(message, field_table::all_rows())
 }

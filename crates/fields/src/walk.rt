@@ -2,8 +2,8 @@
 // rise, pass over its bytes once. A row that asks for a field behind the cursor is answered from the segment's start.
 use alphabet::Check;
 use alphabet::Delimiters;
-use rules::Kind;
-use rules::Row;
+use field_table::Kind;
+use field_table::Row;
 use rules::check_opening;
 use rules::check_repetition;
 use rules::component_of;

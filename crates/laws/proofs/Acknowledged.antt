@@ -41,7 +41,7 @@ use Rattle.laws.proofs.RoundTrip.{AreBytes, round-trip}
 use Rattle.element.specs.States.{stateOf, isPresent}
 use Rattle.element.specs.declared.states.State.{State}
 use Rattle.element.specs.declared.states.State.the-variants.{Absent, Empty, Null, Present}
-use Rattle.rules.specs.Table.{rows}
+use Rattle.field_table.specs.Table.{rows}
 use Rattle.laws.proofs.FaultNumbers.{none-sound}
 use Rattle.laws.proofs.ControlId.{control-id}
 use Rattle.structure.specs.SegmentNames.{segmentNames}

@@ -35,10 +35,10 @@ use Rattle.laws.proofs.RawLaws.{part-in-bytes}
 use Rattle.laws.proofs.LevelBytes.{split-further}
 use Rattle.laws.proofs.Asking.{answered-exactly}
 use Rattle.laws.proofs.FoundLaws.{shown-is, absent-nowhere}
-use Rattle.rules.specs.Table.{rows, noRow}
+use Rattle.field_table.specs.Table.{rows, noRow}
 use Rattle.rules.specs.Rules.{judgedPart, isSaid, saidField, rowCheck}
 use Rattle.fields.specs.Judging.{Fault, Sound, nameAt, repetitionsIn, repetitionsOf, saidIn, located, firstFault, rowFault, segmentFaults, judging}
-use Rattle.rules.specs.declared.table.Row.{Row}
+use Rattle.field_table.specs.declared.Row.{Row}
 
 -- no bytes have no part with bytes
 nothing-in : (sep : ℕ) (i : ℕ) → getD (split sep []) i [] ≡ []

@@ -24,11 +24,11 @@ use Rattle.element.specs.States.{stateOf, isPresent}
 use Rattle.element.specs.declared.states.State.{State}
 use Rattle.element.specs.declared.states.State.the-variants.{Absent as no-part, Empty, Null, Present}
 use Rattle.laws.proofs.RawLaws.{raw-whole}
-use Rattle.rules.specs.Table.{row, rows, noRow, whole, R, no}
+use Rattle.field_table.specs.Table.{row, rows, noRow, whole, R, no}
 use Rattle.rules.specs.Rules.{formCheck, judgedPart, placed, repetitionCheck, repetitionChecks, firstState, requiredCheck, repeatedCheck, saidCheck, rowCheck}
 use Rattle.fields.specs.Judging.{Fault, Sound, Faulty, repetitionsIn, repetitionsOf, located, orFault, firstFault, rowFault, segmentFault, segmentFaults, judging}
-use Rattle.rules.specs.declared.table.Kind.the-variants.{Identifier}
-use Rattle.rules.specs.declared.table.Row.{Row}
+use Rattle.field_table.specs.declared.Kind.the-variants.{Identifier}
+use Rattle.field_table.specs.declared.Row.{Row}
 
 -- where nothing is found in all, nothing is found in each
 or-sound : (f g : Fault) → orFault f g ≡ Sound → (f ≡ Sound) × (g ≡ Sound)

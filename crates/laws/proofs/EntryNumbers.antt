@@ -42,7 +42,7 @@ use Rattle.structure.specs.Listed.{In, here, there}
 use Rattle.structure.specs.SegmentNames.{segmentNames}
 use Rattle.structure.specs.Judged.{accepted, refused, Structured, no-structure, by, Answers, unread, read}
 use Rattle.fault.specs.declared.FaultRecord.{FaultRecord}
-use Rattle.rules.specs.Table.{rows}
+use Rattle.field_table.specs.Table.{rows}
 use Rattle.fields.specs.Judging.{faultAnswer, judging}
 use Rattle.verdict.specs.Verdicts.{Verdicts}
 use Rattle.verdict.specs.Verdicts.VerdictsBy.{refused as by-structure, judged as by-fields}

@@ -20,12 +20,12 @@ use Rattle.element.specs.declared.states.State.{State}
 use Rattle.element.specs.declared.states.State.the-variants.{Absent, Empty, Null, Present}
 use Rattle.numbers.specs.Numbers.{nmCheck, nmForm, nmDigits, mostDigits, isSi}
 use Rattle.times.specs.Times.{isDt, isTm, isTs}
-use Rattle.rules.specs.Table.{valuesOf}
-use Rattle.rules.specs.Rules.{member, formCheck, judgedPart, partState, placed, repetitionCheck, repetitionChecks, firstState, requiredCheck, repeatedCheck, saidCheck, isSaid, somePresent, kindOf, componentOf, rowCheck}
+use Rattle.field_table.specs.Table.{valuesOf, member}
+use Rattle.rules.specs.Rules.{formCheck, judgedPart, partState, placed, repetitionCheck, repetitionChecks, firstState, requiredCheck, repeatedCheck, saidCheck, isSaid, somePresent, kindOf, componentOf, rowCheck}
 use Rattle.fields.specs.Judging.{Fault, Sound, Faulty, nameAt, saidIn, repetitionsOf, located, orFault, firstFault, rowFault, segmentFault, segmentFaults, judging, faultAnswer}
-use Rattle.rules.specs.declared.table.Kind.{Kind}
-use Rattle.rules.specs.declared.table.Kind.the-variants.{Any, Identifier, Ts, Si, Nm, Dt, Tm, OneOf, AsField}
-use Rattle.rules.specs.declared.table.Row.{Row}
+use Rattle.field_table.specs.declared.Kind.{Kind}
+use Rattle.field_table.specs.declared.Kind.the-variants.{Any, Identifier, Ts, Si, Nm, Dt, Tm, OneOf, AsField}
+use Rattle.field_table.specs.declared.Row.{Row}
 
 -- a check that fails with a number of the field judge's, if it fails
 abbrev Told : Check → Type 0

@@ -9,9 +9,9 @@ use lib.ListN.{length, getD}
 use Rattle.reading.specs.Segments.{delimitersOf, segments, nameOf, name}
 use Rattle.element.specs.Finding.{found, elementBytes}
 use Rattle.element.specs.declared.states.State.the-variants.{Absent}
-use Rattle.rules.specs.Table.{rows, noRow}
+use Rattle.field_table.specs.Table.{rows, noRow}
 use Rattle.rules.specs.Rules.{judgedPart, isSaid, saidField, rowCheck}
-use Rattle.rules.specs.declared.table.Row.{Row}
+use Rattle.field_table.specs.declared.Row.{Row}
 use Rattle.fields.specs.Judging.{Fault, Sound, located, firstFault, judging}
 use Rattle.laws.specs.Elements.{address}
 

@@ -24,7 +24,7 @@ use Rattle.structure.specs.Judged.Judged.{accepted as yielded, refused as not-y
 use Rattle.fault.specs.declared.FaultRecord.{FaultRecord}
 use Rattle.structure.proofs.OnlyOne.{only-one-by, goes-on, could-stand-is}
 use Rattle.structure.proofs.OnlyOne.{accepts-exactly as judged-exactly}
-use Rattle.rules.specs.Table.{rows}
+use Rattle.field_table.specs.Table.{rows}
 use Rattle.fields.specs.Judging.{faultAnswer, judging}
 use Rattle.verdict.specs.Verdicts.{VerdictsBy, Verdicts}
 use Rattle.verdict.specs.Verdicts.VerdictsBy.{refused as by-structure, judged as by-fields}

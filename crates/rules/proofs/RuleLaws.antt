@@ -17,9 +17,9 @@ use Rattle.element.specs.States.{stateOf, isPresent}
 use Rattle.element.specs.declared.states.State.{State}
 use Rattle.element.specs.declared.states.State.the-variants.{Absent, Empty, Null, Present}
 use Rattle.rules.specs.Rules.{formCheck, judgedPart, partState, placed, repetitionCheck, firstState, requiredCheck, somePresent, isSaid, saidCheck, kindSaid, kindOf, componentOf}
-use Rattle.rules.specs.declared.table.Kind.{Kind}
-use Rattle.rules.specs.declared.table.Kind.the-variants.{Any, Ts, Nm, Dt, Tm}
-use Rattle.rules.specs.declared.table.Row.{Row}
+use Rattle.field_table.specs.declared.Kind.{Kind}
+use Rattle.field_table.specs.declared.Kind.the-variants.{Any, Ts, Nm, Dt, Tm}
+use Rattle.field_table.specs.declared.Row.{Row}
 use Rattle.alphabet.proofs.PartLaws.{first-part}
 
 -- ---- the part that is judged

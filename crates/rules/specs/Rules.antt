@@ -18,16 +18,12 @@ use Rattle.element.specs.declared.states.State.{State}
 use Rattle.element.specs.declared.states.State.the-variants.{Absent, Empty, Null, Present}
 use Rattle.numbers.specs.Numbers.{nmCheck, isSi}
 use Rattle.times.specs.Times.{isDt, isTm, isTs}
-use Rattle.rules.specs.Table.{valuesOf}
-use Rattle.rules.specs.declared.table.Kind.{Kind}
-use Rattle.rules.specs.declared.table.Kind.the-variants.{Any, Identifier, Ts, Si, Nm, Dt, Tm, OneOf, AsField}
-use Rattle.rules.specs.declared.table.Row.{Row}
+use Rattle.field_table.specs.Table.{valuesOf, member}
+use Rattle.field_table.specs.declared.Kind.{Kind}
+use Rattle.field_table.specs.declared.Kind.the-variants.{Any, Identifier, Ts, Si, Nm, Dt, Tm, OneOf, AsField}
+use Rattle.field_table.specs.declared.Row.{Row}
 
 -- ---- one part, which is present, against its type
-
-unfoldable pub member : List ℕ → List (List ℕ) → Bool
-member bytes [] = false
-member bytes (value ∷ others) = same bytes value || member bytes others
 
 -- 32: "breaks its type's form"; 33: "not in its list"; 37: "over 20 bytes; well formed, but over 18 digits"
 unfoldable pub formCheck : Kind → List ℕ → Check

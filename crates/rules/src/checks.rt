@@ -1,13 +1,13 @@
 // What a row asks of the repetitions of its field. A check gives the number and, as its place, the repetition.
 // A field that is absent is judged as one with no bytes: to the judge they are the same.
-use crate::table::Kind;
-use crate::table::Row;
-use crate::table::is_listed;
 use alphabet::Check;
 use alphabet::Delimiters;
 use alphabet::Part;
 use alphabet::Refusal;
 use element::State;
+use field_table::Kind;
+use field_table::Row;
+use field_table::is_listed;
 ghost use mathlib.Core.Path.{_≡_};
 ghost use lib.ListN.{getD};
 ghost use Rattle.alphabet.specs.Parts.{split};

@@ -11,7 +11,7 @@ use Rattle.structure.specs.Shapes.{Yields, names}
 use Rattle.structure.specs.SegmentNames.{segmentNames, kept}
 use Rattle.structure.specs.Structures.{ListedStructure, chosen, structureFor, builtIn}
 use Rattle.structure.specs.Judged.{AnswersBy}
-use Rattle.rules.specs.Table.{rows}
+use Rattle.field_table.specs.Table.{rows}
 use Rattle.fields.specs.Judging.{faultAnswer, judging}
 
 -- the first of the judges that refuses decides

@@ -19,11 +19,11 @@ use Rattle.alphabet.specs.declared.answers.Check.{Check}
 use Rattle.alphabet.specs.declared.answers.Check.the-variants.{Passes, Fails}
 use Rattle.alphabet.specs.declared.answers.Refusal.{Refusal}
 use Rattle.alphabet.proofs.ListLaws.{first-le}
-use Rattle.rules.specs.Table.{noRow}
+use Rattle.field_table.specs.Table.{noRow}
 use Rattle.rules.specs.Rules.{repetitionChecks}
 use Rattle.fields.specs.Judging.{Fault, located, orFault, faultAnswer, judging}
 use Rattle.fields.specs.Walk.{leftOf, Stands}
-use Rattle.rules.specs.declared.table.Row.{Row}
+use Rattle.field_table.specs.declared.Row.{Row}
 use Rattle.fields.specs.declared.walk.Turn.{Turn}
 use Rattle.fields.proofs.CursorLaws.{stands-start}
 use Rattle.fields.proofs.JudgeLaws.{rowsLeft, segmentsLeft, fault-stops, fault-passes, rows-over, row-other, row-own, segments-start, segments-none, segments-next, or-assoc}

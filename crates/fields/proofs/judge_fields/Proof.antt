@@ -4,7 +4,7 @@ use mathlib.Core.Path.{ap, _∙_}
 use mathlib.Core.List.{List}
 use denote.Ref.{now}
 use Rattle.fields.specs.Judging.{faultAnswer, judging}
-use Rattle.rules.specs.declared.table.Row.{Row}
+use Rattle.field_table.specs.declared.Row.{Row}
 use Rattle.fields.proofs.judge_fields.Statement.{statement}
 use Rattle.fields.proofs.judge_fields.Tie as tie
 

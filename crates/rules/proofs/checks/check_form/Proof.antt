@@ -9,7 +9,7 @@ use denote.Ref.{now}
 use Rattle.alphabet.specs.Answers.{failsIf}
 use Rattle.alphabet.specs.declared.answers.Refusal.the-variants.{BreaksForm, NotListed, ValueTooLong}
 use Rattle.rules.specs.Rules.{formCheck}
-use Rattle.rules.specs.declared.table.Kind.{Kind}
+use Rattle.field_table.specs.declared.Kind.{Kind}
 use Rattle.rules.proofs.checks.check_form.Statement.{statement}
 use Rattle.rules.proofs.checks.check_form.Tie as tie
 

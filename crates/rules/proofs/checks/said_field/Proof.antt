@@ -7,9 +7,9 @@ use native.Mathlib.Omega.{arith}
 use denote.Enum.Declared.{tagOf}
 use types.Run.{OneOf}
 use Rattle.rules.specs.Rules.{saidField}
-use Rattle.rules.specs.declared.table.Kind.{Kind}
-use Rattle.rules.specs.declared.table.Kind.the-variants.{Any, Identifier, Ts, Si, Nm, Dt, Tm, OneOf as Listed, AsField}
-use Rattle.rules.proofs.table.Kind.{the-type}
+use Rattle.field_table.specs.declared.Kind.{Kind}
+use Rattle.field_table.specs.declared.Kind.the-variants.{Any, Identifier, Ts, Si, Nm, Dt, Tm, OneOf as Listed, AsField}
+use Rattle.field_table.proofs.Kind.{the-type}
 use Rattle.rules.proofs.checks.said_field.Statement.{statement}
 use Rattle.rules.proofs.checks.said_field.Tie as tie
 

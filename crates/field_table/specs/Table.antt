@@ -2,15 +2,16 @@
 use Prim.Native.Nat.{ℕ}
 use Prim.Native.String.{String}
 use mathlib.Core.List.{List, [], _∷_}
-use mathlib.Core.Bool.{Bool, true, false}
+use mathlib.Core.Bool.{Bool, true, false, _||_}
 use Rattle.alphabet.specs.Bytes.{ascii}
+use Rattle.alphabet.specs.Lists.{same}
 use Rattle.alphabet.specs.Parts.{split}
 use Rattle.reading.specs.Segments.{name}
-use Rattle.rules.specs.declared.table.Values.{Values}
-use Rattle.rules.specs.declared.table.Values.the-variants.{Processing, Version, Sex, ValueTypes, Statuses, Codes}
-use Rattle.rules.specs.declared.table.Kind.{Kind}
-use Rattle.rules.specs.declared.table.Kind.the-variants.{Any, Identifier, Ts, Si, OneOf, AsField}
-use Rattle.rules.specs.declared.table.Row.{Row}
+use Rattle.field_table.specs.declared.Values.{Values}
+use Rattle.field_table.specs.declared.Values.the-variants.{Processing, Version, Sex, ValueTypes, Statuses, Codes}
+use Rattle.field_table.specs.declared.Kind.{Kind}
+use Rattle.field_table.specs.declared.Kind.the-variants.{Any, Identifier, Ts, Si, OneOf, AsField}
+use Rattle.field_table.specs.declared.Row.{Row}
 
 -- the words of a text, which stand between its spaces
 abbrev pub words : String → List (List ℕ)
@@ -24,6 +25,11 @@ valuesOf Sex = words "M F O U"
 valuesOf ValueTypes = words "CE DT ED FT NM RP SN ST TM TS TX"
 valuesOf Statuses = words "C D F I N O P R S U W X"
 valuesOf Codes = words "AA AE AR"
+
+-- bytes that are one of some values
+unfoldable pub member : List ℕ → List (List ℕ) → Bool
+member bytes [] = false
+member bytes (value ∷ others) = same bytes value || member bytes others
 
 -- "part judged": a repetition's component, counted from 1, or the whole
 abbrev pub whole : ℕ

@@ -1,9 +1,8 @@
-// The table of document 01, 'Fields judged', as data: its rows, and the lists of values that they name. The judge makes the
-// rows once for a message, as a value, and its loops know nothing of what stands in them.
+// The table of document 01, 'Fields judged', as data: its rows, and the lists of values that they name. The judge is handed
+// the rows, once for a message, as a value, and knows nothing of what stands in them.
 ghost use mathlib.Core.Path.{_≡_};
 ghost use Rattle.alphabet.specs.Parts.{split};
-ghost use Rattle.rules.specs.Table.{valuesOf, rows};
-ghost use Rattle.rules.specs.Rules.{member};
+ghost use Rattle.field_table.specs.Table.{valuesOf, member, rows};
 
 // The lists: MSH-11, MSH-12, PID-8, OBX-2, OBX-11 and MSA-1.
 pub enum Values {

@@ -2,10 +2,10 @@
 use borrow.Author.Needs.{needs}
 use mathlib.Core.Path.{sym, ap, _∙_}
 use denote.Ref.{now}
-use Rattle.rules.specs.Table.{valuesOf}
-use Rattle.rules.specs.Rules.{member}
-use Rattle.rules.proofs.table.is_listed.Statement.{statement}
-use Rattle.rules.proofs.table.is_listed.Tie as tie
+use Rattle.field_table.specs.Table.{valuesOf}
+use Rattle.field_table.specs.Table.{member}
+use Rattle.field_table.proofs.is_listed.Statement.{statement}
+use Rattle.field_table.proofs.is_listed.Tie as tie
 
 returns : tie.Need-returns
 unfolding valuesOf

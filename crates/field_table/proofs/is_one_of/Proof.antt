@@ -10,13 +10,13 @@ use lib.ListN.{length, take, drop}
 use native.Mathlib.Omega.{arith}
 use denote.Ref.{now}
 use Rattle.alphabet.specs.Parts.{split}
-use Rattle.rules.specs.Rules.{member}
+use Rattle.field_table.specs.Table.{member}
 use Rattle.alphabet.proofs.PartLaws.{walk-in, walk-more, walk-last}
-use Rattle.rules.proofs.TableLaws.{member-here, member-past, member-none}
-use Rattle.rules.proofs.table.is_one_of.Statement.{statement}
-use Rattle.rules.proofs.table.is_one_of.Tie as tie
-use Rattle.rules.proofs.table.is_one_of.Reads as reads
-use Rattle.rules.proofs.table.is_one_of.Lts as lts
+use Rattle.field_table.proofs.TableLaws.{member-here, member-past, member-none}
+use Rattle.field_table.proofs.is_one_of.Statement.{statement}
+use Rattle.field_table.proofs.is_one_of.Tie as tie
+use Rattle.field_table.proofs.is_one_of.Reads as reads
+use Rattle.field_table.proofs.is_one_of.Lts as lts
 use Rattle.alphabet.proofs.find.Reads as find-reads
 use Rattle.alphabet.proofs.same.Reads as same-reads
 

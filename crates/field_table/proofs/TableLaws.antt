@@ -4,7 +4,7 @@ use mathlib.Core.List.{List, [], _∷_}
 use mathlib.Core.Bool.{true, false}
 use Prim.Native.Nat.{ℕ}
 use Rattle.alphabet.specs.Lists.{same}
-use Rattle.rules.specs.Rules.{member}
+use Rattle.field_table.specs.Table.{member}
 
 module _ (bytes value : List ℕ) (others : List (List ℕ)) where
   pub member-here : same bytes value ≡ true → member bytes (value ∷ others) ≡ true

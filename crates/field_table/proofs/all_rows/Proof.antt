@@ -1,8 +1,8 @@
 -- Rests on computing: the table of the code is that of the specs.
 use mathlib.Core.Path.{refl}
-use Rattle.rules.specs.Table.{rows}
-use Rattle.rules.proofs.table.all_rows.Statement.{statement}
-use Rattle.rules.proofs.table.all_rows.Tie as tie
+use Rattle.field_table.specs.Table.{rows}
+use Rattle.field_table.proofs.all_rows.Statement.{statement}
+use Rattle.field_table.proofs.all_rows.Tie as tie
 
 returns : tie.Need-returns
 unfolding rows
