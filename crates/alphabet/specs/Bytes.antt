@@ -7,6 +7,7 @@ use mathlib.Core.List.{List, [], _∷_}
 use mathlib.Core.Bool.{Bool, cond, not, _&&_, _||_}
 use lib.ListN.{length, getD}
 use lib.Dec.{leb, ltb, eqb}
+use Rattle.alphabet.specs.Lists.{among}
 
 -- at least lo and at most hi
 abbrev pub fromTo : ℕ → ℕ → ℕ → Bool
@@ -26,6 +27,10 @@ allowed b = eqb b carriageReturn || printable b
 
 abbrev pub notAllowed : ℕ → Bool
 notAllowed b = not (allowed b)
+
+-- where a search for one of five bytes ends; it may end at a byte that is not printable, too
+abbrev pub stops : Bool → List ℕ → ℕ → Bool
+stops unprintable five b = (unprintable && not (printable b)) || among five b
 
 -- "a capital", "digits": those of ASCII
 abbrev pub capital : ℕ → Bool

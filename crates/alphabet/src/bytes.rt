@@ -10,8 +10,8 @@ ghost use Rattle.alphabet.specs.Lists.{first, find, same};
 // CR, which ends every segment.
 pub const CARRIAGE_RETURN: u8 = 13;
 
-// How many bytes are looked at together in a search.
-const BLOCK: usize = 32;
+// How many bytes are looked at together.
+pub const BLOCK: usize = 32;
 
 // Printable ISO 8859/1: what may stand plainly in text.
 pub fn is_printable(b: u8) -> bool
