@@ -1,5 +1,6 @@
 pub mod BoolLaws
 pub mod ListLaws
+pub mod BlockLaws
 pub mod DigitLaws
 pub mod HexLaws
 pub mod PartLaws

@@ -7,6 +7,16 @@ use mathlib.Core.List.{List, [], _∷_}
 use mathlib.Core.Bool.{Bool, cond, not, _&&_, _||_}
 use lib.ListN.{length, getD}
 use lib.Dec.{leb, ltb, eqb}
+use Rattle.alphabet.specs.Lists.{among}
+
+-- the bytes of an ASCII text, as the document writes them
+abbrev pub ascii : String → List ℕ
+ascii S.[] = []
+ascii (S._∷_ c s) = code c ∷ ascii s
+
+-- the byte of one character
+abbrev pub byteOf : String → ℕ
+byteOf s = getD (ascii s) 0 0
 
 -- at least lo and at most hi
 abbrev pub fromTo : ℕ → ℕ → ℕ → Bool
@@ -27,26 +37,27 @@ allowed b = eqb b carriageReturn || printable b
 abbrev pub notAllowed : ℕ → Bool
 notAllowed b = not (allowed b)
 
+-- where a search for one of five bytes ends; it may end at a byte that is not printable, too
+abbrev pub stops : Bool → List ℕ → ℕ → Bool
+stops unprintable five b = (unprintable && not (printable b)) || among five b
+
 -- "a capital", "digits": those of ASCII
 abbrev pub capital : ℕ → Bool
-capital b = fromTo 65 90 b
+capital b = fromTo (byteOf "A") (byteOf "Z") b
 
 abbrev pub digit : ℕ → Bool
-digit b = fromTo 48 57 b
+digit b = fromTo (byteOf "0") (byteOf "9") b
 
 -- the number that a hex digit of either case says; 16 for any other byte
 abbrev pub hexOf : ℕ → ℕ
-hexOf b = cond (digit b) (b - 48) (cond (fromTo 65 70 b) (b - 55) (cond (fromTo 97 102 b) (b - 87) 16))
+hexOf b =
+    cond (digit b) (b - byteOf "0")
+    (cond (fromTo (byteOf "A") (byteOf "F") b) (b - byteOf "A" + 10) (cond (fromTo (byteOf "a") (byteOf "f") b) (b - byteOf "a" + 10) 16))
 
 -- the capital hex digit of a number below 16
 abbrev pub hexDigit : ℕ → ℕ
-hexDigit n = cond (ltb n 10) (n + 48) (n + 55)
+hexDigit n = cond (ltb n 10) (byteOf "0" + n) (byteOf "A" + (n - 10))
 
 -- "null, exactly `""`"
 abbrev pub isNull : List ℕ → Bool
-isNull bytes = eqb (length bytes) 2 && (eqb (getD bytes 0 0) 34 && eqb (getD bytes 1 0) 34)
-
--- the bytes of an ASCII text, as the document writes them
-abbrev pub ascii : String → List ℕ
-ascii S.[] = []
-ascii (S._∷_ c s) = code c ∷ ascii s
+isNull bytes = eqb (length bytes) 2 && (eqb (getD bytes 0 0) (byteOf "\"") && eqb (getD bytes 1 0) (byteOf "\""))

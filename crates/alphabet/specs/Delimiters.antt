@@ -4,7 +4,7 @@ use mathlib.Core.List.{List, [], _∷_}
 use mathlib.Core.Bool.{Bool, not, _&&_, _||_}
 use lib.ListN.{getD}
 use lib.Dec.{ltb, eqb}
-use Rattle.alphabet.specs.Bytes.{fromTo}
+use Rattle.alphabet.specs.Bytes.{byteOf, fromTo}
 use Rattle.alphabet.specs.Lists.{first, find}
 
 -- "ASCII punctuation (0x21-2F, 3A-40, 5B-60, 7B-7E)"
@@ -13,7 +13,7 @@ punctuation b = fromTo 33 47 b || (fromTo 58 64 b || (fromTo 91 96 b || fromTo 1
 
 -- "none of `"` `+` `-` `.`"
 abbrev pub neverDelimiter : ℕ → Bool
-neverDelimiter b = eqb b 34 || (eqb b 43 || (eqb b 45 || eqb b 46))
+neverDelimiter b = eqb b (byteOf "\"") || (eqb b (byteOf "+") || (eqb b (byteOf "-") || eqb b (byteOf ".")))
 
 -- "each is ASCII punctuation but none of `"` `+` `-` `.`"
 abbrev pub permitted : ℕ → Bool

@@ -2,7 +2,7 @@
 use Prim.Native.Nat.{ℕ, _+_, _-_, _*_}
 use mathlib.Core.List.{List, [], _∷_}
 use mathlib.Core.Bool.{Bool, true, _&&_}
-use Rattle.alphabet.specs.Bytes.{digit}
+use Rattle.alphabet.specs.Bytes.{byteOf, digit}
 
 -- digits and nothing else
 unfoldable pub allDigits : List ℕ → Bool
@@ -12,7 +12,7 @@ allDigits (d ∷ r) = digit d && allDigits r
 -- the number that is written by the digits of n and those that follow
 unfoldable pub counted : ℕ → List ℕ → ℕ
 counted n [] = n
-counted n (d ∷ r) = counted (n * 10 + (d - 48)) r
+counted n (d ∷ r) = counted (n * 10 + (d - byteOf "0")) r
 
 -- the number that digits say
 abbrev pub decimal : List ℕ → ℕ

@@ -2,7 +2,7 @@
 use Prim.Native.Nat.{ℕ, zero, suc}
 use mathlib.Core.List.{List, [], _∷_}
 use mathlib.Core.Bool.{Bool, true, false, cond, _&&_}
-use lib.Dec.{eqb}
+use lib.Dec.{ltb, eqb}
 
 -- the place of the first byte that passes the test, or the length where none does
 unfoldable pub first : (ℕ → Bool) → List ℕ → ℕ
@@ -12,6 +12,10 @@ first test (x ∷ r) = cond (test x) zero (suc (first test r))
 -- the place of the first b, or the length where there is none
 abbrev pub find : ℕ → List ℕ → ℕ
 find b = first (eqb b)
+
+-- whether a byte is one of five
+abbrev pub among : List ℕ → ℕ → Bool
+among five b = ltb (find b five) 5
 
 -- whether two lists are the same, byte for byte
 unfoldable pub same : List ℕ → List ℕ → Bool

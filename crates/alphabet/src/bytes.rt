@@ -10,8 +10,8 @@ ghost use Rattle.alphabet.specs.Lists.{first, find, same};
 // CR, which ends every segment.
 pub const CARRIAGE_RETURN: u8 = 13;
 
-// How many bytes are looked at together in a search.
-const BLOCK: usize = 32;
+// How many bytes are looked at together.
+pub const BLOCK: usize = 32;
 
 // Printable ISO 8859/1: what may stand plainly in text.
 pub fn is_printable(b: u8) -> bool
@@ -47,10 +47,10 @@ pub fn hex_value(b: u8) -> u8
         return b - 48;
     }
     if (65 <= b) & (b <= 70) {
-        return b - 55;
+        return b - 65 + 10;
     }
     if (97 <= b) & (b <= 102) {
-        return b - 87;
+        return b - 97 + 10;
     }
     16
 }
@@ -60,7 +60,7 @@ pub fn hex_digit(n: u8) -> u8
     ensures { λ r. ⌜ r ≡ hexDigit (n % 16) ⌝ }
 {
     let low = n % 16;
-    if low < 10 { low + 48 } else { low + 55 }
+    if low < 10 { 48 + low } else { 65 + (low - 10) }
 }
 
 // The byte at a place, or 0, which no message holds, past the end.

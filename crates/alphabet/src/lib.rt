@@ -1,5 +1,6 @@
 // What every other crate shares: what a byte may be, the five delimiters, the refusals and the
 // answer that carries one, the limits, how bytes fall into parts at a separator, and how a buffer is filled.
+mod among;
 mod answers;
 mod bytes;
 mod delimiters;
@@ -8,6 +9,9 @@ mod hex;
 mod limits;
 mod parts;
 
+pub use among::find_among;
+pub use among::first_stop;
+pub use among::is_among;
 pub use answers::Answer;
 pub use answers::Check;
 pub use answers::Refusal;
@@ -15,6 +19,7 @@ pub use answers::answer_of;
 pub use answers::fails_if;
 pub use answers::number;
 pub use answers::or_else;
+pub use bytes::BLOCK;
 pub use bytes::CARRIAGE_RETURN;
 pub use bytes::byte_at;
 pub use bytes::find;

@@ -3,10 +3,9 @@
 use Prim.Native.Nat.{ℕ}
 use mathlib.Core.List.{List}
 use mathlib.Core.Bool.{Bool, not, _||_}
-use lib.Dec.{ltb}
-use Rattle.alphabet.specs.Lists.{find}
+use Rattle.alphabet.specs.Lists.{among}
 use Rattle.alphabet.specs.Bytes.{printable}
 
 -- whether a byte is none of "the rest", which are written "plainly"
 unfoldable pub special : List ℕ → ℕ → Bool
-special ds b = not (printable b) || ltb (find b ds) 5
+special ds b = not (printable b) || among ds b

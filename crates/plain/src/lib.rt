@@ -1,7 +1,5 @@
 // Which bytes stand plainly in a text, and how far they go: what writing and reading a text share.
 mod runs;
 
-pub use runs::BLOCK_LENGTH;
-pub use runs::is_delimiter;
 pub use runs::place_of;
 pub use runs::plain_run;

@@ -5,7 +5,7 @@ use mathlib.Core.List.{List, [], _∷_}
 use mathlib.Core.Bool.{Bool, _&&_, _||_}
 use lib.ListN.{length, getD}
 use lib.Dec.{eqb}
-use Rattle.alphabet.specs.Bytes.{carriageReturn, capital, digit, ascii}
+use Rattle.alphabet.specs.Bytes.{ascii, byteOf, carriageReturn, capital, digit}
 use Rattle.alphabet.specs.Parts.{split, standing}
 use Rattle.alphabet.specs.declared.parts.Part.{Part}
 
@@ -43,7 +43,7 @@ named sep s =
 
 -- "Bytes 0 to 2 are `MSH`."
 abbrev pub isHeader : List ℕ → Bool
-isHeader s = eqb (getD s 0 0) 77 && (eqb (getD s 1 0) 83 && eqb (getD s 2 0) 72)
+isHeader s = eqb (getD s 0 0) (byteOf "M") && (eqb (getD s 1 0) (byteOf "S") && eqb (getD s 2 0) (byteOf "H"))
 
 -- "A segment's name is three bytes": as one number, in base 256, so that a list of names is a list of numbers; a byte that is not there counts as 0
 unfoldable pub nameOf : List ℕ → ℕ

@@ -2,7 +2,7 @@
 use mathlib.Core.Path.{_≡_, refl, sym, ap, _∙_}
 use mathlib.Core.List.{List}
 use mathlib.Core.Bool.{Bool, true, false, not, cond, _&&_}
-use Prim.Native.Nat.{ℕ, _+_, _/_, _%_, _≤_, _<_}
+use Prim.Native.Nat.{ℕ, _+_, _-_, _/_, _%_, _≤_, _<_}
 use native.Mathlib.Omega.{arith}
 use lib.Dec.{ltb, eqb}
 use lib.ListN.{length, getD, take}
@@ -24,7 +24,7 @@ run-visible l i h = from-to 32 126 (getD l i 0) (and-both (fromTo 32 126 (getD l
 digit-visible : (n : ℕ) → n < 16 → Visible (hexDigit n)
 digit-visible n h = at (ltb n 10) refl
   where
-    at : (t : Bool) → ltb n 10 ≡ t → (32 ≤ cond t (n + 48) (n + 55)) × (cond t (n + 48) (n + 55) ≤ 126)
+    at : (t : Bool) → ltb n 10 ≡ t → (32 ≤ cond t (48 + n) (65 + (n - 10))) × (cond t (48 + n) (65 + (n - 10)) ≤ 126)
     at true e = (omega arith, omega arith)
     at false e = (omega arith, omega arith)
 

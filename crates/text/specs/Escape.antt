@@ -6,11 +6,11 @@ use mathlib.Core.Bool.{cond}
 use lib.ListN.{getD}
 use lib.Dec.{ltb}
 use Rattle.alphabet.specs.Lists.{find}
-use Rattle.alphabet.specs.Bytes.{printable, hexDigit, isNull}
+use Rattle.alphabet.specs.Bytes.{ascii, byteOf, printable, hexDigit, isNull}
 
--- "`\F\` field, `\S\` component, `\T\` subcomponent, `\R\` repetition, `\E\` escape": the letters in the delimiters' order, F S R E T
+-- "`\F\` field, `\S\` component, `\T\` subcomponent, `\R\` repetition, `\E\` escape": the letters in the delimiters' order
 abbrev pub letters : List ℕ
-letters = 70 ∷ 83 ∷ 82 ∷ 69 ∷ 84 ∷ []
+letters = ascii "FSRET"
 
 -- "`\` for the escape delimiter"
 abbrev pub escapeOf : List ℕ → ℕ
@@ -21,7 +21,7 @@ unfoldable pub escapeByte : List ℕ → ℕ → List ℕ
 escapeByte ds b =
     cond (ltb (find b ds) 5)
     (escapeOf ds ∷ getD letters (find b ds) 0 ∷ escapeOf ds ∷ [])
-    (cond (printable b) (b ∷ []) (escapeOf ds ∷ 88 ∷ hexDigit (b / 16) ∷ hexDigit (b % 16) ∷ escapeOf ds ∷ []))
+    (cond (printable b) (b ∷ []) (escapeOf ds ∷ byteOf "X" ∷ hexDigit (b / 16) ∷ hexDigit (b % 16) ∷ escapeOf ds ∷ []))
 
 -- a text byte by byte, each "as its own"
 unfoldable pub escapeBytes : List ℕ → List ℕ → List ℕ
@@ -30,7 +30,7 @@ escapeBytes ds (b ∷ r) = escapeByte ds b ++ escapeBytes ds r
 
 -- "`\X2222\`"
 abbrev pub twoQuotes : List ℕ → List ℕ
-twoQuotes ds = escapeOf ds ∷ 88 ∷ 50 ∷ 50 ∷ 50 ∷ 50 ∷ escapeOf ds ∷ []
+twoQuotes ds = escapeOf ds ∷ (ascii "X2222" ++ escapeOf ds ∷ [])
 
 -- "text that is exactly two quotes is written `\X2222\`, so that it isn't null"
 unfoldable pub escape : List ℕ → List ℕ → List ℕ

@@ -6,7 +6,7 @@ use mathlib.Core.List.{List, [], _∷_, _++_}
 use mathlib.Core.Bool.{true, false}
 use lib.ListN.{length}
 use Rattle.alphabet.specs.Lists.{find}
-use Rattle.alphabet.specs.Bytes.{printable}
+use Rattle.alphabet.specs.Bytes.{ascii, printable}
 use Rattle.alphabet.specs.Delimiters.{firstWrongDelimiter}
 use Rattle.alphabet.specs.declared.answers.Refusal.{Refusal}
 use Rattle.alphabet.specs.declared.answers.Refusal.the-variants.{Delimiter, NotAllowed, Separator, UnknownEscape, UnclosedEscape, NoRoom, NullText}
@@ -41,7 +41,7 @@ pub record Refuses (ds s : List ℕ) (k : Refusal) (place : ℕ) : Type 0 where
 -- "Unescaping: 3, then 15, then the leftmost of 4, 11, 12, 13, then 14.": each outcome, and when it is
 pub data Unescapes (ds s : List ℕ) (room : ℕ) : Outcome → Type 0 where
   delimiter : firstWrongDelimiter ds < 5 → Unescapes ds s room (fault Delimiter (firstWrongDelimiter ds))
-  null : 5 ≤ firstWrongDelimiter ds → s ≡ 34 ∷ 34 ∷ [] → Unescapes ds s room (fault NullText 0)
-  refused : 5 ≤ firstWrongDelimiter ds → (s ≡ 34 ∷ 34 ∷ [] → ⊥) → (k : Refusal) (p : ℕ) → Refuses ds s k p → Unescapes ds s room (fault k p)
-  long : 5 ≤ firstWrongDelimiter ds → (s ≡ 34 ∷ 34 ∷ [] → ⊥) → (t : List ℕ) → Reads ds s t → room < length t → Unescapes ds s room (fault NoRoom 0)
-  written : 5 ≤ firstWrongDelimiter ds → (s ≡ 34 ∷ 34 ∷ [] → ⊥) → (t : List ℕ) → Reads ds s t → length t ≤ room → Unescapes ds s room (text t)
+  null : 5 ≤ firstWrongDelimiter ds → s ≡ ascii "\"\"" → Unescapes ds s room (fault NullText 0)
+  refused : 5 ≤ firstWrongDelimiter ds → (s ≡ ascii "\"\"" → ⊥) → (k : Refusal) (p : ℕ) → Refuses ds s k p → Unescapes ds s room (fault k p)
+  long : 5 ≤ firstWrongDelimiter ds → (s ≡ ascii "\"\"" → ⊥) → (t : List ℕ) → Reads ds s t → room < length t → Unescapes ds s room (fault NoRoom 0)
+  written : 5 ≤ firstWrongDelimiter ds → (s ≡ ascii "\"\"" → ⊥) → (t : List ℕ) → Reads ds s t → length t ≤ room → Unescapes ds s room (text t)

@@ -5,7 +5,7 @@ use mathlib.Core.Bool.{Bool, false, cond, _&&_}
 use lib.ListN.{length, getD, take}
 use lib.Dec.{ltb, eqb}
 use Rattle.alphabet.specs.Lists.{find}
-use Rattle.alphabet.specs.Bytes.{printable}
+use Rattle.alphabet.specs.Bytes.{byteOf, printable}
 use Rattle.alphabet.specs.Hex.{allHex, pairsOf}
 use Rattle.alphabet.specs.declared.answers.Refusal.{Refusal}
 use Rattle.alphabet.specs.declared.answers.Refusal.the-variants.{NotAllowed, Separator, UnknownEscape, UnclosedEscape}
@@ -15,7 +15,7 @@ use Rattle.text.specs.Escape.{letters, escapeOf}
 unfoldable pub known : List ℕ → Bool
 known [] = false
 known (l ∷ []) = ltb (find l letters) 5
-known (l ∷ a ∷ r) = eqb l 88 && allHex (a ∷ r)
+known (l ∷ a ∷ r) = eqb l (byteOf "X") && allHex (a ∷ r)
 
 -- the bytes that it says
 unfoldable pub meaning : List ℕ → List ℕ → List ℕ

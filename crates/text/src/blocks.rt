@@ -10,7 +10,8 @@ ghost use Rattle.text.specs.Escape.{escapeByte, escapeBytes};
 fn written_length(delimiters: Delimiters, b: u8) -> u8
     ensures { λ r. ⌜ r ≡ length (escapeByte (delimiters .bytes) b) ⌝ }
 {
-    let delimiter = plain::is_delimiter(delimiters, b);
+    let five = delimiters.bytes;
+    let delimiter = alphabet::is_among(five, b);
     let plain = alphabet::is_printable(b);
     if delimiter {
         return 3;

@@ -3,9 +3,9 @@ use crate::answers::refused;
 use crate::blocks::block_length;
 use crate::pieces::put_written;
 use alphabet::Answer;
+use alphabet::BLOCK;
 use alphabet::Delimiters;
 use alphabet::Refusal;
-use plain::BLOCK_LENGTH;
 use plain::plain_run;
 ghost use mathlib.Core.Path.{_≡_};
 ghost use Prim.Native.Nat.{_≤_};
@@ -27,13 +27,13 @@ fn escaped_length(delimiters: Delimiters, text: &[u8], room: usize) -> Room
 {
     let mut n = 0;
     let mut i = 0;
-    while BLOCK_LENGTH <= text.len() - i {
-        let more = block_length(delimiters, &text[i..i + BLOCK_LENGTH]);
+    while BLOCK <= text.len() - i {
+        let more = block_length(delimiters, &text[i..i + BLOCK]);
         if room - n < more {
             return Room::Short;
         }
         n += more;
-        i += BLOCK_LENGTH;
+        i += BLOCK;
     }
     let last = block_length(delimiters, &text[i..]);
     if room - n < last {

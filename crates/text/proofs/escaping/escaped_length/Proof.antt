@@ -11,7 +11,7 @@ use Rattle.text.specs.Escape.{escapeBytes}
 use Rattle.text.specs.Answers.{roomFor}
 use Rattle.text.proofs.PieceLaws.{length-part}
 use Rattle.text.proofs.OutcomeLaws.{room-takes, room-short}
-use Rattle.plain.proofs.PlainLaws.{block-size}
+use Rattle.alphabet.proofs.BlockLaws.{block-size}
 use Rattle.text.proofs.escaping.escaped_length.Statement.{statement}
 use Rattle.text.proofs.escaping.escaped_length.Tie as tie
 

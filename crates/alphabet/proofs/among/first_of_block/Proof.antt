@@ -1,4 +1,4 @@
--- Rests on `least-step`: the least place so far is the first special byte's, where that stands before i, and else the block's end.
+-- Rests on `least-step`: the least place so far is the first stop's, where that stands before i, and else the block's end.
 use Prim.Native.Nat.{ℕ, _≤_, _+_, _-_}
 use mathlib.Core.Path.{_≡_, sym, ap₂, _∙_}
 use mathlib.Core.Bool.{Bool, cond, _&&_}
@@ -6,36 +6,35 @@ use lib.Dec.{ltb}
 use native.Mathlib.Omega.{arith}
 use borrow.Author.Needs.{needs}
 use denote.Ref.{now}
-use Rattle.plain.specs.Plain.{special}
-use Rattle.plain.proofs.PlainLaws.{leastOf, least-begin, least-most, least-step, least-end}
-use Rattle.plain.proofs.runs.first_of_block.Statement.{statement}
-use Rattle.plain.proofs.runs.first_of_block.Tie as tie
+use Rattle.alphabet.specs.Bytes.{stops}
+use Rattle.alphabet.proofs.BlockLaws.{leastOf, least-begin, least-most, least-step, least-end}
+use Rattle.alphabet.proofs.among.first_of_block.Statement.{statement}
+use Rattle.alphabet.proofs.among.first_of_block.Tie as tie
 
 abbrev Inv-loop : tie.InvT-loop
-Inv-loop delimiters block least₀ i₀ least i = (i ≤ 32) × (least ≤ 32) × (least ≡ leastOf (special (delimiters .bytes)) block i)
+Inv-loop block five unprintable least₀ i₀ least i = (i ≤ 32) × (least ≤ 32) × (least ≡ leastOf (stops unprintable five) block i)
 
 abbrev μ-loop : tie.MeasureT-loop
-μ-loop delimiters block least₀ i₀ least i = 32 - i
+μ-loop block five unprintable least₀ i₀ least i = 32 - i
 
 loop-holds : tie.Need-loop-holds Inv-loop μ-loop
 loop-holds c =
     let a = c .before .args in
     let n = c .before .pre in
-    (omega arith, omega arith, sym n ∙ least-begin (special (a .delimiters .bytes)) (now (a .block)))
+    (omega arith, omega arith, sym n ∙ least-begin (stops (a .unprintable) (a .five)) (now (a .block)))
 
 loop-again : tie.Need-loop-again Inv-loop μ-loop
 loop-again c =
     let l = c .before .before .before .before in
     let a = l .before .before .args in
-    let ds = a .delimiters .bytes in
     let s = now (a .block) in
     let i = l .loop .i in
     let n = l .before .before .pre in
-    let m = least-most (special ds) s (i + 1) in
+    let m = least-most (stops (a .unprintable) (a .five)) s (i + 1) in
     let e =
     c .nearer .ensures
-    ∙ ap₂ (λ (t : Bool) (k : ℕ). cond (t && ltb i k) i k) (c .before .is-special .ensures) (l .loop .inv .2)
-    ∙ least-step (special ds) s i (omega arith) in
+    ∙ ap₂ (λ (t : Bool) (k : ℕ). cond (t && ltb i k) i k) (c .before .is-stop .ensures) (l .loop .inv .2)
+    ∙ least-step (stops (a .unprintable) (a .five)) s i (omega arith) in
     (omega arith, omega (arith, e), e)
 
 returns : tie.Need-returns Inv-loop μ-loop
@@ -43,7 +42,7 @@ returns c =
     let l = c .before in
     let a = l .before .before .args in
     let n = l .before .before .pre in
-    l .loop .inv .2 ∙ least-end (special (a .delimiters .bytes)) (now (a .block)) (l .loop .i) (omega arith)
+    l .loop .inv .2 ∙ least-end (stops (a .unprintable) (a .five)) (now (a .block)) (l .loop .i) (omega arith)
 
 pub first-of-block-spec : {M : Type 1} → statement M
 first-of-block-spec =
