@@ -20,10 +20,10 @@ use Rattle.alphabet.specs.Parts.{join}
 use Rattle.alphabet.specs.declared.answers.Refusal.the-variants.{AcknowledgementTooLong}
 use Rattle.reading.specs.Segments.{delimitersOf, fieldSeparator}
 use Rattle.reading.specs.Message.{ended}
-use Rattle.text.specs.Escape.{escape}
-use Rattle.text.specs.Unescape.{text, fault}
-use Rattle.text.specs.Answers.{escaping}
-use Rattle.text.proofs.OutcomeLaws.{escape-most, escaping-fits}
+use Rattle.escaping.specs.Escape.{escape}
+use Rattle.escaping.specs.Outcomes.{text, fault}
+use Rattle.escaping.specs.Outcomes.{escaping}
+use Rattle.escaping.proofs.OutcomeLaws.{escape-most, escaping-fits}
 use Rattle.acknowledgement.specs.Acknowledgement.{sent, typePart, present, encoding, typeSent, version, headerParts, lettersOf, answerParts, acknowledgement, roomy}
 use Rattle.acknowledgement.specs.Pieces.{together, least, pieces, chosen, texts}
 use Rattle.acknowledgement.specs.declared.letters.Code.{Code}

@@ -7,7 +7,7 @@ use crate::sender::is_present;
 use crate::sender::type_part;
 use alphabet::Answer;
 use alphabet::Refusal;
-use text::Room;
+use escaping::Room;
 ghost use mathlib.Core.Path.{_≡_};
 ghost use Rattle.alphabet.specs.Delimiters.{firstWrongDelimiter};
 ghost use Rattle.alphabet.specs.Limits.{idLimit};
@@ -16,7 +16,7 @@ ghost use Prim.Native.Nat.{_≤_};
 ghost use lib.ListN.{length};
 ghost use Rattle.alphabet.specs.Filling.{over};
 ghost use Rattle.reading.specs.Segments.{delimitersOf};
-ghost use Rattle.text.specs.Answers.{roomFor, answer, filled};
+ghost use Rattle.escaping.specs.Outcomes.{roomFor, answer, filled};
 ghost use Rattle.acknowledgement.specs.Acknowledgement.{roomy, acknowledgement};
 ghost use Rattle.acknowledgement.specs.Pieces.{together, eventMark, event, pieces, chosen, texts, least};
 
@@ -241,7 +241,7 @@ pub fn write<'a>(
 {
     let delimiters = reading::delimiters_of(header);
     let mut escaped = id_buffer();
-    let written = text::escape(delimiters, id, &mut escaped);
+    let written = escaping::escape(delimiters, id, &mut escaped);
     let n = written.length;
     write_texts(header, time, &escaped[..n], code, buffer)
 }

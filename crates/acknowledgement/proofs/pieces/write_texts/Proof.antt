@@ -6,7 +6,7 @@ use lib.ListN.{length}
 use borrow.Author.Needs.{needs}
 use denote.Ref.{now}
 use Rattle.alphabet.specs.Bytes.{carriageReturn, ascii}
-use Rattle.text.specs.Answers.{answer, filled}
+use Rattle.escaping.specs.Outcomes.{answer, filled}
 use Rattle.acknowledgement.specs.Acknowledgement.{version, roomy}
 use Rattle.acknowledgement.specs.Pieces.{together, pieces, texts}
 use Rattle.acknowledgement.proofs.pieces.write_texts.Statement.{statement}

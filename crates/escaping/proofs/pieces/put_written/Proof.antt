@@ -7,12 +7,12 @@ use native.Mathlib.Omega.{arith}
 use denote.Ref.{now}
 use borrow.Author.Needs.{needs}
 use Rattle.alphabet.specs.Bytes.{hexDigit}
-use Rattle.text.specs.Escape.{letters, escapeOf, escapeByte}
+use Rattle.escaping.specs.Escape.{letters, escapeOf, escapeByte}
 use Rattle.alphabet.specs.Filling.{pasted}
-use Rattle.text.proofs.PieceLaws.{written-letter, written-plain, written-hex}
+use Rattle.escaping.proofs.PieceLaws.{written-letter, written-plain, written-hex}
 use Rattle.alphabet.proofs.FillingLaws.{set-pasted, three-pasted, five-pasted}
-use Rattle.text.proofs.pieces.put_written.Statement.{statement}
-use Rattle.text.proofs.pieces.put_written.Tie as tie
+use Rattle.escaping.proofs.pieces.put_written.Statement.{statement}
+use Rattle.escaping.proofs.pieces.put_written.Tie as tie
 
 letter : (c : tie.Then1)
     → let a = c .before .before .before .before .args in

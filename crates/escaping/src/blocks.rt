@@ -4,7 +4,7 @@ use alphabet::Delimiters;
 ghost use mathlib.Core.Path.{_≡_};
 ghost use Prim.Native.Nat.{_≤_};
 ghost use lib.ListN.{length};
-ghost use Rattle.text.specs.Escape.{escapeByte, escapeBytes};
+ghost use Rattle.escaping.specs.Escape.{escapeByte, escapeBytes};
 
 // How many bytes the byte b is written as.
 fn written_length(delimiters: Delimiters, b: u8) -> u8

@@ -3,9 +3,9 @@ use mathlib.Core.Path.{refl, sym, ap, _∙_}
 use lib.ListN.{length}
 use borrow.Author.Needs.{needs}
 use borrow.Author.Tests.{ltb-true, ltb-false}
-use Rattle.text.proofs.PieceLaws.{written-letter, written-plain, written-hex}
-use Rattle.text.proofs.blocks.written_length.Statement.{statement}
-use Rattle.text.proofs.blocks.written_length.Tie as tie
+use Rattle.escaping.proofs.PieceLaws.{written-letter, written-plain, written-hex}
+use Rattle.escaping.proofs.blocks.written_length.Statement.{statement}
+use Rattle.escaping.proofs.blocks.written_length.Tie as tie
 
 returns : tie.Need-returns
 returns c =

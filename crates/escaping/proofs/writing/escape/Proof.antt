@@ -7,12 +7,12 @@ use denote.Ref.{now}
 use borrow.Author.Needs.{needs}
 use Rattle.alphabet.specs.declared.answers.Refusal.the-variants.{None, Delimiter}
 use Rattle.alphabet.specs.declared.answers.Answer.{Answer}
-use Rattle.text.specs.Unescape.{fault}
-use Rattle.text.specs.Answers.{answer, filled}
+use Rattle.escaping.specs.Outcomes.{fault}
+use Rattle.escaping.specs.Outcomes.{answer, filled}
 use Rattle.alphabet.proofs.FillingLaws.{put-fits}
-use Rattle.text.proofs.OutcomeLaws.{ended, takes-is, short-is, escape-null, escape-other, escaping-bad, escaping-fits, escaping-long}
-use Rattle.text.proofs.escaping.escape.Statement.{statement}
-use Rattle.text.proofs.escaping.escape.Tie as tie
+use Rattle.escaping.proofs.OutcomeLaws.{ended, takes-is, short-is, escape-null, escape-other, escaping-bad, escaping-fits, escaping-long}
+use Rattle.escaping.proofs.writing.escape.Statement.{statement}
+use Rattle.escaping.proofs.writing.escape.Tie as tie
 
 abbrev made : ℕ → Answer
 made n = record { kind = None; place = 0; length = n }

@@ -4,7 +4,7 @@ use alphabet::Delimiters;
 ghost use mathlib.Core.Path.{_≡_};
 ghost use Prim.Native.Nat.{_+_, _≤_};
 ghost use lib.ListN.{length};
-ghost use Rattle.text.specs.Escape.{escapeByte};
+ghost use Rattle.escaping.specs.Escape.{escapeByte};
 ghost use Rattle.alphabet.specs.Filling.{pasted};
 
 // The letter of each delimiter, in the delimiters' order: F S R E T.

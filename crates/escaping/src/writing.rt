@@ -1,4 +1,5 @@
 // Writing a text: it is measured first, so that a text that does not fit writes nothing.
+use crate::answers::Room;
 use crate::answers::refused;
 use crate::blocks::block_length;
 use crate::pieces::put_written;
@@ -10,15 +11,9 @@ use plain::plain_run;
 ghost use mathlib.Core.Path.{_≡_};
 ghost use Prim.Native.Nat.{_≤_};
 ghost use lib.ListN.{length};
-ghost use Rattle.text.specs.Escape.{escapeBytes};
+ghost use Rattle.escaping.specs.Escape.{escapeBytes};
 ghost use Rattle.alphabet.specs.Filling.{over};
-ghost use Rattle.text.specs.Answers.{roomFor, escaping, answer, filled};
-
-// Whether something of a length goes into a room.
-pub enum Room {
-    Takes(usize),
-    Short,
-}
+ghost use Rattle.escaping.specs.Outcomes.{roomFor, escaping, answer, filled};
 
 // The length of a text as it is written, block by block, where that is at most `room`. It is counted against the room, since
 // five times a length need not be a usize.

@@ -8,13 +8,14 @@ use borrow.Author.Needs.{needs}
 use denote.Ref.{now}
 use lib.Seq.{length-take-le}
 use Rattle.alphabet.specs.Lists.{first}
-use Rattle.text.specs.Escape.{escapeBytes}
+use Rattle.escaping.specs.Escape.{escapeBytes}
 use Rattle.plain.specs.Plain.{special}
-use Rattle.text.proofs.PieceLaws.{bytes-next, bytes-end, length-next}
-use Rattle.text.proofs.RunLaws.{run-from, bytes-from, length-from}
+use Rattle.escaping.proofs.PieceLaws.{bytes-next, bytes-end, length-next}
+use Rattle.plain.proofs.PlainLaws.{run-from}
+use Rattle.escaping.proofs.RunLaws.{bytes-from, length-from}
 use Rattle.alphabet.proofs.FillingLaws.{Filling, fill-start, fill-more, fill-room, fill-length, fill-end, put-fits}
-use Rattle.text.proofs.escaping.write_escaped.Statement.{statement}
-use Rattle.text.proofs.escaping.write_escaped.Tie as tie
+use Rattle.escaping.proofs.writing.write_escaped.Statement.{statement}
+use Rattle.escaping.proofs.writing.write_escaped.Tie as tie
 
 abbrev Inv-loop : tie.InvT-loop
 Inv-loop delimiters text buffer₀ place₀ i₀ buffer place i = (i ≤ length text) × Filling (escapeBytes (delimiters .bytes) text) buffer₀ (escapeBytes (delimiters .bytes) (drop i text)) buffer place

@@ -7,13 +7,13 @@ use native.Mathlib.Omega.{arith}
 use native.Mathlib.Nat.{zero-add}
 use denote.Ref.{now}
 use Rattle.alphabet.proofs.ListLaws.{rest-of}
-use Rattle.text.specs.Escape.{escapeBytes}
-use Rattle.text.specs.Answers.{roomFor}
-use Rattle.text.proofs.PieceLaws.{length-part}
-use Rattle.text.proofs.OutcomeLaws.{room-takes, room-short}
+use Rattle.escaping.specs.Escape.{escapeBytes}
+use Rattle.escaping.specs.Outcomes.{roomFor}
+use Rattle.escaping.proofs.PieceLaws.{length-part}
+use Rattle.escaping.proofs.OutcomeLaws.{room-takes, room-short}
 use Rattle.alphabet.proofs.BlockLaws.{block-size}
-use Rattle.text.proofs.escaping.escaped_length.Statement.{statement}
-use Rattle.text.proofs.escaping.escaped_length.Tie as tie
+use Rattle.escaping.proofs.writing.escaped_length.Statement.{statement}
+use Rattle.escaping.proofs.writing.escaped_length.Tie as tie
 
 abbrev Inv-loop : tie.InvT-loop
 Inv-loop delimiters text room n₀ i₀ n i = (i ≤ length text) × (n ≤ room) × (length (escapeBytes (delimiters .bytes) text) ≡ n + length (escapeBytes (delimiters .bytes) (drop i text)))

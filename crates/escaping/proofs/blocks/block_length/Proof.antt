@@ -6,11 +6,11 @@ use native.Mathlib.Omega.{arith}
 use native.Mathlib.Nat.{zero-add}
 use borrow.Author.Needs.{needs}
 use denote.Ref.{now}
-use Rattle.text.specs.Escape.{escapeBytes}
-use Rattle.text.proofs.PieceLaws.{length-next, length-end}
-use Rattle.text.proofs.OutcomeLaws.{byte-most}
-use Rattle.text.proofs.blocks.block_length.Statement.{statement}
-use Rattle.text.proofs.blocks.block_length.Tie as tie
+use Rattle.escaping.specs.Escape.{escapeBytes}
+use Rattle.escaping.proofs.PieceLaws.{length-next, length-end}
+use Rattle.escaping.proofs.OutcomeLaws.{byte-most}
+use Rattle.escaping.proofs.blocks.block_length.Statement.{statement}
+use Rattle.escaping.proofs.blocks.block_length.Tie as tie
 
 abbrev Inv-loop : tie.InvT-loop
 Inv-loop delimiters block n₀ i₀ n i = (i ≤ length block) × (n ≤ 5 * i) × (length (escapeBytes (delimiters .bytes) block) ≡ n + length (escapeBytes (delimiters .bytes) (drop i block)))

@@ -9,7 +9,7 @@ use borrow.Author.Tests.{lt-ltb, le-ltb}
 use Rattle.alphabet.proofs.ListLaws.{drop-next}
 use Rattle.alphabet.specs.Lists.{find}
 use Rattle.alphabet.specs.Bytes.{printable, hexDigit}
-use Rattle.text.specs.Escape.{letters, escapeOf, escapeByte, escapeBytes}
+use Rattle.escaping.specs.Escape.{letters, escapeOf, escapeByte, escapeBytes}
 
 -- ---- what one byte is written as
 
