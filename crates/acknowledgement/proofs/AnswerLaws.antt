@@ -13,8 +13,8 @@ use Rattle.alphabet.specs.Limits.{messageLimit}
 use Rattle.alphabet.specs.declared.answers.Answer.{Answer}
 use Rattle.alphabet.specs.declared.answers.Refusal.the-variants.{None, NotAcknowledgeable, AcknowledgementTooLong, CallersTime, CallersId}
 use Rattle.times.specs.Times.{isTs}
-use Rattle.text.specs.Unescape.{Outcome, text, fault}
-use Rattle.text.specs.Answers.{answer, filled}
+use Rattle.escaping.specs.Outcomes.{Outcome, text, fault}
+use Rattle.escaping.specs.Outcomes.{answer, filled}
 use Rattle.acknowledgement.specs.Acknowledgement.{header, badId, acknowledgeable, refusing, codeOf, acknowledgement, roomy, answerTo, Acknowledges}
 use Rattle.acknowledgement.specs.Acknowledgement.Acknowledges.{not-written, written}
 use Rattle.verdict.specs.Verdicts.{Verdicts}

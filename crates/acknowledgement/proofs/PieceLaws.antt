@@ -23,10 +23,10 @@ use Rattle.alphabet.specs.declared.answers.Refusal.the-variants.{Acknowledgemen
 use Rattle.reading.specs.Segments.{isHeader, delimitersOf, fieldSeparator}
 use Rattle.reading.specs.Message.{ended}
 use Rattle.element.specs.States.{stateOf}
-use Rattle.text.specs.Escape.{escape}
-use Rattle.text.specs.Unescape.{text, fault}
-use Rattle.text.specs.Answers.{escaping}
-use Rattle.text.proofs.OutcomeLaws.{escape-most, escaping-fits}
+use Rattle.escaping.specs.Escape.{escape}
+use Rattle.escaping.specs.Outcomes.{text, fault}
+use Rattle.escaping.specs.Outcomes.{escaping}
+use Rattle.escaping.proofs.OutcomeLaws.{escape-most, escaping-fits}
 use Rattle.acknowledgement.specs.Acknowledgement.{sent, typePart, present, encoding, typeSent, version, headerParts, answerParts, acknowledgement, roomy}
 use Rattle.acknowledgement.specs.Pieces.{together, least, eventMark, event, fixedText, pieces}
 use Rattle.acknowledgement.specs.declared.letters.Code.{Code}

@@ -23,9 +23,9 @@ use Rattle.element.specs.Finding.{rawBytes}
 use Rattle.element.specs.States.{stateOf, isPresent}
 use Rattle.element.specs.declared.address.Address.{Address}
 use Rattle.times.specs.Times.{isTs}
-use Rattle.text.specs.Escape.{escape}
-use Rattle.text.specs.Unescape.{Outcome, text, fault}
-use Rattle.text.specs.Answers.{answer, filled}
+use Rattle.escaping.specs.Escape.{escape}
+use Rattle.escaping.specs.Outcomes.{Outcome, text, fault}
+use Rattle.escaping.specs.Outcomes.{answer, filled}
 use Rattle.verdict.specs.Verdicts.{Verdicts}
 use Rattle.fault.specs.declared.FaultRecord.{FaultRecord}
 use Rattle.acknowledgement.specs.declared.letters.Code.{Code}

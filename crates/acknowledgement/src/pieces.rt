@@ -7,7 +7,7 @@ use crate::sender::is_present;
 use crate::sender::type_part;
 use alphabet::Answer;
 use alphabet::Refusal;
-use text::Room;
+use escaping::Room;
 ghost use mathlib.Core.Path.{_≡_};
 ghost use Rattle.alphabet.specs.Delimiters.{firstWrongDelimiter};
 ghost use Rattle.alphabet.specs.Limits.{idLimit};
@@ -17,7 +17,7 @@ ghost use Prim.Native.Nat.{_≤_};
 ghost use lib.ListN.{length};
 ghost use Rattle.alphabet.specs.Filling.{over};
 ghost use Rattle.reading.specs.Segments.{isHeader, delimitersOf};
-ghost use Rattle.text.specs.Answers.{roomFor, answer, filled};
+ghost use Rattle.escaping.specs.Outcomes.{roomFor, answer, filled};
 ghost use Rattle.acknowledgement.specs.Acknowledgement.{roomy, acknowledgement};
 ghost use Rattle.acknowledgement.specs.Pieces.{together, least, eventMark, event, fixedText, pieces};
 
@@ -206,7 +206,7 @@ pub fn write<'a>(
 {
     let delimiters = reading::delimiters_of(header);
     let mut escaped = id_buffer();
-    let written = text::escape(delimiters, id, &mut escaped);
+    let written = escaping::escape(delimiters, id, &mut escaped);
     let n = written.length;
     let fixed = fixed_text(code);
     write_pieces(header, time, &escaped[..n], &fixed, buffer)

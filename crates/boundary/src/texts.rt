@@ -5,7 +5,8 @@ use alphabet::Delimiters;
 ghost use mathlib.Core.Path.{_≡_};
 ghost use mathlib.Core.List.{[], _∷_};
 ghost use lib.ListN.{length};
-ghost use Rattle.text.specs.Answers.{escaping, unescaping, answer, filled};
+ghost use Rattle.escaping.specs.Outcomes.{escaping, answer, filled};
+ghost use Rattle.text.specs.Unescape.{unescaping};
 ghost use Rattle.boundary.specs.Seen.{seen, AcknowledgeSeen};
 
 // Escapes a text, under the five delimiters in the message's order.
@@ -25,7 +26,7 @@ pub extern "C" fn turrethog_escape(
     let delimiters = Delimiters {
         bytes: [field, component, repetition, escape, subcomponent],
     };
-    shown(text::escape(delimiters, text, buffer))
+    shown(escaping::escape(delimiters, text, buffer))
 }
 
 // Unescapes a text, under the five delimiters in the message's order.

@@ -15,9 +15,9 @@ use Rattle.alphabet.specs.Lists.{first, find}
 use Rattle.alphabet.proofs.BoolLaws.{and-both, both-and, false-true}
 use Rattle.alphabet.proofs.DelimiterLaws.{delimiter-own}
 use Rattle.alphabet.proofs.ListLaws.{find-is}
-use Rattle.text.specs.Escape.{letters, escapeByte}
+use Rattle.escaping.specs.Escape.{letters, escapeByte}
 use Rattle.text.specs.Unescape.{known, meaning}
-use Rattle.text.proofs.PieceLaws.{written-letter}
+use Rattle.escaping.proofs.PieceLaws.{written-letter}
 use Rattle.grammars.specs.Escapes.{Letter, F, S, T, R, E, Pairs, none, pair, Escapes, letter, hex}
 use Rattle.laws.proofs.RoundTrip.{AreBytes}
 use Rattle.grammars.proofs.TableLaws.{hex-table}

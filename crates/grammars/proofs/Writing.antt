@@ -13,10 +13,10 @@ use Rattle.alphabet.specs.Lists.{find}
 use Rattle.alphabet.proofs.BoolLaws.{false-true, or-neither, neither-or}
 use Rattle.alphabet.proofs.ListLaws.{find-is, find-own}
 use Rattle.alphabet.proofs.NullLaws.{two-quotes as null-quotes, other-quotes, not-quotes}
-use Rattle.text.specs.Escape.{letters, escapeByte, escapeBytes, twoQuotes}
-use Rattle.text.specs.Escape as Text
-use Rattle.text.proofs.PieceLaws.{written-letter, written-plain, written-hex}
-use Rattle.text.proofs.OutcomeLaws.{escape-null, escape-other}
+use Rattle.escaping.specs.Escape.{letters, escapeByte, escapeBytes, twoQuotes}
+use Rattle.escaping.specs.Escape as Text
+use Rattle.escaping.proofs.PieceLaws.{written-letter, written-plain, written-hex}
+use Rattle.escaping.proofs.OutcomeLaws.{escape-null, escape-other}
 use Rattle.laws.proofs.RoundTrip.{AreBytes}
 use Rattle.grammars.specs.Escapes.{Letter, F, S, T, R, E, NoDelimiter, ownHex, WritesByte, by-letter, not-allowed, return, plainly, WritesBytes, end, next, Writes, two-quotes, other}
 use Rattle.grammars.specs.Tables.{marked, allowedBytes}

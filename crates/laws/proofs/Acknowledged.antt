@@ -34,9 +34,10 @@ use Rattle.element.specs.declared.address.Address.{Address}
 use Rattle.laws.proofs.HeaderLaws.{first-segment as begins}
 use Rattle.laws.proofs.RawLaws.{raw-header, raw-component}
 use Rattle.times.specs.Times.{isTs}
-use Rattle.text.specs.Escape.{escape}
-use Rattle.text.specs.Unescape.{text, fault}
-use Rattle.text.specs.Answers.{fitting, unescaping, answer, filled}
+use Rattle.escaping.specs.Escape.{escape}
+use Rattle.escaping.specs.Outcomes.{text, fault}
+use Rattle.escaping.specs.Outcomes.{fitting, answer, filled}
+use Rattle.text.specs.Unescape.{unescaping}
 use Rattle.laws.proofs.RoundTrip.{AreBytes, round-trip}
 use Rattle.element.specs.States.{stateOf, isPresent}
 use Rattle.element.specs.declared.states.State.{State}

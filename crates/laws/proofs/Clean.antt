@@ -16,12 +16,13 @@ use Rattle.alphabet.specs.Lists.{find}
 use Rattle.alphabet.specs.Bytes.{fromTo, printable, hexDigit, isNull}
 use Rattle.alphabet.specs.Delimiters.{punctuation, neverDelimiter, permitted, firstWrongDelimiter}
 use Rattle.alphabet.specs.declared.answers.Refusal.the-variants.{None}
-use Rattle.text.specs.Escape.{letters, escapeOf, escapeByte, escapeBytes, twoQuotes, escape}
-use Rattle.text.specs.Unescape.{Outcome, text}
+use Rattle.escaping.specs.Escape.{letters, escapeOf, escapeByte, escapeBytes, twoQuotes, escape}
+use Rattle.escaping.specs.Outcomes.{Outcome, text}
 use Rattle.alphabet.specs.Filling.{over}
-use Rattle.text.specs.Answers.{fitting, escaping, unescaping, answer, filled}
-use Rattle.text.proofs.PieceLaws.{written-letter, written-plain, written-hex}
-use Rattle.text.proofs.OutcomeLaws.{escape-null, escape-other}
+use Rattle.escaping.specs.Outcomes.{fitting, escaping, answer, filled}
+use Rattle.text.specs.Unescape.{unescaping}
+use Rattle.escaping.proofs.PieceLaws.{written-letter, written-plain, written-hex}
+use Rattle.escaping.proofs.OutcomeLaws.{escape-null, escape-other}
 use Rattle.laws.proofs.EscapeTable.{letter-back, digit-back, letter-printable, digit-printable}
 use Rattle.laws.proofs.RoundTrip.{AreBytes, absent, round-trip}
 

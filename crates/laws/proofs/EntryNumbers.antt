@@ -36,8 +36,9 @@ use Rattle.times.specs.declared.moments.ReadTime.{ReadTime}
 use Rattle.value.specs.declared.asked.NumberFound.{NumberFound}
 use Rattle.value.specs.declared.asked.TimeFound.{TimeFound}
 use Rattle.value.proofs.AskedLaws.{number-present, number-other, time-present, time-other}
-use Rattle.text.specs.Unescape.{Outcome, text, fault}
-use Rattle.text.specs.Answers.{escaping, unescaping, answer, filled}
+use Rattle.escaping.specs.Outcomes.{Outcome, text, fault}
+use Rattle.escaping.specs.Outcomes.{escaping, answer, filled}
+use Rattle.text.specs.Unescape.{unescaping}
 use Rattle.structure.specs.Listed.{In, here, there}
 use Rattle.structure.specs.SegmentNames.{segmentNames}
 use Rattle.structure.specs.Judged.{accepted, refused, Structured, no-structure, by, Answers, unread, read}

@@ -12,7 +12,7 @@ use Rattle.alphabet.proofs.DelimiterLaws.{delimiter-permitted}
 use Rattle.alphabet.specs.Lists.{first, find}
 use Rattle.alphabet.specs.Bytes.{printable, hexOf, hexDigit}
 use Rattle.alphabet.specs.Delimiters.{permitted, firstWrongDelimiter}
-use Rattle.text.specs.Escape.{letters, escapeOf}
+use Rattle.escaping.specs.Escape.{letters, escapeOf}
 
 -- ---- a test of every number below n, computed
 

@@ -18,9 +18,10 @@ use Rattle.alphabet.specs.Bytes.{printable, isNull}
 use Rattle.alphabet.specs.Delimiters.{firstWrongDelimiter}
 use Rattle.alphabet.specs.declared.answers.Refusal.{Refusal}
 use Rattle.alphabet.specs.declared.answers.Refusal.the-variants.{NotAllowed, Separator, UnknownEscape, UnclosedEscape}
-use Rattle.text.specs.Escape.{escapeOf, escape}
-use Rattle.text.specs.Unescape.{known, meaning, Outcome, text, fault, before, scan}
-use Rattle.text.specs.Answers.{unescaping}
+use Rattle.escaping.specs.Escape.{escapeOf, escape}
+use Rattle.text.specs.Unescape.{known, meaning, before, scan}
+use Rattle.escaping.specs.Outcomes.{Outcome, text, fault}
+use Rattle.text.specs.Unescape.{unescaping}
 use Rattle.text.specs.Reads.{Reads, done, plain, escaped, Stops, unprintable, separator, unknown, unclosed, Refuses, Unescapes, delimiter, null, refused, long, written}
 use Rattle.text.proofs.StepLaws.{step-unknown, step-unclosed, step-unprintable, step-separator, step-plain, scan-emit, scan-stop, before-before, before-none}
 use Rattle.text.proofs.OutcomeLaws.{unescaping-bad, unescaping-null, unescaping-fault, unescaping-fits, unescaping-long}

@@ -10,9 +10,11 @@ use Rattle.alphabet.specs.Bytes.{printable, isNull}
 use Rattle.alphabet.specs.Delimiters.{firstWrongDelimiter}
 use Rattle.alphabet.specs.Answers.{numberOf}
 use Rattle.alphabet.specs.declared.answers.Refusal.the-variants.{Delimiter, NotAllowed, Separator, UnknownEscape, UnclosedEscape, NoRoom, NullText}
-use Rattle.text.specs.Escape.{escapeOf, escape}
-use Rattle.text.specs.Unescape.{known, meaning, Step, stop, emit, sequence, step, Outcome, text, fault, before, after, scan}
-use Rattle.text.specs.Answers.{fitting, escaping, unescaping, answer}
+use Rattle.escaping.specs.Escape.{escapeOf, escape}
+use Rattle.text.specs.Unescape.{known, meaning, Step, stop, emit, sequence, step, before, after, scan}
+use Rattle.escaping.specs.Outcomes.{Outcome, text, fault}
+use Rattle.escaping.specs.Outcomes.{fitting, escaping, answer}
+use Rattle.text.specs.Unescape.{unescaping}
 use Rattle.structure.specs.Listed.{In}
 use Rattle.laws.specs.Entries.{ofEscaping, ofUnescaping}
 use Rattle.laws.proofs.Among.{among}

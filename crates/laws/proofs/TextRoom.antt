@@ -10,9 +10,9 @@ use borrow.Author.Tests.{leb-true}
 use Rattle.alphabet.specs.Delimiters.{firstWrongDelimiter}
 use Rattle.alphabet.specs.Filling.{over}
 use Rattle.alphabet.specs.declared.answers.Refusal.the-variants.{Delimiter, NoRoom}
-use Rattle.text.specs.Escape.{escape}
-use Rattle.text.specs.Unescape.{text, fault}
-use Rattle.text.specs.Answers.{fitting, escaping, answer, filled}
+use Rattle.escaping.specs.Escape.{escape}
+use Rattle.escaping.specs.Outcomes.{text, fault}
+use Rattle.escaping.specs.Outcomes.{fitting, escaping, answer, filled}
 
 over-length : (t d : List ℕ) → length t ≤ length d → length (over t d) ≡ length d
 over-length t d h = let a = length-append t (drop (length t) d) in let n = length-drop (length t) d in omega arith

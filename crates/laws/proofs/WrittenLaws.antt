@@ -26,7 +26,7 @@ use Rattle.element.specs.Finding.{rawBytes}
 use Rattle.laws.proofs.RawLaws.{raw-component}
 use Rattle.times.specs.Times.{isTs}
 use Rattle.laws.proofs.ValueBytes.{time-each, digit-none}
-use Rattle.text.specs.Escape.{escape}
+use Rattle.escaping.specs.Escape.{escape}
 use Rattle.laws.proofs.RoundTrip.{AreBytes}
 use Rattle.laws.proofs.Clean.{MayStand, never-separator}
 use Rattle.alphabet.specs.declared.answers.Refusal.the-variants.{None}

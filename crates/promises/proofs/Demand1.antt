@@ -13,8 +13,9 @@ use Rattle.reading.specs.Reading.{reading}
 use Rattle.element.specs.Finding.{found}
 use Rattle.element.specs.declared.address.Address.{Address}
 use Rattle.value.specs.Asked.{nmFound, siFound, dtFound, tmFound, tsFound}
-use Rattle.text.specs.Unescape.{Outcome, text, fault}
-use Rattle.text.specs.Answers.{escaping, unescaping, answer, filled}
+use Rattle.escaping.specs.Outcomes.{Outcome, text, fault}
+use Rattle.escaping.specs.Outcomes.{escaping, answer, filled}
+use Rattle.text.specs.Unescape.{unescaping}
 use Rattle.structure.specs.Listed.{In}
 use Rattle.structure.specs.Judged.{Answers}
 use Rattle.fault.specs.declared.FaultRecord.{FaultRecord}

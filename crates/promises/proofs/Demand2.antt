@@ -11,8 +11,9 @@ use Rattle.alphabet.specs.Delimiters.{firstWrongDelimiter}
 use Rattle.alphabet.specs.Filling.{over}
 use Rattle.alphabet.specs.declared.answers.Answer.{Answer}
 use Rattle.alphabet.specs.declared.answers.Refusal.the-variants.{None}
-use Rattle.text.specs.Escape.{escape}
-use Rattle.text.specs.Answers.{escaping, unescaping, answer, filled}
+use Rattle.escaping.specs.Escape.{escape}
+use Rattle.escaping.specs.Outcomes.{escaping, answer, filled}
+use Rattle.text.specs.Unescape.{unescaping}
 use Rattle.acknowledgement.specs.Acknowledgement.{Acknowledges}
 use Rattle.laws.proofs.Acknowledged.{reads-back, of-type, yields-ack, fits-ack, named-so, counted, carries-id, identified-sender, told, own-delimiters, crossed, stamped, with-event, without-event, own-id, callers-id, accepts-exactly, refuses-exactly}
 use Rattle.laws.proofs.Clean.{both-ways}

@@ -11,7 +11,8 @@ use Rattle.alphabet.specs.Answers.{numberOf}
 use Rattle.alphabet.specs.declared.answers.Check.the-variants.{Passes}
 use Rattle.alphabet.specs.declared.answers.Refusal.the-variants.{None, SegmentMisplaced, EndedEarly}
 use Rattle.reading.specs.Reading.{reading}
-use Rattle.text.specs.Answers.{escaping, unescaping, answer, filled}
+use Rattle.escaping.specs.Outcomes.{escaping, answer, filled}
+use Rattle.text.specs.Unescape.{unescaping}
 use Rattle.structure.specs.Shapes.{Shape, Yields, names}
 use Rattle.structure.specs.Listed.{In}
 use Rattle.structure.specs.SegmentNames.{segmentNames, kept}

@@ -24,8 +24,8 @@ use Rattle.element.specs.declared.states.State.{State}
 use Rattle.element.specs.declared.states.State.the-variants.{Absent, Empty, Null, Present}
 use Rattle.element.specs.States.{isPresent}
 use Rattle.times.specs.Times.{isTs}
-use Rattle.text.specs.Unescape.{text, fault}
-use Rattle.text.specs.Answers.{answer}
+use Rattle.escaping.specs.Outcomes.{text, fault}
+use Rattle.escaping.specs.Outcomes.{answer}
 use Rattle.acknowledgement.specs.Acknowledgement.{header, sent, typePart, present, passes, badId, acknowledgeable, refusing, roomy, answerTo, Acknowledges}
 use Rattle.acknowledgement.specs.Acknowledgement.Acknowledges.{not-written, written}
 use Rattle.acknowledgement.proofs.HeaderLaws.{return-inside, sound-header, no-time, no-id, no-header}

@@ -7,10 +7,11 @@ use mathlib.Core.List.{List, [], _∷_}
 use Prim.Native.Nat.{ℕ}
 use lib.ListN.{length}
 use Rattle.alphabet.specs.Delimiters.{firstWrongDelimiter}
-use Rattle.text.specs.Escape.{escapeByte}
-use Rattle.text.specs.Escape as Text
-use Rattle.text.specs.Unescape.{known, meaning, Outcome}
-use Rattle.text.specs.Answers.{unescaping}
+use Rattle.escaping.specs.Escape.{escapeByte}
+use Rattle.escaping.specs.Escape as Text
+use Rattle.text.specs.Unescape.{known, meaning}
+use Rattle.escaping.specs.Outcomes.{Outcome}
+use Rattle.text.specs.Unescape.{unescaping}
 use Rattle.text.specs.Reads.{Unescapes}
 use Rattle.laws.proofs.Grammar.{unescapes, unescapes-only}
 use Rattle.laws.proofs.RoundTrip.{AreBytes}

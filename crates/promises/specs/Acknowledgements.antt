@@ -18,9 +18,9 @@ use Rattle.element.specs.Finding.{rawBytes}
 use Rattle.element.specs.States.{stateOf}
 use Rattle.element.specs.declared.address.Address.{Address}
 use Rattle.element.specs.declared.states.State.the-variants.{Present}
-use Rattle.text.specs.Escape.{escape}
-use Rattle.text.specs.Unescape.{text}
-use Rattle.text.specs.Answers.{unescaping}
+use Rattle.escaping.specs.Escape.{escape}
+use Rattle.escaping.specs.Outcomes.{text}
+use Rattle.text.specs.Unescape.{unescaping}
 use Rattle.structure.specs.SegmentNames.{segmentNames}
 use Rattle.element.specs.Addresses.{typeAddress}
 use Rattle.structure.specs.Structures.{ack, chosen, structureFor, builtIn, acknowledgement as ackListed}

@@ -7,8 +7,8 @@ use Rattle.alphabet.specs.Delimiters.{firstWrongDelimiter}
 use Rattle.alphabet.specs.Filling.{over}
 use Rattle.alphabet.specs.declared.answers.Answer.{Answer}
 use Rattle.alphabet.specs.declared.answers.Refusal.the-variants.{None}
-use Rattle.text.specs.Escape.{escape}
-use Rattle.text.specs.Answers.{escaping, answer, filled}
+use Rattle.escaping.specs.Escape.{escape}
+use Rattle.escaping.specs.Outcomes.{escaping, answer, filled}
 
 -- what `escape` left of the text t at the front of the buffer d, as long as its answer says
 abbrev pub left : List ℕ → List ℕ → List ℕ → List ℕ

@@ -7,8 +7,9 @@ ghost use lib.ListN.{length, take};
 ghost use Rattle.alphabet.specs.Delimiters.{firstWrongDelimiter};
 ghost use Rattle.alphabet.specs.Filling.{over};
 ghost use Rattle.alphabet.specs.declared.answers.Refusal.the-variants.{None};
-ghost use Rattle.text.specs.Escape.{escape as Escape·escape};
-ghost use Rattle.text.specs.Answers.{escaping, unescaping, answer, filled};
+ghost use Rattle.escaping.specs.Escape.{escape as Escape·escape};
+ghost use Rattle.escaping.specs.Outcomes.{escaping, answer, filled};
+ghost use Rattle.text.specs.Unescape.{unescaping};
 ghost use Rattle.acknowledgement.specs.Acknowledgement.{Acknowledges};
 ghost use Rattle.boundary.specs.Seen.{AcknowledgeSeen};
 ghost use Rattle.promises.specs.Texts.{left, ComesBack};
@@ -29,7 +30,7 @@ pub fn write_and_read(
     ensures { λ _. ⌜ now (back .exit) ≡ filled (unescaping (delimiters .bytes) (left (delimiters .bytes) (now (text .entry)) (now (written .entry))) (length (now (back .entry)))) (now (back .entry)) ⌝ }
     ensures { λ r. ⌜ ComesBack (delimiters .bytes) (now (text .entry)) (length (now (written .entry))) (now (back .entry)) r (now (back .exit)) ⌝ }
 {
-    let there = text::escape(delimiters, text, written);
+    let there = escaping::escape(delimiters, text, written);
     let length = there.length;
     text::unescape(delimiters, &written[..length], back)
 }

@@ -13,9 +13,10 @@ use Rattle.element.specs.Finding.{found, lookupCheck, elementOf, bytesAt}
 use Rattle.element.specs.Levels.{partIn, fieldIn, below, repetitionAt, componentAt, subcomponentAt, unsplit, elementAt}
 use Rattle.element.specs.States.{stateOf}
 use Rattle.value.specs.Asked.{numberFrom, timeFrom}
-use Rattle.text.specs.Escape.{escapeByte, escapeBytes, escape}
+use Rattle.escaping.specs.Escape.{escapeByte, escapeBytes, escape}
 use Rattle.text.specs.Unescape.{known, meaning, sequence, step, scan}
-use Rattle.text.specs.Answers.{fitting, escaping, unescaping, answer}
+use Rattle.escaping.specs.Outcomes.{fitting, escaping, answer}
+use Rattle.text.specs.Unescape.{unescaping}
 use Rattle.numbers.specs.Numbers.{nmForm, unsigned, nmRead, nmCheck, nmValue}
 use Rattle.calendar.specs.Calendar.{validDate, validClock}
 use Rattle.times.specs.Times.{figureAt, dateOf, clockOf, offsetOf, fractionForm, zoneForm, timeForm, isTime, timeRead}

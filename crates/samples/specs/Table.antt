@@ -15,8 +15,9 @@ use Rattle.element.specs.declared.address.Address.{Address}
 use Rattle.element.specs.declared.states.State.{State}
 use Rattle.element.specs.declared.states.State.the-variants.{Absent, Empty, Present}
 use Rattle.value.specs.Asked.{nmFound, tsFound}
-use Rattle.text.specs.Unescape.{text}
-use Rattle.text.specs.Answers.{escaping, unescaping, answer}
+use Rattle.escaping.specs.Outcomes.{text}
+use Rattle.escaping.specs.Outcomes.{escaping, answer}
+use Rattle.text.specs.Unescape.{unescaping}
 use Rattle.reading.specs.Segments.{name}
 use Rattle.structure.specs.Judged.{Answers, refusedAs}
 

@@ -1,4 +1,3 @@
-pub mod PieceLaws
 pub mod SequenceLaws
 pub mod OutcomeLaws
 pub mod StepLaws

@@ -1,40 +1,22 @@
--- Bytes that stand plainly, one behind another: how far they go, and that they are written as they are and say what they are. Assumes nothing.
+-- Bytes that stand plainly, one behind another, say what they are. Assumes nothing.
 use mathlib.Core.Path.{_≡_, refl, sym, ap, ap₂, _∙_}
 use mathlib.Core.List.{List, [], _∷_, _++_}
 use mathlib.Core.Bool.{Bool, true, false, cond}
-use Prim.Native.Nat.{ℕ, zero, suc, _+_, _-_, _≤_, _<_}
+use Prim.Native.Nat.{ℕ, zero, suc, _+_, _≤_, _<_}
 use native.Mathlib.Nat.{add-zero}
 use native.Mathlib.Omega.{arith}
 use lib.ListN.{length, getD, take, drop, length-append, length-drop}
 use lib.Seq.{length-take-le, drop-drop}
 use borrow.Author.Tests.{le-ltb}
-use Rattle.alphabet.proofs.ListLaws.{first-le, first-past, find-own, rest-of}
+use Rattle.alphabet.proofs.ListLaws.{first-past, find-own}
 use Rattle.alphabet.specs.Lists.{first, find}
-use Rattle.text.specs.Escape.{escapeOf, escapeByte, escapeBytes}
-use Rattle.text.specs.Unescape.{emit, step, before, scan}
-use Rattle.text.specs.Answers.{isText, textOf}
 use Rattle.plain.specs.Plain.{special}
 use Rattle.plain.proofs.PlainLaws.{plain-is}
-use Rattle.text.proofs.PieceLaws.{written-plain}
+use Rattle.escaping.specs.Escape.{escapeOf}
+use Rattle.text.specs.Unescape.{emit, step, before, scan}
+use Rattle.text.specs.Judging.{isText, textOf}
 use Rattle.text.proofs.StepLaws.{step-plain, scan-emit, before-before, before-none, before-text, Scanning, text-allowed}
 
--- ---- bytes that stand plainly
-
--- a run of them is written as it is
-pub bytes-run : (ds l : List ℕ) (n : ℕ) → n ≤ first (special ds) l → escapeBytes ds l ≡ take n l ++ escapeBytes ds (drop n l)
-unfolding first escapeBytes
-bytes-run ds l zero h = refl
-bytes-run ds [] (suc n) h = refl
-bytes-run ds (b ∷ r) (suc n) h = at (special ds b) refl h (bytes-run ds r n)
-  where
-    at : (t : Bool) → special ds b ≡ t → suc n ≤ cond t 0 (suc (first (special ds) r)) → (n ≤ first (special ds) r → escapeBytes ds r ≡ take n r ++ escapeBytes ds (drop n r))
-        → escapeByte ds b ++ escapeBytes ds r ≡ b ∷ (take n r ++ escapeBytes ds (drop n r))
-    at true e h ih = absurd (omega arith)
-    at false e h ih =
-        let p = plain-is ds b e in
-        ap (λ (w : List ℕ). w ++ escapeBytes ds r) (written-plain ds b (p .1) (p .0)) ∙ ap (λ (w : List ℕ). b ∷ w) (ih (omega arith))
-
--- and says what it is
 module _ (ds : List ℕ) (five : length ds ≡ 5) where
   step-run : (b : ℕ) (r : List ℕ) → special ds b ≡ false → step ds b r ≡ emit (b ∷ []) 0
   step-run b r e =
@@ -59,24 +41,7 @@ module _ (ds : List ℕ) (five : length ds ≡ 5) where
 
 -- ---- the same from a place on, as a loop meets it
 
--- a run that was found from i on, in the part of a text that the code lends
-pub run-from : (test : ℕ → Bool) (s : List ℕ) (i n : ℕ) → i ≤ length s → n ≡ first test (take (length s - i) (drop i s)) → (n ≤ first test (drop i s)) × (i + n ≤ length s)
-run-from test s i n h e =
-    let q = ap (first test) (rest-of s i) in
-    let m = first-le test (drop i s) in
-    let d = length-drop i s in
-    (omega arith, omega arith)
-
 module _ (ds s : List ℕ) (i n : ℕ) (h : n ≤ first (special ds) (drop i s)) where
-  pub bytes-from : escapeBytes ds (drop i s) ≡ take n (drop i s) ++ escapeBytes ds (drop (i + n) s)
-  bytes-from = bytes-run ds (drop i s) n h ∙ ap (λ (l : List ℕ). take n (drop i s) ++ escapeBytes ds l) (drop-drop n i s)
-
-  pub length-from : i + n ≤ length s → length (escapeBytes ds (drop i s)) ≡ n + length (escapeBytes ds (drop (i + n) s))
-  length-from k =
-      let d = length-drop i s in
-      let t = length-take-le n (drop i s) (omega arith) in
-      ap length bytes-from ∙ length-append (take n (drop i s)) (escapeBytes ds (drop (i + n) s)) ∙ ap (λ (m : ℕ). m + length (escapeBytes ds (drop (i + n) s))) t
-
   module _ (five : length ds ≡ 5) where
     pub scan-from : scan ds i 0 (drop i s) ≡ before (take n (drop i s)) (scan ds (i + n) 0 (drop (i + n) s))
     scan-from = scan-run ds five i (drop i s) n h ∙ ap (λ (l : List ℕ). before (take n (drop i s)) (scan ds (i + n) 0 l)) (drop-drop n i s)

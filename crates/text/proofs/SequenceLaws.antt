@@ -8,7 +8,7 @@ use lib.Dec.{ltb, eqb}
 use lib.ListN.{length, getD, drop}
 use Rattle.alphabet.proofs.BoolLaws.{false-true, and-both}
 use Rattle.alphabet.specs.Lists.{find}
-use Rattle.text.specs.Escape.{letters}
+use Rattle.escaping.specs.Escape.{letters}
 use Rattle.alphabet.specs.Hex.{allHex, pairsOf}
 use Rattle.alphabet.proofs.HexLaws.{pairs-length, hex-even}
 use Rattle.text.specs.Unescape.{known, meaning}

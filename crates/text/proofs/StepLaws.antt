@@ -15,9 +15,10 @@ use Rattle.alphabet.specs.Lists.{find}
 use Rattle.alphabet.specs.Bytes.{printable}
 use Rattle.alphabet.specs.declared.answers.Refusal.{Refusal}
 use Rattle.alphabet.specs.declared.answers.Refusal.the-variants.{NotAllowed, Separator, UnknownEscape, UnclosedEscape}
-use Rattle.text.specs.Escape.{escapeOf}
-use Rattle.text.specs.Unescape.{known, meaning, Step, stop, emit, sequence, step, Outcome, text, fault, before, scan}
-use Rattle.text.specs.Answers.{isText, textOf, seen}
+use Rattle.escaping.specs.Escape.{escapeOf}
+use Rattle.text.specs.Unescape.{known, meaning, Step, stop, emit, sequence, step, before, scan}
+use Rattle.escaping.specs.Outcomes.{Outcome, text, fault}
+use Rattle.text.specs.Judging.{isText, textOf, seen}
 use Rattle.text.specs.declared.unescaping.Found.{Found}
 use Rattle.text.proofs.SequenceLaws.{meaning-short}
 

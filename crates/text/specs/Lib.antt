@@ -1,4 +1,3 @@
-pub mod Escape
 pub mod Unescape
-pub mod Answers
+pub mod Judging
 pub mod Reads

@@ -10,8 +10,9 @@ use Rattle.alphabet.specs.Bytes.{ascii, printable}
 use Rattle.alphabet.specs.Delimiters.{firstWrongDelimiter}
 use Rattle.alphabet.specs.declared.answers.Refusal.{Refusal}
 use Rattle.alphabet.specs.declared.answers.Refusal.the-variants.{Delimiter, NotAllowed, Separator, UnknownEscape, UnclosedEscape, NoRoom, NullText}
-use Rattle.text.specs.Escape.{escapeOf}
-use Rattle.text.specs.Unescape.{known, meaning, Outcome, text, fault}
+use Rattle.escaping.specs.Escape.{escapeOf}
+use Rattle.text.specs.Unescape.{known, meaning}
+use Rattle.escaping.specs.Outcomes.{Outcome, text, fault}
 
 -- s says t: nothing; a plain byte and a text; or a known sequence, between two escape delimiters and with none inside, and a text
 pub data Reads (ds : List ℕ) : List ℕ → List ℕ → Type 0 where

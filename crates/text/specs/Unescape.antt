@@ -5,11 +5,13 @@ use mathlib.Core.Bool.{Bool, false, cond, _&&_}
 use lib.ListN.{length, getD, take}
 use lib.Dec.{ltb, eqb}
 use Rattle.alphabet.specs.Lists.{find}
-use Rattle.alphabet.specs.Bytes.{byteOf, printable}
+use Rattle.alphabet.specs.Bytes.{byteOf, printable, isNull}
+use Rattle.alphabet.specs.Delimiters.{firstWrongDelimiter}
 use Rattle.alphabet.specs.Hex.{allHex, pairsOf}
 use Rattle.alphabet.specs.declared.answers.Refusal.{Refusal}
-use Rattle.alphabet.specs.declared.answers.Refusal.the-variants.{NotAllowed, Separator, UnknownEscape, UnclosedEscape}
-use Rattle.text.specs.Escape.{letters, escapeOf}
+use Rattle.alphabet.specs.declared.answers.Refusal.the-variants.{Delimiter, NotAllowed, Separator, UnknownEscape, UnclosedEscape, NullText}
+use Rattle.escaping.specs.Escape.{letters, escapeOf}
+use Rattle.escaping.specs.Outcomes.{Outcome, text, fault, fitting}
 
 -- what stands between two escape delimiters: a letter of the table, or "`\Xhh..\` one or more pairs of hex digits"
 unfoldable pub known : List ℕ → Bool
@@ -40,11 +42,6 @@ step ds b r =
     cond (eqb b (escapeOf ds)) (sequence ds r (find (escapeOf ds) r))
     (cond (printable b) (cond (ltb (find b ds) 5) (stop Separator) (emit (b ∷ []) 0)) (stop NotAllowed))
 
--- a text, or a fault and its place
-pub data Outcome : Type 0 where
-  text : List ℕ → Outcome
-  fault : Refusal → ℕ → Outcome
-
 abbrev pub before : List ℕ → Outcome → Outcome
 before xs (text t) = text (xs ++ t)
 before xs (fault k p) = fault k p
@@ -58,3 +55,9 @@ unfoldable pub scan : List ℕ → ℕ → ℕ → List ℕ → Outcome
 scan ds at skip [] = text []
 scan ds at (suc skip) (b ∷ r) = scan ds (at + 1) skip r
 scan ds at zero (b ∷ r) = after (step ds b r) at (λ (k : ℕ). scan ds (at + 1) k r)
+
+-- "Unescaping: 3, then 15, then the leftmost of 4, 11, 12, 13, then 14."
+unfoldable pub unescaping : List ℕ → List ℕ → ℕ → Outcome
+unescaping ds s room =
+    cond (ltb (firstWrongDelimiter ds) 5) (fault Delimiter (firstWrongDelimiter ds))
+    (cond (isNull s) (fault NullText 0) (fitting room (scan ds 0 0 s)))

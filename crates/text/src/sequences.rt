@@ -1,6 +1,6 @@
 // What may stand between two escape delimiters, and the bytes that it says: a letter of the table, or X and pairs of hex digits.
-use crate::pieces::LETTERS;
 use alphabet::Delimiters;
+use escaping::LETTERS;
 use plain::place_of;
 ghost use mathlib.Core.Path.{_≡_};
 ghost use mathlib.Core.Bool.{true};

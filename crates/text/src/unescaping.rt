@@ -1,11 +1,11 @@
 // Reading a text: from the left, a sequence judged whole at its opening byte. It is judged to its end before anything is
 // written, so that a refusal writes nothing.
-use crate::answers::refused;
 use crate::sequences::is_known;
 use crate::sequences::put_meaning;
 use alphabet::Answer;
 use alphabet::Delimiters;
 use alphabet::Refusal;
+use escaping::refused;
 use plain::place_of;
 use plain::plain_run;
 ghost use mathlib.Core.Path.{_≡_};
@@ -13,9 +13,11 @@ ghost use mathlib.Core.Bool.{true};
 ghost use Prim.Native.Nat.{_+_, _≤_, _<_};
 ghost use lib.ListN.{length, getD, drop};
 ghost use Rattle.alphabet.specs.Lists.{find};
-ghost use Rattle.text.specs.Escape.{escapeOf};
+ghost use Rattle.escaping.specs.Escape.{escapeOf};
 ghost use Rattle.text.specs.Unescape.{sequence, step, scan};
-ghost use Rattle.text.specs.Answers.{isText, textOf, seen, judged, unescaping, answer, filled};
+ghost use Rattle.text.specs.Judging.{isText, textOf, seen, judged};
+ghost use Rattle.text.specs.Unescape.{unescaping};
+ghost use Rattle.escaping.specs.Outcomes.{answer, filled};
 ghost use Rattle.alphabet.specs.Filling.{over};
 
 // What stands at a place of a text: a fault, or bytes, as many as `length`, with `skip` bytes more after the first.

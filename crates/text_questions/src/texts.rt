@@ -53,7 +53,7 @@ fn put_writing(
 {
     match writing {
         Writing::Escape => writings::put_written(
-            text::escape(delimiters, text, buffer),
+            escaping::escape(delimiters, text, buffer),
             buffer,
             answer,
         ),

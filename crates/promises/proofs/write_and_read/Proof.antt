@@ -8,7 +8,8 @@ use lib.Seq.{length-take-le}
 use native.Mathlib.Omega.{arith}
 use denote.Ref.{now}
 use Rattle.alphabet.specs.declared.answers.Answer.{Answer}
-use Rattle.text.specs.Answers.{unescaping, answer, filled}
+use Rattle.text.specs.Unescape.{unescaping}
+use Rattle.escaping.specs.Outcomes.{answer, filled}
 use Rattle.laws.proofs.TextRoom.{escape-within}
 use Rattle.promises.proofs.Demand2.{text-comes-back}
 use Rattle.promises.proofs.write_and_read.Statement.{statement}

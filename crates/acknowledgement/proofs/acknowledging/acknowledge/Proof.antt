@@ -11,8 +11,8 @@ use Rattle.alphabet.specs.declared.answers.Refusal.{Refusal}
 use Rattle.alphabet.specs.declared.answers.Refusal.the-variants.{None}
 use Rattle.alphabet.specs.Delimiters.{firstWrongDelimiter}
 use Rattle.reading.specs.Segments.{isHeader, delimitersOf}
-use Rattle.text.specs.Unescape.{fault}
-use Rattle.text.specs.Answers.{answer}
+use Rattle.escaping.specs.Outcomes.{fault}
+use Rattle.escaping.specs.Outcomes.{answer}
 use Rattle.alphabet.proofs.CheckLaws.{number-none}
 use Rattle.acknowledgement.specs.Acknowledgement.{refusing, Acknowledges}
 use Rattle.acknowledgement.specs.Acknowledgement.Acknowledges.{not-written}

@@ -7,8 +7,8 @@ use native.Mathlib.Omega.{arith}
 use borrow.Author.Needs.{needs}
 use native.Mathlib.Nat.{zero-add}
 use denote.Ref.{now}
-use Rattle.text.specs.Answers.{roomFor}
-use Rattle.text.proofs.OutcomeLaws.{room-takes, room-short}
+use Rattle.escaping.specs.Outcomes.{roomFor}
+use Rattle.escaping.proofs.OutcomeLaws.{room-takes, room-short}
 use Rattle.acknowledgement.specs.Pieces.{together}
 use Rattle.acknowledgement.proofs.PieceLaws.{count-next, pieces-end}
 use Rattle.acknowledgement.proofs.pieces.measure.Statement.{statement}

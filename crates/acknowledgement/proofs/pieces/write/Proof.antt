@@ -10,9 +10,9 @@ use denote.Ref.{now}
 use Rattle.alphabet.specs.Filling.{over}
 use Rattle.alphabet.specs.declared.answers.Answer.{Answer}
 use Rattle.reading.specs.Segments.{delimitersOf}
-use Rattle.text.specs.Escape.{escape}
-use Rattle.text.specs.Unescape.{Outcome}
-use Rattle.text.specs.Answers.{escaping, answer, filled}
+use Rattle.escaping.specs.Escape.{escape}
+use Rattle.escaping.specs.Outcomes.{Outcome}
+use Rattle.escaping.specs.Outcomes.{escaping, answer, filled}
 use Rattle.acknowledgement.specs.Acknowledgement.{roomy}
 use Rattle.acknowledgement.specs.Pieces.{together, pieces}
 use Rattle.acknowledgement.proofs.PieceLaws.{id-fits, pieces-together}

@@ -10,8 +10,8 @@ use Rattle.alphabet.specs.Filling.{over}
 use Rattle.alphabet.specs.Limits.{messageLimit}
 use Rattle.alphabet.specs.declared.answers.Answer.{Answer}
 use Rattle.alphabet.specs.declared.answers.Refusal.the-variants.{None}
-use Rattle.text.specs.Answers.{roomFor, answer, filled}
-use Rattle.text.proofs.OutcomeLaws.{ended, takes-is, short-is}
+use Rattle.escaping.specs.Outcomes.{roomFor, answer, filled}
+use Rattle.escaping.proofs.OutcomeLaws.{ended, takes-is, short-is}
 use Rattle.acknowledgement.specs.Pieces.{together, least, pieces}
 use Rattle.acknowledgement.proofs.PieceLaws.{least-first, roomy-takes, roomy-short}
 use Rattle.acknowledgement.proofs.pieces.write_pieces.Statement.{statement}

@@ -11,7 +11,7 @@ use borrow.Author.Needs.{needs}
 use Rattle.alphabet.proofs.BoolLaws.{and-both}
 use Rattle.alphabet.proofs.ListLaws.{rest-of}
 use Rattle.alphabet.specs.Lists.{find}
-use Rattle.text.specs.Escape.{letters}
+use Rattle.escaping.specs.Escape.{letters}
 use Rattle.alphabet.specs.Hex.{allHex, pairsOf}
 use Rattle.alphabet.specs.Filling.{pasted}
 use Rattle.text.proofs.SequenceLaws.{known-one, known-more, meaning-letter, meaning-pairs, known-some}

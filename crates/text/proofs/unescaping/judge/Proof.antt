@@ -7,10 +7,11 @@ use borrow.Author.Needs.{needs}
 use denote.Ref.{now}
 use Rattle.text.specs.Unescape.{step}
 use Rattle.plain.specs.Plain.{special}
-use Rattle.text.specs.Answers.{judged}
+use Rattle.text.specs.Judging.{judged}
 use Rattle.text.specs.declared.unescaping.Judged.{Judged}
 use Rattle.text.proofs.StepLaws.{step-bounds, seen-fault, seen-bytes, Scanning, scanning-start, scanning-more, scanning-stop, scanning-end}
-use Rattle.text.proofs.RunLaws.{run-from, scanning-run}
+use Rattle.plain.proofs.PlainLaws.{run-from}
+use Rattle.text.proofs.RunLaws.{scanning-run}
 use Rattle.text.proofs.unescaping.judge.Statement.{statement}
 use Rattle.text.proofs.unescaping.judge.Tie as tie
 

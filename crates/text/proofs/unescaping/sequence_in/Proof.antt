@@ -9,9 +9,9 @@ use borrow.Author.Needs.{needs}
 use borrow.Author.Tests.{not-true, not-false}
 use denote.Ref.{now}
 use Rattle.alphabet.specs.Lists.{find}
-use Rattle.text.specs.Escape.{escapeOf}
+use Rattle.escaping.specs.Escape.{escapeOf}
 use Rattle.text.specs.Unescape.{known, meaning, emit, step}
-use Rattle.text.specs.Answers.{seen}
+use Rattle.text.specs.Judging.{seen}
 use Rattle.text.specs.declared.unescaping.Found.{Found}
 use Rattle.text.proofs.SequenceLaws.{meaning-one, meaning-more}
 use Rattle.text.proofs.StepLaws.{step-opens, step-known, step-unknown, step-unclosed}

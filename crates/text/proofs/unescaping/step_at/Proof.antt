@@ -8,10 +8,10 @@ use borrow.Author.Needs.{needs}
 use borrow.Author.Tests.{not-true, not-false}
 use denote.Ref.{now}
 use Rattle.alphabet.proofs.ListLaws.{rest-of}
-use Rattle.text.specs.Escape.{escapeOf}
+use Rattle.escaping.specs.Escape.{escapeOf}
 use Rattle.alphabet.specs.Lists.{find}
 use Rattle.text.specs.Unescape.{sequence}
-use Rattle.text.specs.Answers.{seen}
+use Rattle.text.specs.Judging.{seen}
 use Rattle.text.proofs.StepLaws.{step-opens, step-unprintable, step-separator, step-plain}
 use Rattle.text.proofs.unescaping.step_at.Statement.{statement}
 use Rattle.text.proofs.unescaping.step_at.Tie as tie

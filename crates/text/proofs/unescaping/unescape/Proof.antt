@@ -7,9 +7,12 @@ use denote.Ref.{now}
 use borrow.Author.Needs.{needs}
 use Rattle.alphabet.specs.declared.answers.Refusal.the-variants.{None, Delimiter}
 use Rattle.alphabet.specs.declared.answers.Answer.{Answer}
-use Rattle.text.specs.Unescape.{fault, scan}
-use Rattle.text.specs.Answers.{answer, filled, textOf}
-use Rattle.text.proofs.OutcomeLaws.{ended, judged-text, judged-fault, unescaping-bad, unescaping-null, unescaping-fault, unescaping-fits, unescaping-long}
+use Rattle.escaping.specs.Outcomes.{fault}
+use Rattle.text.specs.Unescape.{scan}
+use Rattle.escaping.specs.Outcomes.{answer, filled}
+use Rattle.text.specs.Judging.{textOf}
+use Rattle.escaping.proofs.OutcomeLaws.{ended}
+use Rattle.text.proofs.OutcomeLaws.{judged-text, judged-fault, unescaping-bad, unescaping-null, unescaping-fault, unescaping-fits, unescaping-long}
 use Rattle.text.proofs.unescaping.unescape.Statement.{statement}
 use Rattle.text.proofs.unescaping.unescape.Tie as tie
 

@@ -11,13 +11,14 @@ use denote.Ref.{now}
 use mathlib.Core.Bool.{true}
 use Rattle.alphabet.proofs.ListLaws.{rest-of}
 use Rattle.alphabet.specs.Lists.{first, find}
-use Rattle.text.specs.Escape.{escapeOf}
+use Rattle.escaping.specs.Escape.{escapeOf}
 use Rattle.text.specs.Unescape.{known, meaning, emit, step, scan}
 use Rattle.plain.specs.Plain.{special}
-use Rattle.text.specs.Answers.{isText, textOf}
+use Rattle.text.specs.Judging.{isText, textOf}
 use Rattle.alphabet.proofs.FillingLaws.{Filling, fill-start, fill-more, fill-room, fill-length, fill-end, put-fits}
 use Rattle.text.proofs.StepLaws.{step-known, scan-end, text-past, text-opens}
-use Rattle.text.proofs.RunLaws.{run-from, run-begins, text-run}
+use Rattle.plain.proofs.PlainLaws.{run-from}
+use Rattle.text.proofs.RunLaws.{run-begins, text-run}
 use Rattle.text.proofs.unescaping.write_text.Statement.{statement}
 use Rattle.text.proofs.unescaping.write_text.Tie as tie
 

@@ -1,0 +1,3 @@
+pub mod PieceLaws
+pub mod OutcomeLaws
+pub mod RunLaws
