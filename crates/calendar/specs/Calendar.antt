@@ -56,3 +56,6 @@ validClock c = inRange 0 23 (c .hour) && (inRange 0 59 (c .minute) && inRange 0 
 -- "offset hours 00-14 and offset minutes 00-59"
 abbrev pub validOffset : Offset → Bool
 validOffset o = leb (o .hours) 14 && leb (o .minutes) 59
+
+abbrev pub validTime : Time → Bool
+validTime t = validDate (t .date) && (validClock (t .clock) && validOffset (t .offset))

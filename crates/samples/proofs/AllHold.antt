@@ -18,7 +18,8 @@ use Rattle.text.specs.Unescape.{known, meaning, sequence, step, scan}
 use Rattle.text.specs.Answers.{fitting, escaping, unescaping, answer}
 use Rattle.numbers.specs.Numbers.{nmForm, unsigned, nmRead, nmCheck, nmValue}
 use Rattle.calendar.specs.Calendar.{validDate, validClock}
-use Rattle.times.specs.Times.{figureAt, dateOf, clockOf, offsetOf, fractionForm, zoneForm, timeForm, isTime, timeRead}
+use Rattle.forms.specs.Forms.{fractionForm, zoneForm, timeForm}
+use Rattle.times.specs.Times.{figureAt, dateOf, clockOf, offsetOf, timeOf, isTime, timeRead}
 use Rattle.samples.proofs.Structures.{report-10, report-11, report-12}
 use Rattle.samples.specs.Table.{Row, Holds, All, ofText, ofNumbers, ofTimes, ofStates, ofStructures, samples}
 
@@ -37,7 +38,7 @@ unfolding All ofNumbers Holds numberFrom nmRead nmCheck nmValue nmForm unsigned 
 numbers = (refl, (refl, ((refl, refl), ((refl, refl), ((refl, refl), (refl, ((refl, refl), tt)))))))
 
 times : All ofTimes
-unfolding All ofTimes Holds timeFrom timeRead isTime timeForm allDigits fractionForm zoneForm validDate dateOf figureAt counted validClock clockOf offsetOf bytesAt found lookupCheck reading opening messageLimit segmentLimit firstWrongDelimiter first segmentsCheck segmentChecks segments allButLast split segmentAt standing elementOf elementAt componentAt repetitionAt below partIn partAt fieldIn stateOf
+unfolding All ofTimes Holds timeFrom timeRead isTime timeOf timeForm allDigits fractionForm zoneForm validDate dateOf figureAt counted validClock clockOf offsetOf bytesAt found lookupCheck reading opening messageLimit segmentLimit firstWrongDelimiter first segmentsCheck segmentChecks segments allButLast split segmentAt standing elementOf elementAt componentAt repetitionAt below partIn partAt fieldIn stateOf
 times = ((refl, refl), ((refl, refl), ((refl, refl), tt)))
 
 states : All ofStates

@@ -10,6 +10,7 @@ use Rattle.element.specs.declared.address.Address.{Address}
 use Rattle.element.specs.States.{isPresent}
 use Rattle.numbers.specs.Numbers.{nmRead, siRead}
 use Rattle.calendar.specs.Calendar.{noTime}
+use Rattle.forms.specs.declared.layouts.Form.the-variants.{Tm, Ts}
 use Rattle.times.specs.Times.{dtRead, timeRead}
 use Rattle.numbers.specs.declared.numerals.ReadNumber.{ReadNumber}
 use Rattle.times.specs.declared.moments.ReadTime.{ReadTime}
@@ -39,7 +40,7 @@ abbrev pub dtFound : List ℕ → Address → TimeFound
 dtFound m a = timeFrom (found m a) (dtRead (elementBytes m a))
 
 abbrev pub tmFound : List ℕ → Address → TimeFound
-tmFound m a = timeFrom (found m a) (timeRead false (elementBytes m a))
+tmFound m a = timeFrom (found m a) (timeRead Tm (elementBytes m a))
 
 abbrev pub tsFound : List ℕ → Address → TimeFound
-tsFound m a = timeFrom (found m a) (timeRead true (elementBytes m a))
+tsFound m a = timeFrom (found m a) (timeRead Ts (elementBytes m a))
