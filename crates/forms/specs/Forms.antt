@@ -27,7 +27,7 @@ dtForm l = allDigits l && dtLength (length l)
 
 -- ---- TM and TS
 
--- what a line of the document says of the digits in front of the point: behind how many of them it may stop, how many there are down to the
+-- what a line of the document says of the digits in front: behind how many of them it may stop, how many there are down to the
 -- seconds, behind how many the clock begins, and whether a date stands before it
 pub record Layout : Type 0 where
   pub stops : List ℕ
@@ -35,9 +35,10 @@ pub record Layout : Type 0 where
   pub clock : ℕ
   pub dated : Bool
 
--- TM: "HH[MM[SS[.S to .SSSS]]][+/-ZZZZ]"; TS: "YYYY[MM[DD[HHMM[SS[.S to .SSSS]]]]][+/-ZZZZ]"
 abbrev pub layoutOf : Form → Layout
+-- TM: "HH[MM[SS[.S to .SSSS]]][+/-ZZZZ]"
 layoutOf Tm = record { stops = 2 ∷ 4 ∷ 6 ∷ []; seconds = 6; clock = 0; dated = false }
+-- TS: "YYYY[MM[DD[HHMM[SS[.S to .SSSS]]]]][+/-ZZZZ]"
 layoutOf Ts = record { stops = 4 ∷ 6 ∷ 8 ∷ 12 ∷ 14 ∷ []; seconds = 14; clock = 8; dated = true }
 
 -- the zone is what stands from the first sign on, the tail what stands from the point on before it, the front what stands before both

@@ -7,4 +7,3 @@ pub use layouts::Form;
 pub use layouts::is_dt_form;
 pub use layouts::is_time_form;
 pub use parts::body_of;
-pub use parts::from_point;

@@ -85,8 +85,9 @@ fn read_time(form: Form, bytes: &[u8]) -> ReadTime
 {
     let body = forms::body_of(bytes);
     let front = numbers::before_point(body);
-    let tail = forms::from_point(body);
+    let point = front.len();
     let sign = body.len();
+    let tail = &body[point..];
     let zone = &bytes[sign..];
     if !forms::is_time_form(form, front, tail, zone) {
         return time_if(false, calendar::no_time());

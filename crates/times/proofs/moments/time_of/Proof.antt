@@ -7,6 +7,7 @@ use native.Mathlib.Omega.{arith}
 use lib.ListN.{length, drop}
 use Rattle.alphabet.specs.Digits.{allDigits}
 use Rattle.forms.specs.declared.layouts.Form.{Form}
+use Rattle.forms.specs.declared.layouts.Form.the-variants.{Tm, Ts}
 use Rattle.forms.proofs.FormLaws.{Formed, formed, fraction-holds, zone-holds}
 use Rattle.times.specs.Times.{partsTime}
 use denote.Ref.{now}
@@ -22,14 +23,16 @@ tail c = fraction-holds _ (now (c .args .tail)) (form c .tailed)
 returns : tie.Need-returns
 returns c =
     let a = c .before .before .before .before .before .before .before .before .args in
+    _∙_ {b = partsTime Tm (now (a .front)) (now (a .tail)) (now (a .zone))}
     (λ i. record { date = c .before .no-date .ensures i; clock = c .clock-of .ensures i; offset = c .before .before .before .before .offset-of .ensures i })
-    ∙ ap (λ (f : Form). partsTime f (now (a .front)) (now (a .tail)) (now (a .zone))) (sym (c .before .before .enum-told .given .1))
+    (ap (λ (f : Form). partsTime f (now (a .front)) (now (a .tail)) (now (a .zone))) (sym (c .before .before .enum-told .given .1)))
 
 returns-2 : tie.Need-returns-2
 returns-2 c =
     let a = c .before .before .before .before .before .before .before .before .args in
+    _∙_ {b = partsTime Ts (now (a .front)) (now (a .tail)) (now (a .zone))}
     (λ i. record { date = c .before .date-of .ensures i; clock = c .clock-of2 .ensures i; offset = c .before .before .before .before .offset-of .ensures i })
-    ∙ ap (λ (f : Form). partsTime f (now (a .front)) (now (a .tail)) (now (a .zone))) (sym (c .before .before .enum-told2 .given .1))
+    (ap (λ (f : Form). partsTime f (now (a .front)) (now (a .tail)) (now (a .zone))) (sym (c .before .before .enum-told2 .given .1)))
 
 pub time-of-spec : {M : Type 1} → statement M
 time-of-spec =
