@@ -1,4 +1,5 @@
--- Every row of the table holds: each is computed, and the last three are the structure judge's own samples. Assumes nothing.
+-- Every row of the table holds: each is computed, and the last three are the structure judge's own samples. Assumes
+-- nothing.
 use mathlib.Core.Path.{refl}
 use mathlib.Core.List.{List, [], _∷_, _++_}
 use Rattle.alphabet.specs.Delimiters.{firstWrongDelimiter}
