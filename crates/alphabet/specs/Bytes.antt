@@ -50,3 +50,7 @@ isNull bytes = eqb (length bytes) 2 && (eqb (getD bytes 0 0) 34 && eqb (getD byt
 abbrev pub ascii : String → List ℕ
 ascii S.[] = []
 ascii (S._∷_ c s) = code c ∷ ascii s
+
+-- the byte of one character
+abbrev pub byteOf : String → ℕ
+byteOf s = getD (ascii s) 0 0

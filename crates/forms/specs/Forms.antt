@@ -1,11 +1,11 @@
--- How DT, TM and TS are written, by document 01, 'Numbers and times': how many digits stand in front, behind a point and behind a sign.
--- Whether there is such a day or such an hour is no matter of the form.
+-- How DT, TM and TS are written, by document 01, 'Numbers and times': how many digits stand in front, behind a point
+-- and behind a sign. Whether there is such a day or such an hour is no matter of the form.
 use Prim.Native.Nat.{ℕ, min}
 use mathlib.Core.List.{List, [], _∷_}
 use mathlib.Core.Bool.{Bool, true, false, _&&_, _||_}
 use lib.Dec.{eqb}
 use lib.ListN.{length, take, drop}
-use Rattle.alphabet.specs.Bytes.{fromTo}
+use Rattle.alphabet.specs.Bytes.{fromTo, byteOf}
 use Rattle.alphabet.specs.Digits.{allDigits}
 use Rattle.alphabet.specs.Lists.{find}
 use Rattle.numbers.specs.Numbers.{beforePoint}
@@ -27,8 +27,8 @@ dtForm l = allDigits l && dtLength (length l)
 
 -- ---- TM and TS
 
--- what a line of the document says of the digits in front: behind how many of them it may stop, how many there are down to the
--- seconds, behind how many the clock begins, and whether a date stands before it
+-- what a line of the document says of the digits in front: behind how many of them it may stop, how many there are down
+-- to the seconds, behind how many the clock begins, and whether a date stands before it
 pub record Layout : Type 0 where
   pub stops : List ℕ
   pub seconds : ℕ
@@ -41,18 +41,22 @@ layoutOf Tm = record { stops = 2 ∷ 4 ∷ 6 ∷ []; seconds = 6; clock = 0; dat
 -- TS: "YYYY[MM[DD[HHMM[SS[.S to .SSSS]]]]][+/-ZZZZ]"
 layoutOf Ts = record { stops = 4 ∷ 6 ∷ 8 ∷ 12 ∷ 14 ∷ []; seconds = 14; clock = 8; dated = true }
 
--- the zone is what stands from the first sign on, the tail what stands from the point on before it, the front what stands before both
+-- the zone is what stands from the first sign on, the tail what stands from the point on before it, the front what
+-- stands before both
+abbrev pub firstSign : List ℕ → ℕ
+firstSign l = min (find (byteOf "+") l) (find (byteOf "-") l)
+
 abbrev pub bodyOf : List ℕ → List ℕ
-bodyOf l = take (min (find 43 l) (find 45 l)) l
+bodyOf l = take (firstSign l) l
 
 abbrev pub zoneOf : List ℕ → List ℕ
-zoneOf l = drop (min (find 43 l) (find 45 l)) l
+zoneOf l = drop (firstSign l) l
 
 abbrev pub frontOf : List ℕ → List ℕ
 frontOf l = beforePoint (bodyOf l)
 
 abbrev pub tailOf : List ℕ → List ℕ
-tailOf l = drop (find 46 (bodyOf l)) (bodyOf l)
+tailOf l = drop (find (byteOf ".") (bodyOf l)) (bodyOf l)
 
 abbrev pub frontLength : Form → ℕ → Bool
 frontLength form = oneOf (layoutOf form .stops)

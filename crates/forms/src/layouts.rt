@@ -58,7 +58,8 @@ fn is_zone(zone: &[u8]) -> bool
     (n == 5) & numbers::is_digits(&zone[1..])
 }
 
-// HH[MM[SS[.S to .SSSS]]][+/-ZZZZ] or YYYY[MM[DD[HHMM[SS[.S to .SSSS]]]]][+/-ZZZZ], by its front, its tail and its zone.
+// HH[MM[SS[.S to .SSSS]]][+/-ZZZZ] or YYYY[MM[DD[HHMM[SS[.S to .SSSS]]]]][+/-ZZZZ], by its front, its tail and its
+// zone.
 pub fn is_time_form(form: Form, front: &[u8], tail: &[u8], zone: &[u8]) -> bool
     ensures { λ r. ⌜ r ≡ partsForm form (now (front .entry)) (now (tail .entry)) (now (zone .entry)) ⌝ }
 {

@@ -1,13 +1,11 @@
-// The parts of a TM and a TS: a body before the first sign and a zone from it on. Of the body, a front stands before the
-// point and a tail from it on.
+// The parts of a TM and a TS: a body before the first sign and a zone from it on. Of the body, a front stands before
+// the point and a tail from it on.
 ghost use mathlib.Core.Path.{_≡_};
-ghost use Prim.Native.Nat.{min};
-ghost use Rattle.alphabet.specs.Lists.{find};
-ghost use Rattle.forms.specs.Forms.{bodyOf};
+ghost use Rattle.forms.specs.Forms.{firstSign, bodyOf};
 
 // The place of the first sign, or the length where there is none.
 fn first_sign(bytes: &[u8]) -> usize
-    ensures { λ r. ⌜ r ≡ min (find 43 (now (bytes .entry))) (find 45 (now (bytes .entry))) ⌝ }
+    ensures { λ r. ⌜ r ≡ firstSign (now (bytes .entry)) ⌝ }
 {
     let plus = alphabet::find(bytes, b'+');
     let minus = alphabet::find(bytes, b'-');

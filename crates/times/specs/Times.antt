@@ -1,9 +1,11 @@
--- DT, TM and TS, by document 01, 'Numbers and times': "A time keeps how much was sent; a month not sent is not month 0."
+-- DT, TM and TS, by document 01, 'Numbers and times': "A time keeps how much was sent; a month not sent is not month
+-- 0."
 use Prim.Native.Nat.{ℕ, _+_, _-_}
 use mathlib.Core.List.{List}
 use mathlib.Core.Bool.{Bool, true, false, cond, _&&_}
 use lib.Dec.{leb, eqb}
 use lib.ListN.{length, getD, take, drop}
+use Rattle.alphabet.specs.Bytes.{byteOf}
 use Rattle.alphabet.specs.Digits.{decimal}
 use Rattle.calendar.specs.Calendar.{noDate, noClock, noOffset, noTime, validTime}
 use Rattle.calendar.specs.declared.figures.Figure.{Figure}
@@ -23,7 +25,8 @@ use Rattle.alphabet.specs.declared.answers.Refusal.the-variants.{None, BreaksFo
 
 -- the figure of `width` digits from place `start` on, if they were sent
 unfoldable pub figureAt : List ℕ → ℕ → ℕ → Figure
-figureAt digits start width = cond (leb (start + width) (length digits)) (Sent (decimal (take width (drop start digits)))) NotSent
+figureAt digits start width =
+    cond (leb (start + width) (length digits)) (Sent (decimal (take width (drop start digits)))) NotSent
 
 -- "YYYY[MM[DD"
 unfoldable pub dateOf : List ℕ → Date
@@ -36,13 +39,23 @@ fractionOf tail = cond (eqb (length tail) 0) NotSent (Sent (decimal (drop 1 tail
 -- "HH[MM[SS": from place `start` of the digits on
 unfoldable pub clockOf : List ℕ → ℕ → List ℕ → Clock
 clockOf digits start tail =
-    record { hour = figureAt digits start 2; minute = figureAt digits (start + 2) 2; second = figureAt digits (start + 4) 2; fraction = fractionOf tail; digits = length tail - 1 }
+    record {
+      hour = figureAt digits start 2;
+      minute = figureAt digits (start + 2) 2;
+      second = figureAt digits (start + 4) 2;
+      fraction = fractionOf tail;
+      digits = length tail - 1;
+    }
 
 -- "[+/-ZZZZ]": the sign, hours and minutes apart
 unfoldable pub offsetOf : List ℕ → Offset
 offsetOf zone =
     cond (eqb (length zone) 0) noOffset
-    (record { sign = cond (eqb (getD zone 0 0) 45) Sign.Minus Sign.Plus; hours = decimal (take 2 (drop 1 zone)); minutes = decimal (take 2 (drop 3 zone)) })
+    (record {
+      sign = cond (eqb (getD zone 0 0) (byteOf "-")) Sign.Minus Sign.Plus;
+      hours = decimal (take 2 (drop 1 zone));
+      minutes = decimal (take 2 (drop 3 zone));
+    })
 
 -- ---- DT: of its form, and on a day that there is
 
@@ -59,7 +72,8 @@ dateIn form front = cond (layoutOf form .dated) (dateOf front) noDate
 
 -- the time that front, tail and zone say
 abbrev pub partsTime : Form → List ℕ → List ℕ → List ℕ → Time
-partsTime form front tail zone = record { date = dateIn form front; clock = clockOf front (layoutOf form .clock) tail; offset = offsetOf zone }
+partsTime form front tail zone =
+    record { date = dateIn form front; clock = clockOf front (layoutOf form .clock) tail; offset = offsetOf zone }
 
 unfoldable pub timeOf : Form → List ℕ → Time
 timeOf form l = partsTime form (frontOf l) (tailOf l) (zoneOf l)

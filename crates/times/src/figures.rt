@@ -91,7 +91,7 @@ pub fn offset_of(zone: &[u8]) -> Offset
     }
     let hours = pair_at(zone, 1);
     let minutes = pair_at(zone, 3);
-    if zone[0] == 45 {
+    if zone[0] == b'-' {
         return Offset {
             sign: Sign::Minus,
             hours: hours,

@@ -1,5 +1,5 @@
--- A number or a time asked of an element: "Asked for its number (NM, SI) or time (DT, TM, TS), an element not present gives its state alone."
--- "Lookup: a reading fault, 19, then 32 or 37."
+-- A number or a time asked of an element: "Asked for its number (NM, SI) or time (DT, TM, TS), an element not present
+-- gives its state alone." "Lookup: a reading fault, 19, then 32 or 37."
 use Prim.Native.Nat.{ℕ}
 use mathlib.Core.List.{List}
 use mathlib.Core.Bool.{Bool, true, false, cond}
@@ -21,7 +21,12 @@ use Rattle.value.specs.declared.asked.TimeFound.{TimeFound}
 unfoldable pub numberFrom : Found → ReadNumber → NumberFound
 numberFrom f r =
     cond (isPresent (f .element .state))
-    (record { answer = record { kind = r .kind; place = 0; length = 0 }; state = f .element .state; value = r .value; decimals = r .decimals })
+    (record {
+      answer = record { kind = r .kind; place = 0; length = 0 };
+      state = f .element .state;
+      value = r .value;
+      decimals = r .decimals;
+    })
     (record { answer = f .answer; state = f .element .state; value = pos 0; decimals = 0 })
 
 unfoldable pub timeFrom : Found → ReadTime → TimeFound
