@@ -1,4 +1,5 @@
--- What was sent of a time, and what may stand there, by document 01, 'Numbers and times': "A time keeps how much was sent; a month not sent is not month 0."
+-- What was sent of a time, and what may stand there, by document 01, 'Numbers and times': "A time keeps how much was
+-- sent; a month not sent is not month 0."
 use Prim.Native.Nat.{ℕ, _%_}
 use mathlib.Core.Bool.{Bool, true, cond, not, _&&_, _||_}
 use lib.Dec.{leb, eqb}
@@ -47,7 +48,8 @@ daysIn year month =
 -- "Years 0001 to 9999"
 unfoldable pub validDate : Date → Bool
 validDate d =
-    inRange 1 9999 (d .year) && (inRange 1 12 (d .month) && inRange 1 (daysIn (numberIn (d .year)) (numberIn (d .month))) (d .day))
+    inRange 1 9999 (d .year)
+    && (inRange 1 12 (d .month) && inRange 1 (daysIn (numberIn (d .year)) (numberIn (d .month))) (d .day))
 
 -- "hours 00-23, minutes and seconds 00-59"
 unfoldable pub validClock : Clock → Bool
@@ -56,3 +58,6 @@ validClock c = inRange 0 23 (c .hour) && (inRange 0 59 (c .minute) && inRange 0 
 -- "offset hours 00-14 and offset minutes 00-59"
 abbrev pub validOffset : Offset → Bool
 validOffset o = leb (o .hours) 14 && leb (o .minutes) 59
+
+abbrev pub validTime : Time → Bool
+validTime t = validDate (t .date) && (validClock (t .clock) && validOffset (t .offset))

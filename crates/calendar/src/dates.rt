@@ -3,8 +3,9 @@ use crate::figures::Clock;
 use crate::figures::Date;
 use crate::figures::Figure;
 use crate::figures::Offset;
+use crate::figures::Time;
 ghost use mathlib.Core.Path.{_≡_};
-ghost use Rattle.calendar.specs.Calendar.{inRange, numberIn, leap, daysIn, validDate, validClock, validOffset};
+ghost use Rattle.calendar.specs.Calendar.{inRange, numberIn, leap, daysIn, validDate, validClock, validOffset, validTime};
 
 // A figure that was not sent is in any range.
 fn in_range(least: u64, most: u64, figure: Figure) -> bool
@@ -67,4 +68,11 @@ pub fn is_offset(offset: Offset) -> bool
     ensures { λ r. ⌜ r ≡ validOffset offset ⌝ }
 {
     (offset.hours <= 14) & (offset.minutes <= 59)
+}
+
+// A time that exists, as far as it was sent.
+pub fn is_time(time: Time) -> bool
+    ensures { λ r. ⌜ r ≡ validTime time ⌝ }
+{
+    is_date(time.date) & (is_clock(time.clock) & is_offset(time.offset))
 }

@@ -2,9 +2,8 @@
 mod dates;
 mod figures;
 
-pub use dates::is_clock;
 pub use dates::is_date;
-pub use dates::is_offset;
+pub use dates::is_time;
 pub use figures::Clock;
 pub use figures::Date;
 pub use figures::Figure;

@@ -18,9 +18,10 @@ use Rattle.calendar.specs.declared.figures.Figure.the-variants.{NotSent, Sent}
 use Rattle.calendar.specs.declared.figures.Sign.{Sign}
 use Rattle.calendar.specs.declared.figures.Clock.{Clock}
 use Rattle.calendar.specs.declared.figures.Offset.{Offset}
-use Rattle.times.specs.Times.{figureAt, fractionOf, clockOf, offsetOf, fractionForm, zoneForm}
+use Rattle.forms.specs.Forms.{fractionForm, zoneForm}
+use Rattle.forms.proofs.FormLaws.{fraction-none, fraction-some, zone-none, zone-some, zone-holds}
+use Rattle.times.specs.Times.{figureAt, fractionOf, clockOf, offsetOf}
 use Rattle.times.proofs.FigureLaws.{figure-sent, figure-not, fraction-not, fraction-sent, offset-not, offset-plus, offset-minus}
-use Rattle.times.proofs.TimeLaws.{fraction-none, fraction-some, zone-none, zone-some, zone-holds}
 use Rattle.grammars.specs.SpeltTimes.{Hour, Minute, Second, OffsetHour, OffsetMinute, SpeltMinutes, to-minute, to-second, to-fraction, SpeltClock, to-hour, SpeltOffset, nothing, plus, minus}
 use Rattle.grammars.proofs.SpeltLaws.{says-decimal, decimal-says}
 use Rattle.grammars.proofs.SpeltDates.{within, figure-here, figure-alone, figure-past, piece-says}
@@ -252,6 +253,7 @@ pub record IsOffset (z : List ℕ) (o : Offset) : Type 0 where
   pub signed : Zone z
   pub formed : zoneForm z ≡ true
   pub figures : offsetOf z ≡ o
+  pub valid : validOffset o ≡ true
 
 -- what a sign and the digits of hours and minutes are, whichever the sign
 record IsFour (b : ℕ) (r : List ℕ) (h m : ℕ) : Type 0 where
@@ -278,19 +280,19 @@ is-four b {hh} {mm} {h} {m} hour minute =
     }
 
 pub is-offset : {z : List ℕ} {o : Offset} → SpeltOffset z o → IsOffset z o
-is-offset nothing = record { signed = no-sign; formed = zone-none [] refl; figures = offset-not [] refl }
+is-offset nothing = record { signed = no-sign; formed = zone-none [] refl; figures = offset-not [] refl; valid = refl }
 is-offset (plus {hh} {mm} hour minute) =
     let f = is-four 43 hour minute in
     let q = offset-plus (43 ∷ (hh ++ mm)) (λ x. omega arith) (λ x. omega arith) ∙ (λ i. record { sign = Sign.Plus; hours = f .hours i; minutes = f .minutes i }) in
-    record { signed = plus-sign (f .digits); formed = zone-some (43 ∷ (hh ++ mm)) (λ x. omega arith) (f .formed) ∙ ap validOffset q ∙ f .valid; figures = q }
+    record { signed = plus-sign (f .digits); formed = zone-some (43 ∷ (hh ++ mm)) (λ x. omega arith) ∙ f .formed; figures = q; valid = f .valid }
 is-offset (minus {hh} {mm} hour minute) =
     let f = is-four 45 hour minute in
     let q = offset-minus (45 ∷ (hh ++ mm)) (λ x. omega arith) refl ∙ (λ i. record { sign = Sign.Minus; hours = f .hours i; minutes = f .minutes i }) in
-    record { signed = minus-sign (f .digits); formed = zone-some (45 ∷ (hh ++ mm)) (λ x. omega arith) (f .formed) ∙ ap validOffset q ∙ f .valid; figures = q }
+    record { signed = minus-sign (f .digits); formed = zone-some (45 ∷ (hh ++ mm)) (λ x. omega arith) ∙ f .formed; figures = q; valid = f .valid }
 
-pub offset-spells : (z : List ℕ) → zoneForm z ≡ true → ((length z ≡ 0 → ⊥) → (getD z 0 0 ≡ 43) ⊎ (getD z 0 0 ≡ 45)) → SpeltOffset z (offsetOf z)
-offset-spells [] e sign = subst (SpeltOffset []) (sym (offset-not [] refl)) nothing
-offset-spells (b ∷ r) e sign = at (sign some)
+pub offset-spells : (z : List ℕ) → zoneForm z ≡ true → validOffset (offsetOf z) ≡ true → ((length z ≡ 0 → ⊥) → (getD z 0 0 ≡ 43) ⊎ (getD z 0 0 ≡ 45)) → SpeltOffset z (offsetOf z)
+offset-spells [] e valid sign = subst (SpeltOffset []) (sym (offset-not [] refl)) nothing
+offset-spells (b ∷ r) e valid sign = at (sign some)
   where
     some : suc (length r) ≡ 0 → ⊥
     some z = omega arith
@@ -306,9 +308,6 @@ offset-spells (b ∷ r) e sign = at (sign some)
 
     long : suc (length r) ≡ 5
     long = zone-holds (b ∷ r) e .1 some
-
-    valid : validOffset (offsetOf (b ∷ r)) ≡ true
-    valid = sym (zone-some (b ∷ r) some (both-and (eq-eqb (suc (length r)) 5 long) digits)) ∙ e
 
     figures : (leb h 14 && leb m 59) ≡ true → OffsetHour (take 2 r) h × OffsetMinute (take 2 (drop 2 r)) m
     figures v =

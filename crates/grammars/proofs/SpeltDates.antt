@@ -13,11 +13,13 @@ use Rattle.alphabet.specs.Bytes.{fromTo}
 use Rattle.alphabet.specs.Digits.{allDigits, decimal}
 use Rattle.alphabet.proofs.BoolLaws.{false-true, and-both, both-and, from-to}
 use Rattle.alphabet.proofs.DigitLaws.{digits-append, digits-take, digits-drop}
-use Rattle.calendar.specs.Calendar.{leap, daysIn, validDate, noClock, noOffset}
+use Rattle.calendar.specs.Calendar.{leap, daysIn, validDate, validClock, validOffset, validTime, noClock, noOffset}
 use Rattle.calendar.specs.declared.figures.Figure.the-variants.{NotSent, Sent}
 use Rattle.calendar.specs.declared.figures.Date.{Date}
 use Rattle.calendar.specs.declared.figures.Time.{Time}
-use Rattle.times.specs.Times.{figureAt, dateOf, dtLength, isDt, dtTime}
+use Rattle.forms.specs.Forms.{dtLength, dtForm}
+use Rattle.forms.proofs.FormLaws.{dt-digits, dt-length}
+use Rattle.times.specs.Times.{figureAt, dateOf, isDt, dtTime}
 use Rattle.times.proofs.FigureLaws.{figure-sent, figure-not}
 use Rattle.grammars.specs.Spelt.{Says}
 use Rattle.grammars.specs.SpeltTimes.{Leap, LastDay, january, february, leap-february, march, april, may, june, july, august, september, october, november, december, SpeltDay, day, SpeltDate, to-year, to-month, to-day, Dt, dt}
@@ -252,15 +254,22 @@ date-spells l e long v = at (three (length l) 4 6 8 long)
 
 -- ---- DT
 
+dt-made : (l : List ℕ) → allDigits l ≡ true → dtLength (length l) ≡ true → dtForm l ≡ true
+unfolding dtForm
+dt-made l d n = both-and d n
+
+-- a clock and an offset that were not sent are none that there are not
+nothing-valid : (validClock noClock && validOffset noOffset) ≡ true
+nothing-valid = unfold validClock in refl
+
 pub dt-spelt : {l : List ℕ} {t : Time} → Dt l t → (isDt l ≡ true) × (dtTime l ≡ t)
 unfolding isDt dtTime
-dt-spelt (dt s) =
+dt-spelt (dt {l} s) =
     let d = is-date s in
-    (both-and (both-and (d .digits) (d .long)) (ap validDate (d .figures) ∙ d .valid), λ i. record { date = d .figures i; clock = noClock; offset = noOffset })
+    (both-and (dt-made l (d .digits) (d .long)) (both-and (ap validDate (d .figures) ∙ d .valid) nothing-valid), λ i. record { date = d .figures i; clock = noClock; offset = noOffset })
 
 pub dt-spells : (l : List ℕ) → isDt l ≡ true → Dt l (dtTime l)
 unfolding isDt dtTime
 dt-spells l e =
-    let a = and-both (allDigits l && dtLength (length l)) (validDate (dateOf l)) e in
-    let b = and-both (allDigits l) (dtLength (length l)) (a .0) in
-    dt (date-spells l (b .0) (b .1) (a .1))
+    let a = and-both (dtForm l) (validTime (dtTime l)) e in
+    dt (date-spells l (dt-digits l (a .0)) (dt-length l (a .0)) (and-both (validDate (dateOf l)) _ (a .1) .0))

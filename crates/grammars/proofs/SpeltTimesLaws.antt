@@ -9,24 +9,26 @@ use native.Mathlib.Omega.{arith}
 use lib.Dec.{eqb}
 use lib.ListN.{length, take, drop, length-append, length-drop, take-append-drop}
 use lib.Seq.{take-at, drop-at, length-take-le}
-use borrow.Author.Tests.{eqb-true, ne-eqb}
+use borrow.Author.Tests.{ne-eqb}
 use Rattle.alphabet.specs.declared.answers.Refusal.the-variants.{None}
 use Rattle.alphabet.specs.Bytes.{digit}
 use Rattle.alphabet.specs.Digits.{allDigits}
 use Rattle.alphabet.specs.Lists.{first, find}
 use Rattle.alphabet.proofs.BoolLaws.{false-true, and-both, both-and}
 use Rattle.alphabet.proofs.DigitLaws.{digits-append, digits-drop}
-use Rattle.calendar.specs.Calendar.{validDate, validClock, noDate, noClock}
+use Rattle.calendar.specs.Calendar.{validDate, validClock, validOffset, validTime, noDate, noClock}
 use Rattle.calendar.specs.declared.figures.Date.{Date}
 use Rattle.calendar.specs.declared.figures.Clock.{Clock}
 use Rattle.calendar.specs.declared.figures.Offset.{Offset}
 use Rattle.calendar.specs.declared.figures.Time.{Time}
 use Rattle.times.specs.declared.moments.ReadTime.{ReadTime}
-use Rattle.times.specs.Times.{isDt, dtTime, dateOf, fractionOf, clockOf, offsetOf, bodyOf, zoneOf, frontOf, tailOf, dtLength, frontLength, toSeconds, clockStart, fractionForm, zoneForm, partsForm, timeForm, dateIn, isTime, timeOf, timeIf, dtRead, timeRead}
+use Rattle.forms.specs.declared.layouts.Form.{Form}
+use Rattle.forms.specs.Forms.{bodyOf, zoneOf, frontOf, tailOf, dtLength, layoutOf, frontLength, fractionForm, zoneForm, partsForm, timeForm}
+use Rattle.forms.proofs.FormLaws.{fraction-none, form-parts}
+use Rattle.times.specs.Times.{isDt, dtTime, dateOf, fractionOf, clockOf, offsetOf, partsTime, isTime, timeOf, timeIf, dtRead, timeRead}
 use Rattle.times.proofs.FigureLaws.{figure-not, fraction-not}
-use Rattle.times.proofs.TimeLaws.{fraction-none}
 use Rattle.grammars.specs.SpeltTimes.{SpeltMinutes, SpeltClock, to-hour, beyond, SpeltOffset, Dt, Tm, tm, Ts, date-alone, date-and-clock, Answers, says, breaks, DtSays, TmSays, TsSays}
-use Rattle.laws.proofs.OneSpelling.{or-cases, three, begins, zone-head, dt-most}
+use Rattle.laws.proofs.OneSpelling.{three, five, dt-front, begins, zone-head, dt-most}
 use Rattle.grammars.proofs.SpeltDates.{figure-past, IsDay, is-day, day-spells, IsDate, is-date, date-spells, dt-spelt, dt-spells}
 use Rattle.grammars.proofs.SpeltClocks.{Tail, no-point, point, IsClock, is-minutes, is-hour, no-fraction, hour-spells, minute-spells, second-spells, Zone, no-sign, plus-sign, minus-sign, IsOffset, is-offset, offset-spells}
 
@@ -92,36 +94,35 @@ module _ (f p z : List ℕ) (digits : allDigits f ≡ true) (tail : Tail p) (zon
 
 -- ---- what is asked of the three
 
-record Holds (dated : Bool) (f p z : List ℕ) : Type 0 where
+record Holds (form : Form) (f p z : List ℕ) : Type 0 where
   digits : allDigits f ≡ true
-  long : frontLength dated (length f) ≡ true
-  tailed : fractionForm (eqb (length f) (toSeconds dated)) p ≡ true
+  long : frontLength form (length f) ≡ true
+  tailed : fractionForm (eqb (length f) (layoutOf form .seconds)) p ≡ true
   zoned : zoneForm z ≡ true
-  date : validDate (dateIn dated f) ≡ true
-  clock : validClock (clockOf f (clockStart dated) p) ≡ true
+  date : validDate (partsTime form f p z .date) ≡ true
+  clock : validClock (partsTime form f p z .clock) ≡ true
+  offset : validOffset (offsetOf z) ≡ true
 
-holds : (dated : Bool) (l : List ℕ) → isTime dated l ≡ true → Holds dated (frontOf l) (tailOf l) (zoneOf l)
-unfolding isTime timeForm
-holds dated l e =
-    let f = frontOf l in
-    let a = and-both (partsForm dated f (tailOf l) (zoneOf l)) (validDate (dateIn dated f) && validClock (clockOf f (clockStart dated) (tailOf l))) e in
-    let b = and-both (allDigits f && frontLength dated (length f)) (fractionForm (eqb (length f) (toSeconds dated)) (tailOf l) && zoneForm (zoneOf l)) (a .0) in
-    let c = and-both (allDigits f) (frontLength dated (length f)) (b .0) in
-    let d = and-both (fractionForm (eqb (length f) (toSeconds dated)) (tailOf l)) (zoneForm (zoneOf l)) (b .1) in
-    let v = and-both (validDate (dateIn dated f)) (validClock (clockOf f (clockStart dated) (tailOf l))) (a .1) in
-    record { digits = c .0; long = c .1; tailed = d .0; zoned = d .1; date = v .0; clock = v .1 }
+holds : (form : Form) (l : List ℕ) → isTime form l ≡ true → Holds form (frontOf l) (tailOf l) (zoneOf l)
+unfolding isTime timeOf
+holds form l e =
+    let t = partsTime form (frontOf l) (tailOf l) (zoneOf l) in
+    let a = and-both (timeForm form l) (validTime t) e in
+    let b = form-parts form l (a .0) in
+    let v = and-both (validDate (t .date)) _ (a .1) in
+    let w = and-both (validClock (t .clock)) (validOffset (t .offset)) (v .1) in
+    record { digits = b .digits; long = b .long; tailed = b .tailed; zoned = b .zoned; date = v .0; clock = w .0; offset = w .1 }
 
 -- three that hold make a time
-made : (dated : Bool) (f p z : List ℕ) → Tail p → Zone z → Holds dated f p z
-    → (isTime dated ((f ++ p) ++ z) ≡ true) × (timeOf dated ((f ++ p) ++ z) ≡ record { date = dateIn dated f; clock = clockOf f (clockStart dated) p; offset = offsetOf z })
+made : (form : Form) (f p z : List ℕ) → Tail p → Zone z → Holds form f p z → (isTime form ((f ++ p) ++ z) ≡ true) × (timeOf form ((f ++ p) ++ z) ≡ partsTime form f p z)
 unfolding isTime timeForm timeOf
-made dated f p z tail zone h =
+made form f p z tail zone h =
     let a = front-is f p z (h .digits) tail zone in
     let b = tail-is f p z (h .digits) tail zone in
     let c = zone-is f p z (h .digits) tail zone in (
-      (λ i. partsForm dated (a i) (b i) (c i) && (validDate (dateIn dated (a i)) && validClock (clockOf (a i) (clockStart dated) (b i))))
-          ∙ both-and (both-and (both-and (h .digits) (h .long)) (both-and (h .tailed) (h .zoned))) (both-and (h .date) (h .clock)),
-      λ i. record { date = dateIn dated (a i); clock = clockOf (a i) (clockStart dated) (b i); offset = offsetOf (c i) },
+      (λ i. partsForm form (a i) (b i) (c i) && validTime (partsTime form (a i) (b i) (c i)))
+          ∙ both-and (both-and (both-and (h .digits) (h .long)) (both-and (h .tailed) (h .zoned))) (both-and (h .date) (both-and (h .clock) (h .offset))),
+      λ i. partsTime form (a i) (b i) (c i),
     )
 
 -- a time is its three parts
@@ -130,34 +131,35 @@ together l = ap (λ (x : List ℕ). x ++ zoneOf l) (take-append-drop (find 46 (b
 
 -- ---- TM
 
-tm-of : (n : ℕ) {l z : List ℕ} {c : Clock} {o : Offset} → frontLength false n ≡ true → IsClock n l c → IsOffset z o
-    → (isTime false (l ++ z) ≡ true) × (timeOf false (l ++ z) ≡ record { date = noDate; clock = c; offset = o })
+tm-of : (n : ℕ) {l z : List ℕ} {c : Clock} {o : Offset} → frontLength Form.Tm n ≡ true → IsClock n l c → IsOffset z o
+    → (isTime Form.Tm (l ++ z) ≡ true) × (timeOf Form.Tm (l ++ z) ≡ record { date = noDate; clock = c; offset = o })
 tm-of n {l} {z} {c} {o} h k s =
     let f = k .front in
     let p = k .tail in
-    let m = made false f p z (k .pointed) (s .signed) (record {
+    let m = made Form.Tm f p z (k .pointed) (s .signed) (record {
       digits = k .digits;
-      long = ap (frontLength false) (k .long) ∙ h;
+      long = ap (frontLength Form.Tm) (k .long) ∙ h;
       tailed = ap (λ (x : ℕ). fractionForm (eqb x 6) p) (k .long) ∙ k .formed;
       zoned = s .formed;
       date = nothing-valid;
       clock = ap validClock (k .figures) ∙ k .valid;
+      offset = ap validOffset (s .figures) ∙ s .valid;
     }) in
     let w = ap (λ (x : List ℕ). x ++ z) (k .whole) in
-    (ap (isTime false) w ∙ m .0, ap (timeOf false) w ∙ m .1 ∙ (λ i. record { date = noDate; clock = k .figures i; offset = s .figures i }))
+    (ap (isTime Form.Tm) w ∙ m .0, ap (timeOf Form.Tm) w ∙ m .1 ∙ (λ i. record { date = noDate; clock = k .figures i; offset = s .figures i }))
   where
     nothing-valid : validDate noDate ≡ true
     nothing-valid = unfold validDate in refl
 
-pub tm-spelt : {l : List ℕ} {t : Time} → Tm l t → (isTime false l ≡ true) × (timeOf false l ≡ t)
+pub tm-spelt : {l : List ℕ} {t : Time} → Tm l t → (isTime Form.Tm l ≡ true) × (timeOf Form.Tm l ≡ t)
 tm-spelt (tm (to-hour h) s) = tm-of 2 refl (is-hour h) (is-offset s)
 tm-spelt (tm (beyond m) s) = ⊎-elim (λ k. tm-of 4 refl k (is-offset s)) (λ k. tm-of 6 refl k (is-offset s)) (is-minutes m)
 
-pub tm-spells : (l : List ℕ) → isTime false l ≡ true → Tm l (timeOf false l)
+pub tm-spells : (l : List ℕ) → isTime Form.Tm l ≡ true → Tm l (timeOf Form.Tm l)
 unfolding timeOf
 tm-spells l e =
-    let h = holds false l e in
-    subst (λ (x : List ℕ). Tm x (timeOf false l)) (together l) (tm (clock h (three (length (frontOf l)) 2 4 6 (h .long))) (offset-spells (zoneOf l) (h .zoned) (zone-head l)))
+    let h = holds Form.Tm l e in
+    subst (λ (x : List ℕ). Tm x (timeOf Form.Tm l)) (together l) (tm (clock h (three (length (frontOf l)) 2 4 6 (h .long))) (offset-spells (zoneOf l) (h .zoned) (h .offset) (zone-head l)))
   where
     f : List ℕ
     f = frontOf l
@@ -165,7 +167,7 @@ tm-spells l e =
     p : List ℕ
     p = tailOf l
 
-    clock : Holds false f p (zoneOf l) → (length f ≡ 2) ⊎ ((length f ≡ 4) ⊎ (length f ≡ 6)) → SpeltClock (f ++ p) (clockOf f 0 p)
+    clock : Holds Form.Tm f p (zoneOf l) → (length f ≡ 2) ⊎ ((length f ≡ 4) ⊎ (length f ≡ 6)) → SpeltClock (f ++ p) (clockOf f 0 p)
     clock h (inl n) = hour-spells f p (h .digits) n (ap (λ (x : ℕ). fractionForm (eqb x 6) p) (sym n) ∙ h .tailed) (h .clock)
     clock h (inr (inl n)) = beyond (minute-spells f p (h .digits) n (ap (λ (x : ℕ). fractionForm (eqb x 6) p) (sym n) ∙ h .tailed) (h .clock))
     clock h (inr (inr n)) =
@@ -200,25 +202,26 @@ clock-past a f p n =
 date-most : (l : List ℕ) → dtLength (length l) ≡ true → length l ≤ 8
 date-most l e = dt-most (length l) (three (length l) 4 6 8 e)
 
-ts-date : {l z : List ℕ} {d : Date} {o : Offset} → IsDate l d → IsOffset z o → (isTime true (l ++ z) ≡ true) × (timeOf true (l ++ z) ≡ record { date = d; clock = noClock; offset = o })
+ts-date : {l z : List ℕ} {d : Date} {o : Offset} → IsDate l d → IsOffset z o → (isTime Form.Ts (l ++ z) ≡ true) × (timeOf Form.Ts (l ++ z) ≡ record { date = d; clock = noClock; offset = o })
 ts-date {l} {z} k s =
     let c = no-clock l (date-most l (k .long)) in
-    let m = made true l [] z no-point (s .signed) (record {
+    let m = made Form.Ts l [] z no-point (s .signed) (record {
       digits = k .digits;
-      long = rw (k .long);
+      long = dt-front (length l) (k .long);
       tailed = fraction-none (eqb (length l) 14) [] refl;
       zoned = s .formed;
       date = ap validDate (k .figures) ∙ k .valid;
       clock = ap validClock c ∙ nothing-valid;
+      offset = ap validOffset (s .figures) ∙ s .valid;
     }) in
     let w = ap (λ (x : List ℕ). x ++ z) (sym (append-nil l)) in
-    (ap (isTime true) w ∙ m .0, ap (timeOf true) w ∙ m .1 ∙ (λ i. record { date = k .figures i; clock = c i; offset = s .figures i }))
+    (ap (isTime Form.Ts) w ∙ m .0, ap (timeOf Form.Ts) w ∙ m .1 ∙ (λ i. record { date = k .figures i; clock = c i; offset = s .figures i }))
   where
     nothing-valid : validClock noClock ≡ true
     nothing-valid = unfold validClock in refl
 
-ts-clock : (n : ℕ) {a l z : List ℕ} {d : Date} {c : Clock} {o : Offset} → frontLength true (8 + n) ≡ true → eqb (8 + n) 14 ≡ eqb n 6 → IsDay a d → IsClock n l c → IsOffset z o
-    → (isTime true (a ++ (l ++ z)) ≡ true) × (timeOf true (a ++ (l ++ z)) ≡ record { date = d; clock = c; offset = o })
+ts-clock : (n : ℕ) {a l z : List ℕ} {d : Date} {c : Clock} {o : Offset} → frontLength Form.Ts (8 + n) ≡ true → eqb (8 + n) 14 ≡ eqb n 6 → IsDay a d → IsClock n l c → IsOffset z o
+    → (isTime Form.Ts (a ++ (l ++ z)) ≡ true) × (timeOf Form.Ts (a ++ (l ++ z)) ≡ record { date = d; clock = c; offset = o })
 ts-clock n {a} {l} {z} h g j k s =
     let f = k .front in
     let p = k .tail in
@@ -227,25 +230,26 @@ ts-clock n {a} {l} {z} h g j k s =
     let k1 = k .long in
     let long : length (a ++ f) ≡ 8 + n = omega arith in
     let c = clock-past a f p j1 ∙ k .figures in
-    let m = made true (a ++ f) p z (k .pointed) (s .signed) (record {
+    let m = made Form.Ts (a ++ f) p z (k .pointed) (s .signed) (record {
       digits = digits-append a f ∙ both-and (j .digits) (k .digits);
-      long = ap (frontLength true) long ∙ h;
+      long = ap (frontLength Form.Ts) long ∙ h;
       tailed = ap (λ (x : ℕ). fractionForm (eqb x 14) p) long ∙ ap (λ (t : Bool). fractionForm t p) g ∙ k .formed;
       zoned = s .formed;
       date = ap validDate (j .figures f) ∙ j .valid;
       clock = ap validClock c ∙ k .valid;
+      offset = ap validOffset (s .figures) ∙ s .valid;
     }) in
     let w : a ++ (l ++ z) ≡ ((a ++ f) ++ p) ++ z =
     sym (append-assoc a l z) ∙ ap (λ (x : List ℕ). (a ++ x) ++ z) (k .whole) ∙ ap (λ (x : List ℕ). x ++ z) (sym (append-assoc a f p)) in
-    (ap (isTime true) w ∙ m .0, ap (timeOf true) w ∙ m .1 ∙ (λ i. record { date = j .figures f i; clock = c i; offset = s .figures i }))
+    (ap (isTime Form.Ts) w ∙ m .0, ap (timeOf Form.Ts) w ∙ m .1 ∙ (λ i. record { date = j .figures f i; clock = c i; offset = s .figures i }))
 
-pub ts-spelt : {l : List ℕ} {t : Time} → Ts l t → (isTime true l ≡ true) × (timeOf true l ≡ t)
+pub ts-spelt : {l : List ℕ} {t : Time} → Ts l t → (isTime Form.Ts l ≡ true) × (timeOf Form.Ts l ≡ t)
 ts-spelt (date-alone d s) = ts-date (is-date d) (is-offset s)
 ts-spelt (date-and-clock d m s) =
     ⊎-elim (λ k. ts-clock 4 refl refl (is-day d) k (is-offset s)) (λ k. ts-clock 6 refl refl (is-day d) k (is-offset s)) (is-minutes m)
 
 -- a date alone: no fraction stands behind it
-date-alone-spells : (f p z : List ℕ) → dtLength (length f) ≡ true → Holds true f p z → SpeltOffset z (offsetOf z)
+date-alone-spells : (f p z : List ℕ) → dtLength (length f) ≡ true → Holds Form.Ts f p z → SpeltOffset z (offsetOf z)
     → Ts ((f ++ p) ++ z) (record { date = dateOf f; clock = clockOf f 8 p; offset = offsetOf z })
 date-alone-spells f [] z n h s =
     subst (λ (x : List ℕ). Ts (x ++ z) (record { date = dateOf f; clock = clockOf f 8 []; offset = offsetOf z })) (sym (append-nil f))
@@ -257,7 +261,7 @@ date-alone-spells f (b ∷ p) z n h s =
     absurd (no-fraction b p (ap (λ (t : Bool). fractionForm t (b ∷ p)) (sym q) ∙ h .tailed))
 
 -- a day and a clock behind it
-day-and-clock-spells : (f p z : List ℕ) → 8 ≤ length f → Holds true f p z
+day-and-clock-spells : (f p z : List ℕ) → 8 ≤ length f → Holds Form.Ts f p z
     → (validClock (clockOf (drop 8 f) 0 p) ≡ true → SpeltMinutes (drop 8 f ++ p) (clockOf (drop 8 f) 0 p)) → SpeltOffset z (offsetOf z)
     → Ts ((f ++ p) ++ z) (record { date = dateOf f; clock = clockOf f 8 p; offset = offsetOf z })
 day-and-clock-spells f p z n h minutes s =
@@ -270,9 +274,9 @@ day-and-clock-spells f p z n h minutes s =
     (subst (λ (x : Clock). Ts (a ++ ((g ++ p) ++ z)) (record { date = dateOf f; clock = x; offset = offsetOf z })) (sym c)
     (date-and-clock (day-spells f (h .digits) n (h .date)) (minutes (ap validClock (sym c) ∙ h .clock)) s))
 
-pub ts-spells : (l : List ℕ) → isTime true l ≡ true → Ts l (timeOf true l)
+pub ts-spells : (l : List ℕ) → isTime Form.Ts l ≡ true → Ts l (timeOf Form.Ts l)
 unfolding timeOf
-ts-spells l e = subst (λ (x : List ℕ). Ts x (timeOf true l)) (together l) (at (or-cases (dtLength (length f)) (eqb (length f) 12 || eqb (length f) 14) (h .long)))
+ts-spells l e = subst (λ (x : List ℕ). Ts x (timeOf Form.Ts l)) (together l) (at (five (length f) (h .long)))
   where
     f : List ℕ
     f = frontOf l
@@ -283,40 +287,38 @@ ts-spells l e = subst (λ (x : List ℕ). Ts x (timeOf true l)) (together l) (at
     z : List ℕ
     z = zoneOf l
 
-    h : Holds true f p z
-    h = holds true l e
+    h : Holds Form.Ts f p z
+    h = holds Form.Ts l e
 
     s : SpeltOffset z (offsetOf z)
-    s = offset-spells z (h .zoned) (zone-head l)
+    s = offset-spells z (h .zoned) (h .offset) (zone-head l)
 
-    clocked : (eqb (length f) 12 ≡ true) ⊎ (eqb (length f) 14 ≡ true) → Ts ((f ++ p) ++ z) (timeOf true l)
-    clocked (inl q) =
-        let n = eqb-true (length f) 12 q in
+    clocked : (length f ≡ 12) ⊎ (length f ≡ 14) → Ts ((f ++ p) ++ z) (timeOf Form.Ts l)
+    clocked (inl n) =
         let m = length-drop 8 f in
         day-and-clock-spells f p z (omega arith) h
         (minute-spells (drop 8 f) p (digits-drop 8 f (h .digits)) (omega arith) (ap (λ (x : ℕ). fractionForm (eqb x 14) p) (sym n) ∙ h .tailed)) s
-    clocked (inr q) =
-        let n = eqb-true (length f) 14 q in
+    clocked (inr n) =
         let m = length-drop 8 f in
         day-and-clock-spells f p z (omega arith) h
         (second-spells (drop 8 f) p (digits-drop 8 f (h .digits)) (omega arith) (ap (λ (x : ℕ). fractionForm (eqb x 14) p) (sym n) ∙ h .tailed) (begins 46 (bodyOf l) (find 46 (bodyOf l)) refl)) s
 
-    at : (dtLength (length f) ≡ true) ⊎ ((eqb (length f) 12 || eqb (length f) 14) ≡ true) → Ts ((f ++ p) ++ z) (timeOf true l)
+    at : (dtLength (length f) ≡ true) ⊎ ((length f ≡ 12) ⊎ (length f ≡ 14)) → Ts ((f ++ p) ++ z) (timeOf Form.Ts l)
     at (inl n) = date-alone-spells f p z n h s
-    at (inr n) = clocked (or-cases (eqb (length f) 12) (eqb (length f) 14) n)
+    at (inr n) = clocked n
 
 -- ---- what is read
 
 -- a reader that takes exactly the bytes of a form, with the time that they spell, gives the one answer that there is
-module _ (Form : List ℕ → Time → Type 0) (l : List ℕ) (test : Bool) (time : Time) (spelt : (t : Time) → Form l t → (test ≡ true) × (time ≡ t)) where
-  said : (test ≡ true → Form l time) → Answers Form l (timeIf test time)
+module _ (Spelt : List ℕ → Time → Type 0) (l : List ℕ) (test : Bool) (time : Time) (spelt : (t : Time) → Spelt l t → (test ≡ true) × (time ≡ t)) where
+  said : (test ≡ true → Spelt l time) → Answers Spelt l (timeIf test time)
   said spells = at test refl
     where
-      at : (t : Bool) → test ≡ t → Answers Form l (timeIf t time)
+      at : (t : Bool) → test ≡ t → Answers Spelt l (timeIf t time)
       at true e = says (spells e)
       at false e = breaks (λ t s. false-true (sym e ∙ spelt t s .0))
 
-  once : {r s : ReadTime} → Answers Form l r → Answers Form l s → r ≡ s
+  once : {r s : ReadTime} → Answers Spelt l r → Answers Spelt l s → r ≡ s
   once (says {t} a) (says {t = u} b) = λ i. record { kind = None; time = (sym (spelt t a .1) ∙ spelt u b .1) i }
   once (says {t} a) (breaks b) = absurd (b t a)
   once (breaks a) (says {t} b) = absurd (a t b)
@@ -329,16 +331,16 @@ dt-said l = said Dt l (isDt l) (dtTime l) (λ t s. dt-spelt s) (dt-spells l)
 pub dt-once : {l : List ℕ} {r s : ReadTime} → DtSays l r → DtSays l s → r ≡ s
 dt-once {l} a b = once Dt l (isDt l) (dtTime l) (λ t s. dt-spelt s) a b
 
-pub tm-said : (l : List ℕ) → TmSays l (timeRead false l)
+pub tm-said : (l : List ℕ) → TmSays l (timeRead Form.Tm l)
 unfolding timeRead
-tm-said l = said Tm l (isTime false l) (timeOf false l) (λ t s. tm-spelt s) (tm-spells l)
+tm-said l = said Tm l (isTime Form.Tm l) (timeOf Form.Tm l) (λ t s. tm-spelt s) (tm-spells l)
 
 pub tm-once : {l : List ℕ} {r s : ReadTime} → TmSays l r → TmSays l s → r ≡ s
-tm-once {l} a b = once Tm l (isTime false l) (timeOf false l) (λ t s. tm-spelt s) a b
+tm-once {l} a b = once Tm l (isTime Form.Tm l) (timeOf Form.Tm l) (λ t s. tm-spelt s) a b
 
-pub ts-said : (l : List ℕ) → TsSays l (timeRead true l)
+pub ts-said : (l : List ℕ) → TsSays l (timeRead Form.Ts l)
 unfolding timeRead
-ts-said l = said Ts l (isTime true l) (timeOf true l) (λ t s. ts-spelt s) (ts-spells l)
+ts-said l = said Ts l (isTime Form.Ts l) (timeOf Form.Ts l) (λ t s. ts-spelt s) (ts-spells l)
 
 pub ts-once : {l : List ℕ} {r s : ReadTime} → TsSays l r → TsSays l s → r ≡ s
-ts-once {l} a b = once Ts l (isTime true l) (timeOf true l) (λ t s. ts-spelt s) a b
+ts-once {l} a b = once Ts l (isTime Form.Ts l) (timeOf Form.Ts l) (λ t s. ts-spelt s) a b

@@ -27,6 +27,8 @@ use Rattle.element.specs.declared.Found.{Found}
 use Rattle.element.specs.declared.address.Address.{Address}
 use Rattle.numbers.specs.Numbers.{nmForm, nmDigits, mostDigits, nmCheck, nmValue, fraction, unsigned, nmRead, isSi, siRead, numberIf}
 use Rattle.calendar.specs.Calendar.{noTime}
+use Rattle.forms.specs.declared.layouts.Form.{Form}
+use Rattle.forms.specs.declared.layouts.Form.the-variants.{Tm, Ts}
 use Rattle.times.specs.Times.{isDt, isTs, isTime, dtTime, timeOf, dtRead, timeRead, timeIf}
 use Rattle.value.specs.Asked.{numberFrom, timeFrom, nmFound, siFound, dtFound, tmFound, tsFound}
 use Rattle.element.specs.States.{isPresent}
@@ -119,15 +121,15 @@ dt-read l = timed (isDt l) (dtTime l)
 pub dt-numbers : (m : List ℕ) (a : Address) → In (numberOf (dtFound m a .answer .kind)) ofForm
 dt-numbers m a = time-given ofForm (found m a) (dtRead (elementBytes m a)) (dt-read (elementBytes m a)) (there (find-numbers m a))
 
-time-read : (dated : Bool) (l : List ℕ) → In (numberOf (timeRead dated l .kind)) ofForm
+time-read : (form : Form) (l : List ℕ) → In (numberOf (timeRead form l .kind)) ofForm
 unfolding timeRead
-time-read dated l = timed (isTime dated l) (timeOf dated l)
+time-read form l = timed (isTime form l) (timeOf form l)
 
 pub tm-numbers : (m : List ℕ) (a : Address) → In (numberOf (tmFound m a .answer .kind)) ofForm
-tm-numbers m a = time-given ofForm (found m a) (timeRead false (elementBytes m a)) (time-read false (elementBytes m a)) (there (find-numbers m a))
+tm-numbers m a = time-given ofForm (found m a) (timeRead Tm (elementBytes m a)) (time-read Tm (elementBytes m a)) (there (find-numbers m a))
 
 pub ts-numbers : (m : List ℕ) (a : Address) → In (numberOf (tsFound m a .answer .kind)) ofForm
-ts-numbers m a = time-given ofForm (found m a) (timeRead true (elementBytes m a)) (time-read true (elementBytes m a)) (there (find-numbers m a))
+ts-numbers m a = time-given ofForm (found m a) (timeRead Ts (elementBytes m a)) (time-read Ts (elementBytes m a)) (there (find-numbers m a))
 
 -- ---- text
 

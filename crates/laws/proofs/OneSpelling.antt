@@ -12,10 +12,14 @@ use lib.Seq.{take-add, take-all, length-take-le, getD-drop}
 use borrow.Author.Tests.{leb-true, leb-false, eqb-true, ne-eqb}
 use Rattle.alphabet.specs.Digits.{allDigits, decimal}
 use Rattle.alphabet.specs.Lists.{find}
-use Rattle.alphabet.proofs.BoolLaws.{and-both}
+use Rattle.alphabet.proofs.BoolLaws.{false-true}
 use Rattle.alphabet.proofs.DigitLaws.{digits-same, digits-take, digits-drop}
 use Rattle.alphabet.proofs.ListLaws.{find-is}
-use Rattle.times.specs.Times.{isDt, dtTime, figureAt, dateOf, fractionOf, clockOf, offsetOf, dtLength, frontLength, bodyOf, zoneOf, frontOf, tailOf, isTime, timeForm, timeOf}
+use Rattle.forms.specs.declared.layouts.Form.{Form}
+use Rattle.forms.specs.declared.layouts.Form.the-variants.{Tm, Ts}
+use Rattle.forms.specs.Forms.{oneOf, dtLength, frontLength, bodyOf, zoneOf, frontOf, tailOf, timeForm}
+use Rattle.forms.proofs.FormLaws.{one-of, dt-length, front-digits, front-length, tail-holds, zone-held}
+use Rattle.times.specs.Times.{isDt, dtTime, figureAt, dateOf, fractionOf, clockOf, offsetOf, isTime, timeOf}
 use Rattle.calendar.specs.declared.figures.Figure.the-variants.{NotSent, Sent}
 use Rattle.calendar.specs.declared.figures.Date.{Date}
 use Rattle.calendar.specs.declared.figures.Clock.{Clock}
@@ -23,7 +27,7 @@ use Rattle.calendar.specs.declared.figures.Sign.{Sign}
 use Rattle.calendar.specs.declared.figures.Offset.{Offset}
 use Rattle.calendar.specs.declared.figures.Time.{Time}
 use Rattle.times.proofs.FigureLaws.{figure-sent, figure-not, fraction-not, fraction-sent, offset-not}
-use Rattle.times.proofs.TimeLaws.{dt-digits, front-digits, front-length, tail-holds, zone-held, time-formed}
+use Rattle.times.proofs.TimeLaws.{dt-formed, dt-digits, time-formed}
 
 -- ---- the front, figure by figure
 
@@ -66,11 +70,23 @@ pub or-cases : (x y : Bool) → (x || y) ≡ true → (x ≡ true) ⊎ (y ≡ tr
 or-cases true y e = inl refl
 or-cases false y e = inr e
 
-pub three : (n a b c : ℕ) → (eqb n a || (eqb n b || eqb n c)) ≡ true → (n ≡ a) ⊎ ((n ≡ b) ⊎ (n ≡ c))
+pub three : (n a b c : ℕ) → oneOf (a ∷ b ∷ c ∷ []) n ≡ true → (n ≡ a) ⊎ ((n ≡ b) ⊎ (n ≡ c))
 three n a b c e =
-    ⊎-elim (λ p. inl (eqb-true n a p))
-    (λ p. ⊎-elim (λ q. inr (inl (eqb-true n b q))) (λ q. inr (inr (eqb-true n c q))) (or-cases (eqb n b) (eqb n c) p))
-    (or-cases (eqb n a) (eqb n b || eqb n c) e)
+    ⊎-elim inl
+    (λ p. ⊎-elim (λ q. inr (inl q)) (λ q. ⊎-elim (λ r. inr (inr r)) false-true (one-of c [] n q)) (one-of b (c ∷ []) n p))
+    (one-of a (b ∷ c ∷ []) n e)
+
+-- a front of a TS is as long as a DT, or twelve or fourteen digits long
+pub five : (n : ℕ) → frontLength Ts n ≡ true → (dtLength n ≡ true) ⊎ ((n ≡ 12) ⊎ (n ≡ 14))
+five n e =
+    ⊎-elim (λ a. inl (ap dtLength a))
+    (λ p. ⊎-elim (λ a. inl (ap dtLength a))
+    (λ q. ⊎-elim (λ a. inl (ap dtLength a)) (λ r. inr (⊎-elim inl (λ t. ⊎-elim inr false-true (one-of 14 [] n t)) (one-of 12 (14 ∷ []) n r))) (one-of 8 (12 ∷ 14 ∷ []) n q))
+    (one-of 6 (8 ∷ 12 ∷ 14 ∷ []) n p))
+    (one-of 4 (6 ∷ 8 ∷ 12 ∷ 14 ∷ []) n e)
+
+pub dt-front : (n : ℕ) → dtLength n ≡ true → frontLength Ts n ≡ true
+dt-front n e = ⊎-elim (λ a. ap (frontLength Ts) a) (λ p. ⊎-elim (λ a. ap (frontLength Ts) a) (λ a. ap (frontLength Ts) a) p) (three n 4 6 8 e)
 
 -- no front ends between the places where its figures begin
 pub record Gaps (n : ℕ) : Type 0 where
@@ -89,13 +105,11 @@ gaps-at n (inr (inr (inl e))) = record { year = λ h. omega arith; month = λ h.
 gaps-at n (inr (inr (inr (inl e)))) = record { year = λ h. omega arith; month = λ h. omega arith; day = λ h. omega arith; hour = λ h. omega arith; minute = λ h. omega arith; second = λ h. omega arith; most = omega arith }
 gaps-at n (inr (inr (inr (inr e)))) = record { year = λ h. omega arith; month = λ h. omega arith; day = λ h. omega arith; hour = λ h. omega arith; minute = λ h. omega arith; second = λ h. omega arith; most = omega arith }
 
-dated-gaps : (n : ℕ) → frontLength true n ≡ true → Gaps n
-dated-gaps n e =
-    gaps-at n
-    (⊎-elim
-    (λ p. ⊎-elim (λ q. inl q) (λ q. ⊎-elim (λ r. inr (inl r)) (λ r. inr (inr (inl r))) q) (three n 4 6 8 p))
-    (λ p. ⊎-elim (λ q. inr (inr (inr (inl (eqb-true n 12 q))))) (λ q. inr (inr (inr (inr (eqb-true n 14 q))))) (or-cases (eqb n 12) (eqb n 14) p))
-    (or-cases (dtLength n) (eqb n 12 || eqb n 14) e))
+dt-gaps : (n : ℕ) → dtLength n ≡ true → Gaps n
+dt-gaps n e = gaps-at n (⊎-elim inl (λ q. ⊎-elim (λ r. inr (inl r)) (λ r. inr (inr (inl r))) q) (three n 4 6 8 e))
+
+dated-gaps : (n : ℕ) → frontLength Ts n ≡ true → Gaps n
+dated-gaps n e = ⊎-elim (dt-gaps n) (λ p. gaps-at n (inr (inr (inr p)))) (five n e)
 
 pub record ClockGaps (n : ℕ) : Type 0 where
   pub hour : n < 0 + 2 → n ≤ 0
@@ -111,7 +125,7 @@ clock-gaps-at n (inr (inr e)) = record { hour = λ h. omega arith; minute = λ h
 -- ---- the front is told by the date and the clock
 
 module _ (l l′ t t′ : List ℕ) (e : allDigits l ≡ true) (e′ : allDigits l′ ≡ true) where
-  dated-front : frontLength true (length l) ≡ true → frontLength true (length l′) ≡ true → dateOf l ≡ dateOf l′ → clockOf l 8 t ≡ clockOf l′ 8 t′ → l ≡ l′
+  dated-front : frontLength Ts (length l) ≡ true → frontLength Ts (length l′) ≡ true → dateOf l ≡ dateOf l′ → clockOf l 8 t ≡ clockOf l′ 8 t′ → l ≡ l′
   unfolding dateOf clockOf
   dated-front f f′ d c =
       let g = dated-gaps (length l) f in
@@ -124,7 +138,7 @@ module _ (l l′ t t′ : List ℕ) (e : allDigits l ≡ true) (e′ : allDigits
       let a6 = step l l′ e e′ 12 2 (g .second) (g′ .second) (ap (λ (x : Clock). x .second) c) a5 in
       sym (take-all 14 l (g .most)) ∙ a6 ∙ take-all 14 l′ (g′ .most)
 
-  clock-front : frontLength false (length l) ≡ true → frontLength false (length l′) ≡ true → clockOf l 0 t ≡ clockOf l′ 0 t′ → l ≡ l′
+  clock-front : frontLength Tm (length l) ≡ true → frontLength Tm (length l′) ≡ true → clockOf l 0 t ≡ clockOf l′ 0 t′ → l ≡ l′
   unfolding clockOf
   clock-front f f′ c =
       let g = clock-gaps-at (length l) (three (length l) 2 4 6 f) in
@@ -231,17 +245,17 @@ zone-head l h = at (leb (find 43 l) (find 45 l)) refl
 
 -- ---- the whole
 
-module _ (dated : Bool) (a b : List ℕ) (e : timeForm dated a ≡ true) (f : timeForm dated b ≡ true) (q : timeOf dated a ≡ timeOf dated b) where
+module _ (form : Form) (a b : List ℕ) (e : timeForm form a ≡ true) (f : timeForm form b ≡ true) (q : timeOf form a ≡ timeOf form b) where
   tails : tailOf a ≡ tailOf b
   unfolding timeOf clockOf
   tails =
-      tail-same (tailOf a) (tailOf b) (tail-holds dated a e .0) (tail-holds dated b f .0) (begins 46 (bodyOf a) (find 46 (bodyOf a)) refl) (begins 46 (bodyOf b) (find 46 (bodyOf b)) refl)
+      tail-same (tailOf a) (tailOf b) (tail-holds form a e .0) (tail-holds form b f .0) (begins 46 (bodyOf a) (find 46 (bodyOf a)) refl) (begins 46 (bodyOf b) (find 46 (bodyOf b)) refl)
       (ap (λ (t : Time). t .clock .fraction) q) (ap (λ (t : Time). t .clock .digits) q)
 
   zones : zoneOf a ≡ zoneOf b
   unfolding timeOf
   zones =
-      zone-same (zoneOf a) (zoneOf b) (zone-held dated a e .0) (zone-held dated b f .0) (zone-held dated a e .1) (zone-held dated b f .1) (zone-head a) (zone-head b)
+      zone-same (zoneOf a) (zoneOf b) (zone-held form a e .0) (zone-held form b f .0) (zone-held form a e .1) (zone-held form b f .1) (zone-head a) (zone-head b)
       (ap (λ (t : Time). t .offset) q)
 
   -- the front, the tail and the zone are all there is
@@ -251,26 +265,22 @@ module _ (dated : Bool) (a b : List ℕ) (e : timeForm dated a ≡ true) (f : ti
       sym (take-append-drop (min (find 43 a) (find 45 a)) a) ∙ ap (λ (x : List ℕ). x ++ zoneOf a) body ∙ ap (λ (x : List ℕ). bodyOf b ++ x) zones
       ∙ take-append-drop (min (find 43 b) (find 45 b)) b
 
-pub one-spelling : (dated : Bool) (a b : List ℕ) → isTime dated a ≡ true → isTime dated b ≡ true → timeOf dated a ≡ timeOf dated b → a ≡ b
+pub one-spelling : (form : Form) (a b : List ℕ) → isTime form a ≡ true → isTime form b ≡ true → timeOf form a ≡ timeOf form b → a ≡ b
 unfolding timeOf
-one-spelling true a b e f q =
-    let e1 = time-formed true a e in
-    let f1 = time-formed true b f in
-    together true a b e1 f1 q
-    (dated-front (frontOf a) (frontOf b) (tailOf a) (tailOf b) (front-digits true a e1) (front-digits true b f1) (front-length true a e1) (front-length true b f1)
+one-spelling Ts a b e f q =
+    let e1 = time-formed Ts a e in
+    let f1 = time-formed Ts b f in
+    together Ts a b e1 f1 q
+    (dated-front (frontOf a) (frontOf b) (tailOf a) (tailOf b) (front-digits Ts a e1) (front-digits Ts b f1) (front-length Ts a e1) (front-length Ts b f1)
     (ap (λ (t : Time). t .date) q) (ap (λ (t : Time). t .clock) q))
-one-spelling false a b e f q =
-    let e1 = time-formed false a e in
-    let f1 = time-formed false b f in
-    together false a b e1 f1 q
-    (clock-front (frontOf a) (frontOf b) (tailOf a) (tailOf b) (front-digits false a e1) (front-digits false b f1) (front-length false a e1) (front-length false b f1)
+one-spelling Tm a b e f q =
+    let e1 = time-formed Tm a e in
+    let f1 = time-formed Tm b f in
+    together Tm a b e1 f1 q
+    (clock-front (frontOf a) (frontOf b) (tailOf a) (tailOf b) (front-digits Tm a e1) (front-digits Tm b f1) (front-length Tm a e1) (front-length Tm b f1)
     (ap (λ (t : Time). t .clock) q))
 
 -- and the same of a DT
-dt-length : (l : List ℕ) → isDt l ≡ true → dtLength (length l) ≡ true
-unfolding isDt
-dt-length l e = and-both (allDigits l) (dtLength (length l)) (and-both (allDigits l && dtLength (length l)) _ e .0) .1
-
 pub dt-most : (n : ℕ) → (n ≡ 4) ⊎ ((n ≡ 6) ⊎ (n ≡ 8)) → n ≤ 8
 dt-most n (inl e) = omega arith
 dt-most n (inr (inl e)) = omega arith
@@ -282,14 +292,11 @@ one-dt-spelling a b e f q =
     let d = ap (λ (t : Time). t .date) q in
     let x = dt-digits a e in
     let y = dt-digits b f in
-    let g = dated-gaps (length a) (or-left (length a) (dt-length a e)) in
-    let g′ = dated-gaps (length b) (or-left (length b) (dt-length b f)) in
-    let m = dt-most (length a) (three (length a) 4 6 8 (dt-length a e)) in
-    let m′ = dt-most (length b) (three (length b) 4 6 8 (dt-length b f)) in
+    let g = dt-gaps (length a) (dt-length a (dt-formed a e)) in
+    let g′ = dt-gaps (length b) (dt-length b (dt-formed b f)) in
+    let m = dt-most (length a) (three (length a) 4 6 8 (dt-length a (dt-formed a e))) in
+    let m′ = dt-most (length b) (three (length b) 4 6 8 (dt-length b (dt-formed b f))) in
     let s = step a b x y 0 4 (g .year) (g′ .year) (ap (λ (z : Date). z .year) d) refl in
     let s2 = step a b x y 4 2 (g .month) (g′ .month) (ap (λ (z : Date). z .month) d) s in
     let s3 = step a b x y 6 2 (g .day) (g′ .day) (ap (λ (z : Date). z .day) d) s2 in
     sym (take-all 8 a m) ∙ s3 ∙ take-all 8 b m′
-  where
-    or-left : (n : ℕ) → dtLength n ≡ true → frontLength true n ≡ true
-    or-left n e = rw e

@@ -18,9 +18,12 @@ use Rattle.alphabet.proofs.BoolLaws.{and-both, from-to}
 use Rattle.alphabet.proofs.ListLaws.{drop-next, find-is}
 use Rattle.laws.proofs.EachLaws.{Each, each-append, at-each}
 use Rattle.numbers.specs.Numbers.{someDigits, unsigned, beforePoint, hasPoint, fraction, nmForm, isSi}
-use Rattle.times.specs.Times.{bodyOf, zoneOf, frontOf, tailOf, isDt, isTime}
+use Rattle.forms.specs.declared.layouts.Form.{Form}
+use Rattle.forms.specs.Forms.{bodyOf, zoneOf, frontOf, tailOf}
+use Rattle.forms.proofs.FormLaws.{front-digits, tail-holds, zone-held}
+use Rattle.times.specs.Times.{isDt, isTime}
 use Rattle.acknowledgement.specs.Acknowledgement.{version}
-use Rattle.times.proofs.TimeLaws.{dt-digits, time-formed, front-digits, tail-holds, zone-held}
+use Rattle.times.proofs.TimeLaws.{dt-digits, time-formed}
 
 module _ (P : ℕ → Type 0) (digits : (b : ℕ) → digit b ≡ true → P b) where
   digits-each : (l : List ℕ) → allDigits l ≡ true → Each P l
@@ -40,13 +43,13 @@ module _ (P : ℕ → Type 0) (digits : (b : ℕ) → digit b ≡ true → P b) 
       let j : i < length l = omega arith in
       subst P (sym (ap (λ (x : List ℕ). getD x 0 0) (drop-next l i j))) (h j)
 
-  pub time-each : P 43 → P 45 → P 46 → (dated : Bool) (l : List ℕ) → isTime dated l ≡ true → Each P l
-  time-each plus minus point dated l e =
-      let f = time-formed dated l e in
+  pub time-each : P 43 → P 45 → P 46 → (form : Form) (l : List ℕ) → isTime form l ≡ true → Each P l
+  time-each plus minus point form l e =
+      let f = time-formed form l e in
       let body = bodyOf l in
-      let front = digits-each (frontOf l) (front-digits dated l f) in
-      let tail = sign-each (tailOf l) (from body (find 46 body) (λ h. subst P (sym (find-is 46 body h)) point)) (tail-holds dated l f .0) in
-      let zone = sign-each (zoneOf l) (from l (min (find 43 l) (find 45 l)) sign) (zone-held dated l f .0) in
+      let front = digits-each (frontOf l) (front-digits form l f) in
+      let tail = sign-each (tailOf l) (from body (find 46 body) (λ h. subst P (sym (find-is 46 body h)) point)) (tail-holds form l f .0) in
+      let zone = sign-each (zoneOf l) (from l (min (find 43 l) (find 45 l)) sign) (zone-held form l f .0) in
       subst (Each P) (take-append-drop (min (find 43 l) (find 45 l)) l)
       (each-append P body (zoneOf l) (subst (Each P) (take-append-drop (find 46 body) body) (each-append P (frontOf l) (tailOf l) front tail)) zone)
     where
@@ -109,8 +112,8 @@ digit-none b e =
 pub number-no-delimiter : (l : List ℕ) → nmForm l ≡ true → Each NoDelimiter l
 number-no-delimiter l e = number-each NoDelimiter digit-none refl refl refl l e
 
-pub time-no-delimiter : (dated : Bool) (l : List ℕ) → isTime dated l ≡ true → Each NoDelimiter l
-time-no-delimiter dated l e = time-each NoDelimiter digit-none refl refl refl dated l e
+pub time-no-delimiter : (form : Form) (l : List ℕ) → isTime form l ≡ true → Each NoDelimiter l
+time-no-delimiter form l e = time-each NoDelimiter digit-none refl refl refl form l e
 
 -- an SI and a DT are digits
 digits-no-delimiter : (l : List ℕ) → allDigits l ≡ true → Each NoDelimiter l

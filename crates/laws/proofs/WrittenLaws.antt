@@ -24,6 +24,7 @@ use Rattle.reading.specs.Message.{ended, Opened, Message}
 use Rattle.reading.proofs.Accepted.{accepting}
 use Rattle.element.specs.Finding.{rawBytes}
 use Rattle.laws.proofs.RawLaws.{raw-component}
+use Rattle.forms.specs.declared.layouts.Form.the-variants.{Ts}
 use Rattle.times.specs.Times.{isTs}
 use Rattle.laws.proofs.ValueBytes.{time-each, digit-none}
 use Rattle.escaping.specs.Escape.{escape}
@@ -86,7 +87,7 @@ module _ (h : List ℕ) (o : Opened h) (one : find carriageReturn h + 1 ≡ leng
       sign b p (digit-none b e)
 
   time-fine : (time : List ℕ) → isTs time ≡ true → Each Fine time
-  time-fine time e = time-each Fine digit-fine (sign 43 refl refl) (sign 45 refl refl) (sign 46 refl refl) true time e
+  time-fine time e = time-each Fine digit-fine (sign 43 refl refl) (sign 45 refl refl) (sign 46 refl refl) Ts time e
 
   id-fine : (id : List ℕ) → AreBytes id → Each Fine (escape ds id)
   id-fine id small = at-each Fine (escape ds id) (λ i l. stands (getD (escape ds id) i 0) (never-separator ds refl (o .delimiters-right) id small i l))

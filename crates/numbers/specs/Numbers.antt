@@ -6,6 +6,7 @@ use lib.Dec.{leb, ltb, eqb}
 use lib.IntN.{ℤ, pos, negℤ}
 use lib.ListN.{length, getD, take, drop}
 use Rattle.alphabet.specs.Answers.{failsIf, inOrder}
+use Rattle.alphabet.specs.Bytes.{byteOf}
 use Rattle.alphabet.specs.Digits.{allDigits, decimal}
 use Rattle.alphabet.specs.Lists.{find}
 use Rattle.alphabet.specs.declared.answers.Check.{Check}
@@ -17,25 +18,25 @@ use Rattle.numbers.specs.declared.numerals.ReadNumber.{ReadNumber}
 abbrev pub someDigits : List ℕ → Bool
 someDigits l = leb 1 (length l) && allDigits l
 
--- "optional sign": `+` or `-`
+-- "optional sign"
 abbrev pub isSign : ℕ → Bool
-isSign b = eqb b 43 || eqb b 45
+isSign b = eqb b (byteOf "+") || eqb b (byteOf "-")
 
 abbrev pub isNegative : List ℕ → Bool
-isNegative l = eqb (getD l 0 0) 45
+isNegative l = eqb (getD l 0 0) (byteOf "-")
 
 unfoldable pub unsigned : List ℕ → List ℕ
 unsigned l = cond (isSign (getD l 0 0)) (drop 1 l) l
 
--- "digits, optionally a point and digits": what stands before the point, whether there is one, and what stands behind it
+-- "digits, optionally a point and digits": what stands before the point, whether there is one, and what is behind it
 abbrev pub beforePoint : List ℕ → List ℕ
-beforePoint l = take (find 46 l) l
+beforePoint l = take (find (byteOf ".") l) l
 
 abbrev pub hasPoint : List ℕ → Bool
-hasPoint l = ltb (find 46 l) (length l)
+hasPoint l = ltb (find (byteOf ".") l) (length l)
 
 abbrev pub fraction : List ℕ → List ℕ
-fraction l = drop (find 46 l + 1) l
+fraction l = drop (find (byteOf ".") l + 1) l
 
 -- "a digit on each side of a point"
 unfoldable pub nmForm : List ℕ → Bool
@@ -51,9 +52,13 @@ mostDigits = 18
 
 -- 32: "breaks its type's form"; 37: "well formed, but over 18 digits"
 unfoldable pub nmCheck : List ℕ → Check
-nmCheck l = inOrder (failsIf (not (nmForm l)) BreaksForm 0 ∷ failsIf (ltb mostDigits (length (nmDigits l))) ValueTooLong 0 ∷ [])
+nmCheck l =
+    inOrder
+    (failsIf (not (nmForm l)) BreaksForm 0
+    ∷ failsIf (ltb mostDigits (length (nmDigits l))) ValueTooLong 0
+    ∷ [])
 
--- "The result is a signed beforePoint number and a count of decimals. -0 is 0."
+-- "The result is a signed whole number and a count of decimals. -0 is 0."
 abbrev pub signed : Bool → ℕ → ℤ
 signed negative n = cond negative (negℤ (pos n)) (pos n)
 

@@ -1,4 +1,5 @@
-// From bytes to a number: NM and SI, and the digits that they are written with. Raw bytes are judged, with no unescaping.
+// From bytes to a number: NM and SI, and the digits that they are written with. Raw bytes are judged, with no
+// unescaping.
 mod digits;
 mod numerals;
 

@@ -33,7 +33,7 @@ fn without_sign(bytes: &[u8]) -> &[u8]
         return bytes;
     }
     let first = bytes[0];
-    let sign = (first == 43) | (first == 45);
+    let sign = (first == b'+') | (first == b'-');
     if sign {
         return &bytes[1..];
     }
@@ -93,7 +93,7 @@ fn nm_value(bytes: &[u8]) -> i64
     let body = without_sign(bytes);
     let before = count_on(0, before_point(body));
     let number = count_on(before, fraction_of(body));
-    let negative = alphabet::byte_at(bytes, 0) == 45;
+    let negative = alphabet::byte_at(bytes, 0) == b'-';
     signed_number(negative, number)
 }
 

@@ -3,13 +3,13 @@
 -- (laws/specs/SpeltNumbers, SpeltTimes), which spell one answer at most. Assumes nothing.
 use mathlib.Core.Path.{_≡_, sym, ap, _∙_}
 use mathlib.Core.List.{List}
-use mathlib.Core.Bool.{true, false}
 use Prim.Native.Nat.{ℕ}
 use Rattle.element.specs.Finding.{found, elementBytes}
 use Rattle.element.specs.declared.address.Address.{Address}
 use Rattle.element.specs.declared.states.State.the-variants.{Present}
 use Rattle.numbers.specs.Numbers.{nmRead, siRead}
 use Rattle.numbers.specs.declared.numerals.ReadNumber.{ReadNumber}
+use Rattle.forms.specs.declared.layouts.Form.the-variants.{Tm, Ts}
 use Rattle.times.specs.Times.{dtRead, timeRead}
 use Rattle.times.specs.declared.moments.ReadTime.{ReadTime}
 use Rattle.value.specs.Asked.{nmFound, siFound, dtFound, tmFound, tsFound}
@@ -35,15 +35,15 @@ module _ (m : List ℕ) (a : Address) where
   dt-spelled there s = time-said (found m a) (dtRead (elementBytes m a)) there ∙ ap timeSaid (Times.dt-once (Times.dt-said (elementBytes m a)) s)
 
   pub tm-spelled : {r : ReadTime} → found m a .element .state ≡ Present → TmSays (elementBytes m a) r → tmFound m a ≡ timeSaid r
-  tm-spelled there s = time-said (found m a) (timeRead false (elementBytes m a)) there ∙ ap timeSaid (Times.tm-once (Times.tm-said (elementBytes m a)) s)
+  tm-spelled there s = time-said (found m a) (timeRead Tm (elementBytes m a)) there ∙ ap timeSaid (Times.tm-once (Times.tm-said (elementBytes m a)) s)
 
   pub ts-spelled : {r : ReadTime} → found m a .element .state ≡ Present → TsSays (elementBytes m a) r → tsFound m a ≡ timeSaid r
-  ts-spelled there s = time-said (found m a) (timeRead true (elementBytes m a)) there ∙ ap timeSaid (Times.ts-once (Times.ts-said (elementBytes m a)) s)
+  ts-spelled there s = time-said (found m a) (timeRead Ts (elementBytes m a)) there ∙ ap timeSaid (Times.ts-once (Times.ts-said (elementBytes m a)) s)
 
   -- some answer is always spelled, so these are never about nothing
   pub some-spelled : NmSays (elementBytes m a) (nmRead (elementBytes m a)) × SiSays (elementBytes m a) (siRead (elementBytes m a))
-      × DtSays (elementBytes m a) (dtRead (elementBytes m a)) × TmSays (elementBytes m a) (timeRead false (elementBytes m a))
-      × TsSays (elementBytes m a) (timeRead true (elementBytes m a))
+      × DtSays (elementBytes m a) (dtRead (elementBytes m a)) × TmSays (elementBytes m a) (timeRead Tm (elementBytes m a))
+      × TsSays (elementBytes m a) (timeRead Ts (elementBytes m a))
   some-spelled =
       let l = elementBytes m a in
       (Numbers.nm-said l, Numbers.si-said l, Times.dt-said l, Times.tm-said l, Times.ts-said l)
@@ -59,10 +59,10 @@ module _ (m : List ℕ) (a : Address) where
   dt-alone = time-alone (found m a) (dtRead (elementBytes m a))
 
   pub tm-alone : (found m a .element .state ≡ Present → ⊥) → tmFound m a ≡ timelessState (found m a)
-  tm-alone = time-alone (found m a) (timeRead false (elementBytes m a))
+  tm-alone = time-alone (found m a) (timeRead Tm (elementBytes m a))
 
   pub ts-alone : (found m a .element .state ≡ Present → ⊥) → tsFound m a ≡ timelessState (found m a)
-  ts-alone = time-alone (found m a) (timeRead true (elementBytes m a))
+  ts-alone = time-alone (found m a) (timeRead Ts (elementBytes m a))
 
 -- "An empty box is not a zero": elements in different states never give the same answer, whatever their bytes
 module _ (m n : List ℕ) (a b : Address) where
@@ -76,7 +76,7 @@ module _ (m n : List ℕ) (a b : Address) where
 
   pub empty-is-no-time : tsFound m a ≡ tsFound n b → found m a .element .state ≡ found n b .element .state
   empty-is-no-time e =
-      sym (time-state (found m a) (timeRead true (elementBytes m a))) ∙ ap (λ (x : TimeFound). x .state) e ∙ time-state (found n b) (timeRead true (elementBytes n b))
+      sym (time-state (found m a) (timeRead Ts (elementBytes m a))) ∙ ap (λ (x : TimeFound). x .state) e ∙ time-state (found n b) (timeRead Ts (elementBytes n b))
 
   pub empty-is-no-date : dtFound m a ≡ dtFound n b → found m a .element .state ≡ found n b .element .state
   empty-is-no-date e =
@@ -84,4 +84,4 @@ module _ (m n : List ℕ) (a b : Address) where
 
   pub empty-is-no-hour : tmFound m a ≡ tmFound n b → found m a .element .state ≡ found n b .element .state
   empty-is-no-hour e =
-      sym (time-state (found m a) (timeRead false (elementBytes m a))) ∙ ap (λ (x : TimeFound). x .state) e ∙ time-state (found n b) (timeRead false (elementBytes n b))
+      sym (time-state (found m a) (timeRead Tm (elementBytes m a))) ∙ ap (λ (x : TimeFound). x .state) e ∙ time-state (found n b) (timeRead Tm (elementBytes n b))

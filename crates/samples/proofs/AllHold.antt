@@ -1,4 +1,5 @@
--- Every row of the table holds: each is computed, and the last three are the structure judge's own samples. Assumes nothing.
+-- Every row of the table holds: each is computed, and the last three are the structure judge's own samples. Assumes
+-- nothing.
 use mathlib.Core.Path.{refl}
 use mathlib.Core.List.{List, [], _∷_, _++_}
 use Rattle.alphabet.specs.Delimiters.{firstWrongDelimiter}
@@ -19,7 +20,8 @@ use Rattle.escaping.specs.Outcomes.{fitting, escaping, answer}
 use Rattle.text.specs.Unescape.{unescaping}
 use Rattle.numbers.specs.Numbers.{nmForm, unsigned, nmRead, nmCheck, nmValue}
 use Rattle.calendar.specs.Calendar.{validDate, validClock}
-use Rattle.times.specs.Times.{figureAt, dateOf, clockOf, offsetOf, fractionForm, zoneForm, timeForm, isTime, timeRead}
+use Rattle.forms.specs.Forms.{fractionForm, zoneForm, timeForm}
+use Rattle.times.specs.Times.{figureAt, dateOf, clockOf, offsetOf, timeOf, isTime, timeRead}
 use Rattle.samples.proofs.Structures.{report-10, report-11, report-12}
 use Rattle.samples.specs.Table.{Row, Holds, All, ofText, ofNumbers, ofTimes, ofStates, ofStructures, samples}
 
@@ -38,7 +40,7 @@ unfolding All ofNumbers Holds numberFrom nmRead nmCheck nmValue nmForm unsigned 
 numbers = (refl, (refl, ((refl, refl), ((refl, refl), ((refl, refl), (refl, ((refl, refl), tt)))))))
 
 times : All ofTimes
-unfolding All ofTimes Holds timeFrom timeRead isTime timeForm allDigits fractionForm zoneForm validDate dateOf figureAt counted validClock clockOf offsetOf bytesAt found lookupCheck reading opening messageLimit segmentLimit firstWrongDelimiter first segmentsCheck segmentChecks segments allButLast split segmentAt standing elementOf elementAt unsplit subcomponentAt componentAt repetitionAt below partIn partAt fieldIn stateOf
+unfolding All ofTimes Holds timeFrom timeRead isTime timeOf timeForm allDigits fractionForm zoneForm validDate dateOf figureAt counted validClock clockOf offsetOf bytesAt found lookupCheck reading opening messageLimit segmentLimit firstWrongDelimiter first segmentsCheck segmentChecks segments allButLast split segmentAt standing elementOf elementAt unsplit subcomponentAt componentAt repetitionAt below partIn partAt fieldIn stateOf
 times = ((refl, refl), ((refl, refl), ((refl, refl), tt)))
 
 states : All ofStates

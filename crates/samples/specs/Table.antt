@@ -1,5 +1,5 @@
--- The starred samples of document 01, 'Samples', as one table. A row says what comes of some bytes; `Holds` says it by the definitions that the
--- public contracts cite.
+-- The starred samples of document 01, 'Samples', as one table. A row says what comes of some bytes; `Holds` says it by
+-- the definitions that the public contracts cite.
 use Prim.Native.Nat.{ℕ, _+_}
 use Prim.Native.String.{String}
 use lib.IntN.{ℤ, pos, negℤ}
@@ -39,7 +39,8 @@ pub data Row : Type 0 where
   no-time : String → ℕ → Row
   -- a segment behind MSH, a field of it, and its state
   has-state : String → ℕ → State → Row
-  -- the names behind MSH in an ORU^R01, the number, the place, the names that could have stood there, and whether it could have ended there
+  -- the names behind MSH in an ORU^R01, the number, the place, the names that could have stood there, and whether it
+  -- could have ended there
   is-refused : List String → ℕ → ℕ → List String → Bool → Row
 
 -- the usual delimiters
@@ -72,14 +73,28 @@ Holds (says written t) = unescaping usual (ascii written) 100 ≡ text (ascii t)
 Holds (says-not written n) = numberOf (answer (unescaping usual (ascii written) 100) .kind) ≡ n
 Holds (is-written t written) = escaping usual (ascii t) 100 ≡ text (ascii written)
 Holds (is-number bytes value decimals) =
-    nmFound (withField bytes) (inSegment 1) ≡ record { answer = record { kind = None; place = 0; length = 0 }; state = Present; value = value; decimals = decimals }
-Holds (no-number bytes n) = (numberOf (nmFound (withField bytes) (inSegment 1) .answer .kind) ≡ n) × (nmFound (withField bytes) (inSegment 1) .state ≡ Present)
-Holds (is-time bytes) = (tsFound (withField bytes) (inSegment 1) .answer .kind ≡ None) × (tsFound (withField bytes) (inSegment 1) .state ≡ Present)
-Holds (no-time bytes n) = (numberOf (tsFound (withField bytes) (inSegment 1) .answer .kind) ≡ n) × (tsFound (withField bytes) (inSegment 1) .state ≡ Present)
+    nmFound (withField bytes) (inSegment 1)
+    ≡ record {
+      answer = record { kind = None; place = 0; length = 0 };
+      state = Present;
+      value = value;
+      decimals = decimals;
+    }
+Holds (no-number bytes n) =
+    (numberOf (nmFound (withField bytes) (inSegment 1) .answer .kind) ≡ n)
+    × (nmFound (withField bytes) (inSegment 1) .state ≡ Present)
+Holds (is-time bytes) =
+    (tsFound (withField bytes) (inSegment 1) .answer .kind ≡ None)
+    × (tsFound (withField bytes) (inSegment 1) .state ≡ Present)
+Holds (no-time bytes n) =
+    (numberOf (tsFound (withField bytes) (inSegment 1) .answer .kind) ≡ n)
+    × (tsFound (withField bytes) (inSegment 1) .state ≡ Present)
 Holds (has-state s f state) =
-    (found (messageOf s) (inSegment f) .answer .kind ≡ None) × (found (messageOf s) (inSegment f) .element .state ≡ state)
+    (found (messageOf s) (inSegment f) .answer .kind ≡ None)
+    × (found (messageOf s) (inSegment f) .element .state ≡ state)
 Holds (is-refused ns n place could ends) =
-    (numberOf (refusedAs (1 + length ns) place ends (map name could) .kind) ≡ n) × Answers (reportOf ns) (refusedAs (1 + length ns) place ends (map name could))
+    (numberOf (refusedAs (1 + length ns) place ends (map name could) .kind) ≡ n)
+    × Answers (reportOf ns) (refusedAs (1 + length ns) place ends (map name could))
 
 -- every row of a table
 unfoldable pub All : List Row → Type 0

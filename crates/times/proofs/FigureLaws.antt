@@ -1,4 +1,5 @@
--- Laws of the figures of a time: what `figureAt` and its fellows are, case by case, and that a few of the digits are read as an SI is. Assumes nothing.
+-- Laws of the figures of a time: what `figureAt` and its fellows are, case by case, and that a few of the digits are
+-- read as an SI is. Assumes nothing.
 use mathlib.Core.Path.{_≡_}
 use mathlib.Core.List.{List}
 use mathlib.Core.Bool.{true}

@@ -9,7 +9,7 @@ ghost use mathlib.Core.Bool.{true};
 ghost use Prim.Native.Nat.{_≤_};
 ghost use lib.ListN.{length, take, drop};
 ghost use Rattle.alphabet.specs.Digits.{allDigits, decimal};
-ghost use Rattle.times.specs.Times.{figureAt, dateOf, fractionOf, clockOf, offsetOf, dateIn};
+ghost use Rattle.times.specs.Times.{figureAt, dateOf, fractionOf, clockOf, offsetOf};
 
 // The figure of so many digits from a place on, if they were sent.
 fn figure_at(digits: &[u8], start: usize, width: usize) -> Figure
@@ -37,17 +37,6 @@ pub fn date_of(digits: &[u8]) -> Date
         month: month,
         day: day,
     }
-}
-
-// The date of a time that has one.
-pub fn date_in(dated: bool, digits: &[u8]) -> Date
-    requires { ⌜ allDigits (now digits) ≡ true ⌝ }
-    ensures { λ r. ⌜ r ≡ dateIn dated (now (digits .entry)) ⌝ }
-{
-    if dated {
-        return date_of(digits);
-    }
-    calendar::no_date()
 }
 
 // The fraction of a second that stands behind a point.
@@ -102,7 +91,7 @@ pub fn offset_of(zone: &[u8]) -> Offset
     }
     let hours = pair_at(zone, 1);
     let minutes = pair_at(zone, 3);
-    if zone[0] == 45 {
+    if zone[0] == b'-' {
         return Offset {
             sign: Sign::Minus,
             hours: hours,

@@ -1,18 +1,15 @@
-// The time that bytes say as a DT, a TM or a TS, or that they break its form.
+// The time that bytes say as a DT, a TM or a TS, or that they break its form. What is read as one is one.
 use crate::figures::clock_of;
-use crate::figures::date_in;
 use crate::figures::date_of;
 use crate::figures::offset_of;
-use crate::forms::body_of;
-use crate::forms::from_point;
-use crate::forms::is_dt;
-use crate::forms::is_time;
-use crate::forms::zone_behind;
 use alphabet::Refusal;
 use calendar::Time;
+use forms::Form;
 ghost use mathlib.Core.Path.{_≡_};
-ghost use mathlib.Core.Bool.{true, false};
-ghost use Rattle.times.specs.Times.{isDt, dtTime, isTime, timeOf, dtRead, timeRead};
+ghost use mathlib.Core.Bool.{true};
+ghost use Rattle.forms.specs.declared.layouts.Form.the-variants.{Tm, Ts};
+ghost use Rattle.forms.specs.Forms.{partsForm};
+ghost use Rattle.times.specs.Times.{partsTime, timeIf, dtRead, timeRead, isDt, isTm, isTs};
 
 // What bytes say as a time: the refusal, or the time.
 pub struct ReadTime {
@@ -20,82 +17,120 @@ pub struct ReadTime {
     pub time: Time,
 }
 
-// The time of a DT that was judged.
-fn dt_time(bytes: &[u8]) -> Time
-    requires { ⌜ isDt (now bytes) ≡ true ⌝ }
-    ensures { λ r. ⌜ r ≡ dtTime (now (bytes .entry)) ⌝ }
+// The time that is read, where there is such a time.
+fn time_if(exists: bool, time: Time) -> ReadTime
+    ensures { λ r. ⌜ r ≡ timeIf exists time ⌝ }
 {
-    let date = date_of(bytes);
-    let clock = calendar::no_clock();
-    let offset = calendar::no_offset();
-    Time {
-        date: date,
-        clock: clock,
-        offset: offset,
+    if exists {
+        return ReadTime {
+            kind: Refusal::None,
+            time: time,
+        };
+    }
+    let none = calendar::no_time();
+    ReadTime {
+        kind: Refusal::BreaksForm,
+        time: none,
     }
 }
 
-// The time of a TM or TS that was judged.
-fn time_of(dated: bool, bytes: &[u8]) -> Time
-    requires { ⌜ isTime dated (now bytes) ≡ true ⌝ }
-    ensures { λ r. ⌜ r ≡ timeOf dated (now (bytes .entry)) ⌝ }
+// The time that the parts of a TM or a TS say.
+fn time_of(form: Form, front: &[u8], tail: &[u8], zone: &[u8]) -> Time
+    requires { ⌜ partsForm form (now front) (now tail) (now zone) ≡ true ⌝ }
+    ensures { λ r. ⌜ r ≡ partsTime form (now (front .entry)) (now (tail .entry)) (now (zone .entry)) ⌝ }
 {
-    let body = body_of(bytes);
-    let front = numbers::before_point(body);
-    let tail = from_point(body);
-    let offset = offset_of(zone_behind(bytes, body));
-    let start = if dated { 8 } else { 0 };
-    let date = date_in(dated, front);
-    let clock = clock_of(front, start, tail);
-    Time {
-        date: date,
-        clock: clock,
-        offset: offset,
+    let offset = offset_of(zone);
+    match form {
+        Form::Tm => {
+            let date = calendar::no_date();
+            let clock = clock_of(front, 0, tail);
+            Time {
+                date: date,
+                clock: clock,
+                offset: offset,
+            }
+        }
+        Form::Ts => {
+            let date = date_of(front);
+            let clock = clock_of(front, 8, tail);
+            Time {
+                date: date,
+                clock: clock,
+                offset: offset,
+            }
+        }
     }
 }
 
 pub fn read_dt(bytes: &[u8]) -> ReadTime
     ensures { λ r. ⌜ r ≡ dtRead (now (bytes .entry)) ⌝ }
 {
-    if is_dt(bytes) {
-        let time = dt_time(bytes);
-        return ReadTime {
-            kind: Refusal::None,
-            time: time,
-        };
+    if !forms::is_dt_form(bytes) {
+        return time_if(false, calendar::no_time());
     }
-    let none = calendar::no_time();
-    ReadTime {
-        kind: Refusal::BreaksForm,
-        time: none,
-    }
+    let date = date_of(bytes);
+    let clock = calendar::no_clock();
+    let offset = calendar::no_offset();
+    let time = Time {
+        date: date,
+        clock: clock,
+        offset: offset,
+    };
+    time_if(calendar::is_time(time), time)
 }
 
-fn read_time(dated: bool, bytes: &[u8]) -> ReadTime
-    ensures { λ r. ⌜ r ≡ timeRead dated (now (bytes .entry)) ⌝ }
+// The parts are taken once: their forms are judged, and then what they say.
+fn read_time(form: Form, bytes: &[u8]) -> ReadTime
+    ensures { λ r. ⌜ r ≡ timeRead form (now (bytes .entry)) ⌝ }
 {
-    if is_time(dated, bytes) {
-        let time = time_of(dated, bytes);
-        return ReadTime {
-            kind: Refusal::None,
-            time: time,
-        };
+    let body = forms::body_of(bytes);
+    let front = numbers::before_point(body);
+    let point = front.len();
+    let sign = body.len();
+    let tail = &body[point..];
+    let zone = &bytes[sign..];
+    if !forms::is_time_form(form, front, tail, zone) {
+        return time_if(false, calendar::no_time());
     }
-    let none = calendar::no_time();
-    ReadTime {
-        kind: Refusal::BreaksForm,
-        time: none,
-    }
+    let time = time_of(form, front, tail, zone);
+    time_if(calendar::is_time(time), time)
 }
 
 pub fn read_tm(bytes: &[u8]) -> ReadTime
-    ensures { λ r. ⌜ r ≡ timeRead false (now (bytes .entry)) ⌝ }
+    ensures { λ r. ⌜ r ≡ timeRead Tm (now (bytes .entry)) ⌝ }
 {
-    read_time(false, bytes)
+    read_time(Form::Tm, bytes)
 }
 
 pub fn read_ts(bytes: &[u8]) -> ReadTime
-    ensures { λ r. ⌜ r ≡ timeRead true (now (bytes .entry)) ⌝ }
+    ensures { λ r. ⌜ r ≡ timeRead Ts (now (bytes .entry)) ⌝ }
 {
-    read_time(true, bytes)
+    read_time(Form::Ts, bytes)
+}
+
+// YYYY[MM[DD]]
+pub fn is_dt(bytes: &[u8]) -> bool
+    ensures { λ r. ⌜ r ≡ isDt (now (bytes .entry)) ⌝ }
+{
+    let read = read_dt(bytes);
+    let kind = read.kind;
+    alphabet::number(kind) == 0
+}
+
+// HH[MM[SS[.S to .SSSS]]][+/-ZZZZ]
+pub fn is_tm(bytes: &[u8]) -> bool
+    ensures { λ r. ⌜ r ≡ isTm (now (bytes .entry)) ⌝ }
+{
+    let read = read_tm(bytes);
+    let kind = read.kind;
+    alphabet::number(kind) == 0
+}
+
+// YYYY[MM[DD[HHMM[SS[.S to .SSSS]]]]][+/-ZZZZ]
+pub fn is_ts(bytes: &[u8]) -> bool
+    ensures { λ r. ⌜ r ≡ isTs (now (bytes .entry)) ⌝ }
+{
+    let read = read_ts(bytes);
+    let kind = read.kind;
+    alphabet::number(kind) == 0
 }

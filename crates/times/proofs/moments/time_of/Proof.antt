@@ -1,69 +1,49 @@
 -- Rests on the laws of a time's form, and on what its parts give.
 use borrow.Author.Needs.{needs}
-use Prim.Native.Nat.{ℕ, _≤_}
-use mathlib.Core.Path.{_≡_, sym, ap, subst, _∙_}
+use mathlib.Core.Path.{_≡_, sym, ap, _∙_}
 use mathlib.Core.Bool.{true}
-use mathlib.Core.List.{List}
-use mathlib.Core.Logic.{⊎-elim}
+use Prim.Native.Nat.{_≤_}
+use native.Mathlib.Omega.{arith}
 use lib.ListN.{length, drop}
 use Rattle.alphabet.specs.Digits.{allDigits}
-use Rattle.alphabet.specs.Lists.{find}
-use Rattle.numbers.specs.Numbers.{beforePoint}
-use Rattle.times.specs.Times.{frontOf, tailOf, clockStart, timeForm, timeOf}
-use Rattle.times.proofs.TimeLaws.{front-digits, tail-holds, zone-held, time-formed}
-use native.Mathlib.Omega.{arith}
+use Rattle.forms.specs.declared.layouts.Form.{Form}
+use Rattle.forms.specs.declared.layouts.Form.the-variants.{Tm, Ts}
+use Rattle.forms.proofs.FormLaws.{Formed, formed, fraction-holds, zone-holds}
+use Rattle.times.specs.Times.{partsTime}
 use denote.Ref.{now}
 use Rattle.times.proofs.moments.time_of.Statement.{statement}
 use Rattle.times.proofs.moments.time_of.Tie as tie
 
-form : (c : tie.Start) → timeForm (c .args .dated) (now (c .args .bytes)) ≡ true
-form c = time-formed (c .args .dated) (now (c .args .bytes)) (c .pre)
+form : (c : tie.Start) → Formed (c .args .form) (now (c .args .front)) (now (c .args .tail)) (now (c .args .zone))
+form c = formed (c .args .form) (now (c .args .front)) (now (c .args .tail)) (now (c .args .zone)) (c .pre)
 
-front-is : (c : tie.After-before-point) → now (c .before-point .result) ≡ frontOf (now (c .before .before .before .args .bytes))
-front-is c = c .before-point .ensures ∙ ap beforePoint (c .before .body-of .ensures)
-
-tail-is : (c : tie.After-from-point) → now (c .from-point .result) ≡ tailOf (now (c .before .before .before .before .args .bytes))
-tail-is c = c .from-point .ensures ∙ ap (λ (l : List ℕ). drop (find 46 l) l) (c .before .before .body-of .ensures)
-
-digits : (c : tie.After-before-point) → allDigits (now (c .before-point .result)) ≡ true
-digits c =
-    let s = c .before .before .before in
-    ap allDigits (front-is c) ∙ front-digits (s .args .dated) (now (s .args .bytes)) (form s)
-
-offset-of-requires : tie.Need-offset-of-requires
-offset-of-requires c κs =
-    let s = c .before .before .before .before .before in
-    subst (λ (l : List ℕ). (allDigits (drop 1 l) ≡ true) × ((length l ≡ 0 → ⊥) → length l ≡ 5)) (sym (c .zone-behind .ensures))
-    (zone-held (s .args .dated) (now (s .args .bytes)) (form s))
-
-clock-of-requires : tie.Need-clock-of-requires
-clock-of-requires c κs =
-    let p = c .before .before .before .before in
-    let s = p .before .before .before .before in
-    let n : c .before .if1 .start ≤ 8 = ⊎-elim (λ w. omega arith) (λ w. omega arith) (c .before .if1 .came) in (
-      (digits (p .before), n),
-      subst (λ (l : List ℕ). (allDigits (drop 1 l) ≡ true) × (length l ≤ 5)) (sym (tail-is p)) (tail-holds (s .args .dated) (now (s .args .bytes)) (form s)),
-    )
+tail : (c : tie.Start) → (allDigits (drop 1 (now (c .args .tail))) ≡ true) × (length (now (c .args .tail)) ≤ 5)
+tail c = fraction-holds _ (now (c .args .tail)) (form c .tailed)
 
 returns : tie.Need-returns
-unfolding timeOf
 returns c =
-    let j = c .before .before in
-    let p = j .before .before .before in
-    let n : j .if1 .start ≡ clockStart (p .before .before .before .before .args .dated) = ⊎-elim (λ w. cc) (λ w. cc) (j .if1 .came) in
-    let f = front-is (p .before) in
-    let t = tail-is p in
-    cc
+    let a = c .before .before .before .before .before .before .before .before .args in
+    _∙_ {b = partsTime Tm (now (a .front)) (now (a .tail)) (now (a .zone))}
+    (λ i. record { date = c .before .no-date .ensures i; clock = c .clock-of .ensures i; offset = c .before .before .before .before .offset-of .ensures i })
+    (ap (λ (f : Form). partsTime f (now (a .front)) (now (a .tail)) (now (a .zone))) (sym (c .before .before .enum-told .given .1)))
+
+returns-2 : tie.Need-returns-2
+returns-2 c =
+    let a = c .before .before .before .before .before .before .before .before .args in
+    _∙_ {b = partsTime Ts (now (a .front)) (now (a .tail)) (now (a .zone))}
+    (λ i. record { date = c .before .date-of .ensures i; clock = c .clock-of2 .ensures i; offset = c .before .before .before .before .offset-of .ensures i })
+    (ap (λ (f : Form). partsTime f (now (a .front)) (now (a .tail)) (now (a .zone))) (sym (c .before .before .enum-told2 .given .1)))
 
 pub time-of-spec : {M : Type 1} → statement M
 time-of-spec =
     tie.close
     (tie.spec
+    (λ c κs. zone-holds (now (c .before .before .before .args .zone)) (form (c .before .before .before) .zoned))
+    (λ c. search needs)
     (λ c κs. search needs)
-    (λ c κs. search needs)
-    (λ c κs. search needs)
-    (λ c κs. search needs)
-    offset-of-requires
-    (λ c κs. digits (c .before .before .before .before))
-    clock-of-requires
-    returns)
+    (λ c κs. let s = c .before .before .before .before .before .before .before in ((form s .digits, omega arith), tail s))
+    (λ c. search needs)
+    (λ c κs. form (c .before .before .before .before .before .before) .digits)
+    (λ c κs. let s = c .before .before .before .before .before .before .before in ((form s .digits, omega arith), tail s))
+    returns
+    returns-2)

@@ -8,8 +8,8 @@ use lib.Seq.{length-take-le}
 use Rattle.alphabet.proofs.ListLaws.{first-le}
 use native.Mathlib.Omega.{arith}
 use denote.Ref.{now}
-use Rattle.times.proofs.forms.body_of.Statement.{statement}
-use Rattle.times.proofs.forms.body_of.Tie as tie
+use Rattle.forms.proofs.parts.body_of.Statement.{statement}
+use Rattle.forms.proofs.parts.body_of.Tie as tie
 
 within : (c : tie.After-first-sign) → c .first-sign .result ≤ length (now (c .before .before .args .bytes))
 within c =

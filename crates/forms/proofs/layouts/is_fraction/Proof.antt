@@ -6,10 +6,10 @@ use lib.ListN.{length}
 use Rattle.alphabet.specs.Bytes.{fromTo}
 use Rattle.alphabet.specs.Digits.{allDigits}
 use Rattle.alphabet.proofs.ListLaws.{rest-of}
-use Rattle.times.proofs.TimeLaws.{fraction-none, fraction-some}
+use Rattle.forms.proofs.FormLaws.{fraction-none, fraction-some}
 use denote.Ref.{now}
-use Rattle.times.proofs.forms.is_fraction.Statement.{statement}
-use Rattle.times.proofs.forms.is_fraction.Tie as tie
+use Rattle.forms.proofs.layouts.is_fraction.Statement.{statement}
+use Rattle.forms.proofs.layouts.is_fraction.Tie as tie
 
 returns-2 : tie.Need-returns-2
 returns-2 c =

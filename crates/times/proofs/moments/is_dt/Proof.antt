@@ -1,0 +1,22 @@
+-- Rests on nothing being refused exactly where there is such a time.
+use borrow.Author.Needs.{needs}
+use mathlib.Core.Path.{ap, _∙_}
+use Prim.Native.Nat.{ℕ}
+use lib.Dec.{eqb}
+use Rattle.alphabet.specs.Answers.{numberOf}
+use Rattle.times.specs.declared.moments.ReadTime.{ReadTime}
+use Rattle.times.proofs.TimeLaws.{dt-told}
+use denote.Ref.{now}
+use Rattle.times.proofs.moments.is_dt.Statement.{statement}
+use Rattle.times.proofs.moments.is_dt.Tie as tie
+
+returns : tie.Need-returns
+returns c = ap (λ (n : ℕ). eqb n 0) (c .number .ensures) ∙ ap (λ (r : ReadTime). eqb (numberOf (r .kind)) 0) (c .before .read-dt .ensures) ∙ dt-told (now (c .before .before .before .args .bytes))
+
+pub is-dt-spec : {M : Type 1} → statement M
+is-dt-spec =
+    tie.close
+    (tie.spec
+    (λ c κs. search needs)
+    (λ c κs. search needs)
+    returns)
