@@ -113,17 +113,18 @@ fn field_in(
     ensures { λ r. ⌜ Finds (getD (delimiters .bytes) 0 0) (now (segment .entry)) (fieldBytes (delimiters .bytes) (now (segment .entry)) number field) r ⌝ }
 {
     let bytes = delimiters.bytes;
-    if number != 0 {
-        return seek(segment, bytes[0], cursor, field);
+    let mut wanted = field;
+    if number == 0 {
+        if field <= 2 {
+            return Sought {
+                cursor: cursor,
+                start: 0,
+                end: 0,
+            };
+        }
+        wanted = field - 1;
     }
-    if field <= 2 {
-        return Sought {
-            cursor: cursor,
-            start: 0,
-            end: 0,
-        };
-    }
-    seek(segment, bytes[0], cursor, field - 1)
+    seek(segment, bytes[0], cursor, wanted)
 }
 
 // Repetition 1 of the field of a segment that says a row's type; no bytes where none says it or it is absent.
