@@ -1,4 +1,5 @@
--- The acknowledgement, by document 01, 'The acknowledgement', as a list of bytes that is put together of parts; and when it is refused.
+-- The acknowledgement, by document 01, 'The acknowledgement', as a list of bytes that is put together of parts; and
+-- when it is refused.
 use Prim.Native.Nat.{ℕ, _+_}
 use mathlib.Core.Path.{_≡_}
 use mathlib.Core.List.{List, [], _∷_, _++_}
@@ -57,7 +58,8 @@ present h bytes = isPresent (stateOf (delimitersOf h) bytes)
 abbrev pub encoding : List ℕ → List ℕ
 encoding h = getD h 4 0 ∷ getD h 5 0 ∷ getD h 6 0 ∷ getD h 7 0 ∷ []
 
--- "9 `ACK`, and a component separator and raw component 2 of the sender's MSH-9, repetition 1, after it where that is present"
+-- "9 `ACK`, and a component separator and raw component 2 of the sender's MSH-9, repetition 1, after it where that is
+-- present"
 unfoldable pub typeSent : List ℕ → List ℕ
 typeSent h = ascii "ACK" ++ cond (present h (typePart h 2)) (getD h 4 0 ∷ typePart h 2) []
 
@@ -65,7 +67,8 @@ typeSent h = ascii "ACK" ++ cond (present h (typePart h 2)) (getD h 4 0 ∷ type
 abbrev pub version : List ℕ
 version = ascii "2.4"
 
--- "fields 3, 4, 5, 6 are the sender's 5, 6, 3, 4 ..; 7 the caller's time; 8 empty; 9 ..; 10 the caller's ID, escaped; 11 copied raw; 12 `2.4`"
+-- "fields 3, 4, 5, 6 are the sender's 5, 6, 3, 4 ..; 7 the caller's time; 8 empty; 9 ..; 10 the caller's ID, escaped;
+-- 11 copied raw; 12 `2.4`"
 unfoldable pub headerParts : List ℕ → List ℕ → List ℕ → List (List ℕ)
 headerParts h time id =
     ascii "MSH" ∷ encoding h
@@ -100,7 +103,8 @@ abbrev pub passes : Check → Bool
 passes Passes = true
 passes (Fails kind place) = false
 
--- 9: "the header (through the first CR) is missing that CR or has fault 1 to 4 itself; type ACK; MSH-10, the whole field, not present or over 20 bytes"
+-- 9: "the header (through the first CR) is missing that CR or has fault 1 to 4 itself; type ACK; MSH-10, the whole
+-- field, not present or over 20 bytes"
 unfoldable pub acknowledgeable : List ℕ → Bool
 acknowledgeable m =
     ltb (find carriageReturn m) (length m)
@@ -112,7 +116,8 @@ acknowledgeable m =
 unfoldable pub roomy : ℕ → List ℕ → Outcome
 roomy room w = cond (leb (length w) room && leb (length w) messageLimit) (text w) (fault AcknowledgementTooLong 0)
 
--- "Acknowledging: 16, 17, 9, 10.": what stands against any acknowledgement, whatever the buffer; 16: "caller's time isn't TS"
+-- "Acknowledging: 16, 17, 9, 10.": what stands against any acknowledgement, whatever the buffer; 16: "caller's time
+-- isn't TS"
 unfoldable pub refusing : List ℕ → List ℕ → List ℕ → Refusal
 refusing m time id =
     cond (not (isTs time)) CallersTime
@@ -125,8 +130,8 @@ refusing m time id =
 abbrev pub answerTo : List ℕ → List ℕ → List ℕ → FaultRecord → List ℕ
 answerTo m time id r = acknowledgement (header m) time id (codeOf r)
 
--- the answer, and what is left in the buffer that was lent: a refusal gives number and place 0, length 0, and writes nothing; what is
--- written "fills the front of the buffer, its length is given, the bytes behind it stay"
+-- the answer, and what is left in the buffer that was lent: a refusal gives number and place 0, length 0, and writes
+-- nothing; what is written "fills the front of the buffer, its length is given, the bytes behind it stay"
 pub data Acknowledges (m time id lent : List ℕ) : Answer → List ℕ → Type 0 where
   not-written : (refusing m time id ≡ None → ⊥) → Acknowledges m time id lent (answer (fault (refusing m time id) 0)) lent
   written : refusing m time id ≡ None → (r : FaultRecord) → Verdicts m r

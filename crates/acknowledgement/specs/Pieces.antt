@@ -1,5 +1,5 @@
--- An acknowledgement as the pieces that the code writes one behind another. `proofs/PieceLaws.antt` shows that together they are the
--- `acknowledgement`; what a reader must believe is that one alone.
+-- An acknowledgement as the pieces that the code writes one behind another. `proofs/PieceLaws.antt` shows that together
+-- they are the `acknowledgement`; what a reader must believe is that one alone.
 use Prim.Native.Nat.{ℕ}
 use mathlib.Core.List.{List, [], _∷_, _++_}
 use mathlib.Core.Bool.{cond}

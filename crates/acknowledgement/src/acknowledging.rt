@@ -1,5 +1,5 @@
-// Acknowledging a message: what stands against it, the verdict's code, and the writing. The message and the time share a lifetime, since
-// pieces of both go into one array.
+// Acknowledging a message: what stands against it, the verdict's code, and the writing. The message and the time share
+// a lifetime, since pieces of both go into one array.
 use crate::letters::code_of;
 use crate::pieces::write;
 use crate::sender::header_of;
@@ -34,9 +34,11 @@ fn refusal_of(message: &[u8], time: &[u8], id: &[u8]) -> Refusal
     Refusal::None
 }
 
-// Writes the acknowledgement of a message to the front of the buffer: with the caller's time and his ID, and the code by the verdict.
+// Writes the acknowledgement of a message to the front of the buffer: with the caller's time and his ID, and the code
+// by the verdict.
 pub fn acknowledge<'a>(message: &'a [u8], time: &'a [u8], id: &[u8], buffer: &mut [u8]) -> Answer
-    ensures { λ r. ⌜ Acknowledges (now (message .entry)) (now (time .entry)) (now (id .entry)) (now (buffer .entry)) r (now (buffer .exit)) ⌝ }
+    ensures { λ r. ⌜ Acknowledges (now (message .entry)) (now (time .entry)) (now (id .entry)) (now (buffer .entry)) r
+        (now (buffer .exit)) ⌝ }
 {
     let kind = refusal_of(message, time, id);
     if alphabet::number(kind) != 0 {

@@ -1,6 +1,7 @@
-// An acknowledgement as pieces that stand one behind another: bytes of the sender's header, bytes of the caller's, and fixed texts. All are
-// measured before the first is written, so that one that does not fit writes nothing. The pieces share a lifetime, so that one array can
-// hold them; the fixed texts are handed down as one, since a text of a function's own ends with the function.
+// An acknowledgement as pieces that stand one behind another: bytes of the sender's header, bytes of the caller's, and
+// fixed texts. All are measured before the first is written, so that one that does not fit writes nothing. The pieces
+// share a lifetime, so that one array can hold them; the fixed texts are handed down as one, since a text of a
+// function's own ends with the function.
 use crate::letters::Code;
 use crate::sender::field_of;
 use crate::sender::is_present;
@@ -21,7 +22,8 @@ ghost use Rattle.escaping.specs.Outcomes.{roomFor, answer, filled};
 ghost use Rattle.acknowledgement.specs.Acknowledgement.{roomy, acknowledgement};
 ghost use Rattle.acknowledgement.specs.Pieces.{together, least, eventMark, event, fixedText, pieces};
 
-// The length of all pieces, where that is at most `room`. It is counted against the room, since a sum of lengths need not be a usize.
+// The length of all pieces, where that is at most `room`. It is counted against the room, since a sum of lengths need
+// not be a usize.
 fn measure(pieces: &[&[u8]], room: usize) -> Room
     ensures { λ r. ⌜ r ≡ roomFor room (length (together (map now (now (pieces .entry))))) ⌝ }
 {
@@ -74,11 +76,13 @@ fn event_mark<'a>(header: &'a [u8], event: &[u8]) -> &'a [u8]
     &header[4..5]
 }
 
-// All pieces, in order: MSH with its twelve fields, then MSA. MSH and the delimiters are the front of the sender's header.
+// All pieces, in order: MSH with its twelve fields, then MSA. MSH and the delimiters are the front of the sender's
+// header.
 fn pieces_of<'a>(header: &'a [u8], time: &'a [u8], id: &'a [u8], fixed: &'a [u8]) -> [&'a [u8]; 29]
     requires { ⌜ 8 ≤ length (now header) ⌝ }
     requires { ⌜ 12 ≤ length (now fixed) ⌝ }
-    ensures { λ r. ⌜ map now r ≡ pieces (now (header .entry)) (now (time .entry)) (now (id .entry)) (now (fixed .entry)) ⌝ }
+    ensures { λ r. ⌜ map now r
+        ≡ pieces (now (header .entry)) (now (time .entry)) (now (id .entry)) (now (fixed .entry)) ⌝ }
 {
     let front = &header[..8];
     let mark = &header[3..4];
@@ -148,8 +152,13 @@ fn write_pieces<'a>(
 ) -> Answer
     requires { ⌜ 8 ≤ length (now header) ⌝ }
     requires { ⌜ 12 ≤ length (now fixed) ⌝ }
-    ensures { λ r. ⌜ r ≡ answer (roomy (length (now (buffer .entry))) (together (pieces (now (header .entry)) (now (time .entry)) (now (id .entry)) (now (fixed .entry))))) ⌝ }
-    ensures { λ _. ⌜ now (buffer .exit) ≡ filled (roomy (length (now (buffer .entry))) (together (pieces (now (header .entry)) (now (time .entry)) (now (id .entry)) (now (fixed .entry))))) (now (buffer .entry)) ⌝ }
+    ensures { λ r. ⌜ r ≡ answer
+        (roomy (length (now (buffer .entry)))
+        (together (pieces (now (header .entry)) (now (time .entry)) (now (id .entry)) (now (fixed .entry))))) ⌝ }
+    ensures { λ _. ⌜ now (buffer .exit)
+        ≡ filled (roomy (length (now (buffer .entry)))
+        (together (pieces (now (header .entry)) (now (time .entry)) (now (id .entry)) (now (fixed .entry)))))
+        (now (buffer .entry)) ⌝ }
 {
     let pieces = pieces_of(header, time, id, fixed);
     let room = smaller(buffer.len(), alphabet::message_limit());
@@ -181,8 +190,8 @@ fn fixed_text(code: Code) -> [u8; 12]
     }
 }
 
-// A buffer for the ID, of which each byte may be written as five. By a call of its own it is no list of so many bytes in the
-// caller's proof.
+// A buffer for the ID, of which each byte may be written as five. By a call of its own it is no list of so many bytes
+// in the caller's proof.
 fn id_buffer() -> [u8; 1000]
     ensures { λ r. ⌜ length r ≡ 1000 ⌝ }
 {
@@ -201,8 +210,12 @@ pub fn write<'a>(
     requires { ⌜ isHeader (now header) ≡ true ⌝ }
     requires { ⌜ firstWrongDelimiter (delimitersOf (now header)) ≡ 5 ⌝ }
     requires { ⌜ length (now id) ≤ idLimit ⌝ }
-    ensures { λ r. ⌜ r ≡ answer (roomy (length (now (buffer .entry))) (acknowledgement (now (header .entry)) (now (time .entry)) (now (id .entry)) code)) ⌝ }
-    ensures { λ _. ⌜ now (buffer .exit) ≡ filled (roomy (length (now (buffer .entry))) (acknowledgement (now (header .entry)) (now (time .entry)) (now (id .entry)) code)) (now (buffer .entry)) ⌝ }
+    ensures { λ r. ⌜ r ≡ answer
+        (roomy (length (now (buffer .entry)))
+        (acknowledgement (now (header .entry)) (now (time .entry)) (now (id .entry)) code)) ⌝ }
+    ensures { λ _. ⌜ now (buffer .exit)
+        ≡ filled (roomy (length (now (buffer .entry)))
+        (acknowledgement (now (header .entry)) (now (time .entry)) (now (id .entry)) code)) (now (buffer .entry)) ⌝ }
 {
     let delimiters = reading::delimiters_of(header);
     let mut escaped = id_buffer();

@@ -1,5 +1,5 @@
-// The sender's header: the bytes of a message through the first CR, what is taken from them, and whether the message can be
-// acknowledged at all. Nothing behind the header is looked at.
+// The sender's header: the bytes of a message through the first CR, what is taken from them, and whether the message
+// can be acknowledged at all. Nothing behind the header is looked at.
 use alphabet::Check;
 use element::Address;
 ghost use mathlib.Core.Path.{_≡_};
@@ -46,8 +46,8 @@ pub fn is_present(header: &[u8], bytes: &[u8]) -> bool
     element::is_present(element::state_of(delimiters, bytes))
 }
 
-// Whether a message can be acknowledged: its header is there and sound, it is no acknowledgement itself, and its control ID is
-// present and not too long.
+// Whether a message can be acknowledged: its header is there and sound, it is no acknowledgement itself, and its
+// control ID is present and not too long.
 pub fn is_acknowledgeable(message: &[u8]) -> bool
     ensures { λ r. ⌜ r ≡ acknowledgeable (now (message .entry)) ⌝ }
 {

@@ -1,6 +1,6 @@
-// The question `ack MSG TIME ID ROOM`: the acknowledgement of a message, written into a buffer that the answer shows whole. The
-// bytes of its first three words are decoded one behind another into one buffer. The buffers are lent by the program, which
-// has room in them: so it is required.
+// The question `ack MSG TIME ID ROOM`: the acknowledgement of a message, written into a buffer that the answer shows
+// whole. The bytes of its first three words are decoded one behind another into one buffer. The buffers are lent by the
+// program, which has room in them: so it is required.
 ghost use Prim.Native.Nat.{_≤_};
 ghost use lib.ListN.{length};
 ghost use Rattle.answering.specs.Answers.{Roomy};
@@ -12,8 +12,8 @@ use asking::hex::Decoded;
 use asking::rooms;
 use asking::words;
 
-// Calls the library once, and puts what came back into the answer. The message stands at the front of what was said and ends at
-// one place, the time behind it ends at another, and the ID behind both at a third.
+// Calls the library once, and puts what came back into the answer. The message stands at the front of what was said and
+// ends at one place, the time behind it ends at another, and the ID behind both at a third.
 fn put_acknowledged(
     said: &[u8],
     message: usize,
@@ -38,7 +38,8 @@ fn put_acknowledged(
     writings::put_written(found, buffer, answer)
 }
 
-// Answers an `ack` of which the message, the time and the ID are decoded, each up to its place: the room is left to decode.
+// Answers an `ack` of which the message, the time and the ID are decoded, each up to its place: the room is left to
+// decode.
 fn answer_said(
     line: &[u8],
     said: &[u8],
@@ -61,8 +62,8 @@ fn answer_said(
     put_acknowledged(said, message, time, id, &mut buffer[..room], answer)
 }
 
-// Answers a line whose verb is `ack`. The bytes of its three words are decoded one behind another into `said`, which has room
-// for all that a line can say.
+// Answers a line whose verb is `ack`. The bytes of its three words are decoded one behind another into `said`, which
+// has room for all that a line can say.
 fn answer_words(line: &[u8], said: &mut [u8], answer: &mut [u8]) -> usize
     requires { ⌜ Roomy (now answer) ⌝ }
     ensures { λ r. ⌜ r ≤ length (now (answer .exit)) ⌝ }
@@ -79,8 +80,8 @@ fn answer_words(line: &[u8], said: &mut [u8], answer: &mut [u8]) -> usize
     answer_said(line, said, message, time, id, answer)
 }
 
-// Puts the answer to a line whose verb is `ack` into `answer`, and returns its length. A line with more words or fewer is no
-// question.
+// Puts the answer to a line whose verb is `ack` into `answer`, and returns its length. A line with more words or fewer
+// is no question.
 pub fn answer(line: &[u8], said: &mut [u8], answer: &mut [u8]) -> usize
     requires { ⌜ Roomy (now answer) ⌝ }
     ensures { λ r. ⌜ r ≤ length (now (answer .exit)) ⌝ }

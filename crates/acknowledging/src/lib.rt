@@ -1,5 +1,5 @@
-// `ack`: the acknowledgement of a message, for a time and an ID that two words say. It goes to a line and not to a terminal, so
-// that its bytes are written as they are.
+// `ack`: the acknowledgement of a message, for a time and an ID that two words say. It goes to a line and not to a
+// terminal, so that its bytes are written as they are.
 ghost use Prim.Native.Nat.{_≤_};
 use alphabet::Refusal;
 use terminal::Output;

@@ -1,4 +1,5 @@
--- What writing into a lent buffer leaves in it. A written text "fills the front of its buffer", "the bytes behind it stay".
+-- What writing into a lent buffer leaves in it. A written text "fills the front of its buffer", "the bytes behind it
+-- stay".
 use Prim.Native.Nat.{ℕ, _+_}
 use mathlib.Core.List.{List, _++_}
 use mathlib.Core.Bool.{cond}

@@ -1,5 +1,6 @@
--- The limits of document 01. No proof of the library opens them but those of the functions that give them: what arithmetic needs of them is in
--- `proofs/LimitLaws.antt`. The samples, which compute with a message, open them, and so does the command's room for a file.
+-- The limits of document 01. No proof of the library opens them but those of the functions that give them: what
+-- arithmetic needs of them is in `proofs/LimitLaws.antt`. The samples, which compute with a message, open them, and so
+-- does the command's room for a file.
 use Prim.Native.Nat.{ℕ}
 
 -- "A message has 1 to 32,768 bytes and 1 to 256 segments."

@@ -1,5 +1,5 @@
-// What a byte may be, by document 01's 'Bytes and segments', where a byte first stands, and whether two texts are the same.
-// The tests are free of branches and nested as their definitions are, so that they need no proof.
+// What a byte may be, by document 01's 'Bytes and segments', where a byte first stands, and whether two texts are the
+// same. The tests are free of branches and nested as their definitions are, so that they need no proof.
 ghost use mathlib.Core.Path.{_≡_};
 ghost use Prim.Native.Nat.{_%_, _≤_};
 ghost use lib.Dec.{leb};
@@ -79,7 +79,8 @@ pub fn is_null(bytes: &[u8]) -> bool
     (bytes.len() == 2) & ((first == 34) & (second == 34))
 }
 
-// Whether b is none of the bytes. Every byte is looked at and nothing branches, so that the compiler takes many at once.
+// Whether b is none of the bytes. Every byte is looked at and nothing branches, so that the compiler takes many at
+// once.
 fn is_without(bytes: &[u8], b: u8) -> bool
     ensures { λ r. ⌜ r ≡ leb (length (now (bytes .entry))) (find b (now (bytes .entry))) ⌝ }
 {
@@ -147,7 +148,8 @@ fn is_all_allowed(bytes: &[u8]) -> bool
     all
 }
 
-// The place of the first byte that may not stand in a message, or the length where there is none, which is the usual case and told first.
+// The place of the first byte that may not stand in a message, or the length where there is none, which is the usual
+// case and told first.
 pub fn first_not_allowed(bytes: &[u8]) -> usize
     ensures { λ r. ⌜ r ≡ first notAllowed (now (bytes .entry)) ⌝ }
 {

@@ -20,7 +20,8 @@ pub fn is_permitted(b: u8) -> bool
     (first | (second | (third | fourth))) & !never
 }
 
-// The place, from 0 to 4, of the first delimiter that is not permitted or equal to an earlier one; 5 where all are right.
+// The place, from 0 to 4, of the first delimiter that is not permitted or equal to an earlier one; 5 where all are
+// right.
 pub fn first_wrong_delimiter(delimiters: Delimiters) -> usize
     ensures { λ r. ⌜ r ≡ firstWrongDelimiter (delimiters .bytes) ⌝ }
 {

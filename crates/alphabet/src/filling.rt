@@ -1,5 +1,5 @@
-// Writing into a buffer that the caller lends. Whoever writes has measured before, so that there is room; where there is none
-// nothing is written.
+// Writing into a buffer that the caller lends. Whoever writes has measured before, so that there is room; where there
+// is none nothing is written.
 ghost use mathlib.Core.Path.{_≡_};
 ghost use lib.ListN.{length};
 ghost use Rattle.alphabet.specs.Filling.{putAt, behind};

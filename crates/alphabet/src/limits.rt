@@ -1,5 +1,5 @@
-// The limits, once for the whole library. Code asks these functions and proofs cite their names, so a new figure changes
-// this file and specs/Limits.antt, and of the rest only the buffer of the command and what is said to C.
+// The limits, once for the whole library. Code asks these functions and proofs cite their names, so a new figure
+// changes this file and specs/Limits.antt, and of the rest only the buffer of the command and what is said to C.
 ghost use mathlib.Core.Path.{_≡_};
 ghost use Rattle.alphabet.specs.Limits.{messageLimit, segmentLimit, idLimit};
 

@@ -1,5 +1,5 @@
-// An answer is gathered in a buffer, and written out whole. Each thing in it is put together with the byte that ends it: a
-// space, or the end of the line.
+// An answer is gathered in a buffer, and written out whole. Each thing in it is put together with the byte that ends
+// it: a space, or the end of the line.
 ghost use Prim.Native.Nat.{_+_, _≤_};
 ghost use mathlib.Core.Path.{_≡_};
 ghost use lib.ListN.{length, take};

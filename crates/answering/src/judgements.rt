@@ -1,5 +1,5 @@
-// What a judge said of a message: the number of the refusal and its place, whether the message could have ended there, and
-// the names that could have stood there.
+// What a judge said of a message: the number of the refusal and its place, whether the message could have ended there,
+// and the names that could have stood there.
 ghost use Prim.Native.Nat.{_≤_};
 ghost use lib.ListN.{length};
 ghost use Rattle.answering.specs.Answers.{Roomy};

@@ -1,5 +1,5 @@
-// The short words of an answer. Each is put into it together with the byte that ends it, and takes at most 22 bytes, so that
-// a chain of them needs no more than room.
+// The short words of an answer. Each is put into it together with the byte that ends it, and takes at most 22 bytes, so
+// that a chain of them needs no more than room.
 ghost use Prim.Native.Nat.{_+_, _≤_};
 ghost use lib.ListN.{length};
 use crate::answers;

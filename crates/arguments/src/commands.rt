@@ -38,8 +38,9 @@ fn command_of(word: &[u8]) -> u8 {
     0
 }
 
-// The command where it stands at an index and as many words stand behind it as it takes, and else 0: a file or more to check,
-// one to show, one to get from with two to five words behind its name, one to acknowledge with two, and none to tell of itself.
+// The command where it stands at an index and as many words stand behind it as it takes, and else 0: a file or more to
+// check, one to show, one to get from with two to five words behind its name, one to acknowledge with two, and none to
+// tell of itself.
 fn with_its_words(command: u8, index: usize, count: usize) -> u8
     requires { ⌜ index ≤ 9 ⌝ }
 {

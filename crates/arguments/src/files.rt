@@ -1,5 +1,5 @@
-// A file is read whole into a buffer of one byte more than a message may have, so that a file over the limit is seen to be
-// over it. What cannot be read is said on standard error, by the file's name.
+// A file is read whole into a buffer of one byte more than a message may have, so that a file over the limit is seen to
+// be over it. What cannot be read is said on standard error, by the file's name.
 ghost use Prim.Native.Nat.{_+_, _≤_};
 ghost use mathlib.Core.Path.{_≡_};
 ghost use lib.ListN.{length};
@@ -19,7 +19,8 @@ pub struct File {
     pub length: usize,
 }
 
-// Reads once into the part of the buffer behind its first `held` bytes, and tells how many came: none where the file has ended.
+// Reads once into the part of the buffer behind its first `held` bytes, and tells how many came: none where the file
+// has ended.
 fn read_behind(file: i32, buffer: &mut [u8], held: usize) -> Content
     requires { ⌜ held ≤ length (now buffer) ⌝ }
     ensures { λ r. ⌜ held + r .length ≤ length (now (buffer .entry)) ⌝ }
@@ -71,7 +72,8 @@ fn print_reason(out: Output, error: i32) -> Output {
     terminal::print_line(out, b"it cannot be read")
 }
 
-// Says of a file by its name that it cannot be read, and why. Where that cannot be written either, the status is the same.
+// Says of a file by its name that it cannot be read, and why. Where that cannot be written either, the status is the
+// same.
 fn fail(name: &[u8]) -> Content
     ensures { λ r. ⌜ r .length ≡ 0 ⌝ }
 {

@@ -1,5 +1,5 @@
-// What the words of a command line ask for: the command itself, the file that a word names, read, and the address of an element,
-// said by a segment's name or number and by numbers behind it. Words are counted from 1.
+// What the words of a command line ask for: the command itself, the file that a word names, read, and the address of an
+// element, said by a segment's name or number and by numbers behind it. Words are counted from 1.
 mod commands;
 mod files;
 mod numbers;

@@ -44,7 +44,8 @@ fn answer_input(piece: &mut [u8], buffer: &mut [u8], said: &mut [u8], answer: &m
     }
 }
 
-// The buffer for a line. By a call of its own it is no list of so many bytes in the caller's proof, nor are the next two.
+// The buffer for a line. By a call of its own it is no list of so many bytes in the caller's proof, nor are the next
+// two.
 fn line_buffer() -> [u8; LONGEST_LINE]
     ensures { λ r. ⌜ 300000 ≡ length r ⌝ }
 {

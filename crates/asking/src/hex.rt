@@ -17,7 +17,8 @@ pub enum Decoded {
 fn put_pairs(word: &[u8], buffer: &mut [u8]) -> usize
     requires { ⌜ allHex (now word) ≡ true ⌝ }
     requires { ⌜ length (now word) / 2 ≤ length (now buffer) ⌝ }
-    ensures { λ r. ⌜ (r ≡ length (pairsOf (now (word .entry)))) × (take r (now (buffer .exit)) ≡ pairsOf (now (word .entry))) ⌝ }
+    ensures { λ r. ⌜ (r ≡ length (pairsOf (now (word .entry))))
+        × (take r (now (buffer .exit)) ≡ pairsOf (now (word .entry))) ⌝ }
 {
     let mut i = 0;
     let mut next = 0;

@@ -1,5 +1,5 @@
-// A line is gathered in a buffer over as many pieces of the input as it takes. One that is longer than the buffer is not
-// kept, and is known to be too long until it ends.
+// A line is gathered in a buffer over as many pieces of the input as it takes. One that is longer than the buffer is
+// not kept, and is known to be too long until it ends.
 ghost use Prim.Native.Nat.{ℕ};
 ghost use mathlib.Core.List.{List, _++_};
 ghost use lib.ListN.{length};
@@ -16,7 +16,8 @@ pub enum Line {
 pub fn gather(line: Line, buffer: &mut [u8], part: &[u8]) -> Line
     requires { ⌜ Within (length (now buffer)) line ⌝ }
     ensures { λ r. ⌜ Within (length (now (buffer .exit))) r ⌝ }
-    ensures { λ r. ⌜ ((bytes : List ℕ) → Gathered line (now (buffer .entry)) bytes → Gathered r (now (buffer .exit)) (bytes ++ now (part .entry))) ⌝ }
+    ensures { λ r. ⌜ ((bytes : List ℕ) → Gathered line (now (buffer .entry)) bytes
+        → Gathered r (now (buffer .exit)) (bytes ++ now (part .entry))) ⌝ }
 {
     let Line::Holds(length) = line else {
         return Line::TooLong;

@@ -1,5 +1,5 @@
-// A buffer that is lent to the library, of as many bytes as a question asks for: each is A5 before the call, so that an answer
-// that shows the whole of it tells what was written and that the rest stayed.
+// A buffer that is lent to the library, of as many bytes as a question asks for: each is A5 before the call, so that an
+// answer that shows the whole of it tells what was written and that the rest stayed.
 ghost use Prim.Native.Nat.{ℕ, _<_};
 ghost use mathlib.Core.Path.{_≡_};
 ghost use lib.ListN.{getD};

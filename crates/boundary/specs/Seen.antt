@@ -1,5 +1,5 @@
--- The library's answers as C sees them: a refusal by its number in the table, a state and a sign by a number each. Every answer of the
--- boundary is one of the library's, seen so.
+-- The library's answers as C sees them: a refusal by its number in the table, a state and a sign by a number each.
+-- Every answer of the boundary is one of the library's, seen so.
 use Prim.Native.Nat.{ℕ}
 use mathlib.Core.Path.{_≡_}
 use mathlib.Core.List.{List}

@@ -1,5 +1,5 @@
-// An element of a message by its address, and the number or the time that it says. A state is 0 absent, 1 empty, 2 null, 3 present; an
-// element that is not present has no number: an empty box is not a zero.
+// An element of a message by its address, and the number or the time that it says. A state is 0 absent, 1 empty, 2
+// null, 3 present; an element that is not present has no number: an empty box is not a zero.
 use calendar::Clock;
 use calendar::Date;
 use calendar::Figure;
@@ -28,7 +28,8 @@ pub struct CElement {
     pub end: usize,
 }
 
-// A number of the table and its place, or the state and, where it is present, the number: `value` with so many decimals.
+// A number of the table and its place, or the state and, where it is present, the number: `value` with so many
+// decimals.
 #[repr(C)]
 pub struct CNumber {
     pub number: u32,
@@ -225,7 +226,8 @@ pub extern "C" fn turrethog_find(
     component: usize,
     subcomponent: usize,
 ) -> CElement
-    ensures { λ r. ⌜ r ≡ elementSeen (found (now (message .entry)) (addressOf segment field repetition component subcomponent)) ⌝ }
+    ensures { λ r. ⌜ r ≡ elementSeen
+        (found (now (message .entry)) (addressOf segment field repetition component subcomponent)) ⌝ }
 {
     let address = address_of(segment, field, repetition, component, subcomponent);
     element_shown(element::find(message, address))
@@ -241,7 +243,8 @@ pub extern "C" fn turrethog_nm(
     component: usize,
     subcomponent: usize,
 ) -> CNumber
-    ensures { λ r. ⌜ r ≡ numberSeen (nmFound (now (message .entry)) (addressOf segment field repetition component subcomponent)) ⌝ }
+    ensures { λ r. ⌜ r ≡ numberSeen
+        (nmFound (now (message .entry)) (addressOf segment field repetition component subcomponent)) ⌝ }
 {
     let address = address_of(segment, field, repetition, component, subcomponent);
     number_shown(value::nm(message, address))
@@ -257,7 +260,8 @@ pub extern "C" fn turrethog_si(
     component: usize,
     subcomponent: usize,
 ) -> CNumber
-    ensures { λ r. ⌜ r ≡ numberSeen (siFound (now (message .entry)) (addressOf segment field repetition component subcomponent)) ⌝ }
+    ensures { λ r. ⌜ r ≡ numberSeen
+        (siFound (now (message .entry)) (addressOf segment field repetition component subcomponent)) ⌝ }
 {
     let address = address_of(segment, field, repetition, component, subcomponent);
     number_shown(value::si(message, address))
@@ -273,7 +277,8 @@ pub extern "C" fn turrethog_dt(
     component: usize,
     subcomponent: usize,
 ) -> CTime
-    ensures { λ r. ⌜ r ≡ timeSeen (dtFound (now (message .entry)) (addressOf segment field repetition component subcomponent)) ⌝ }
+    ensures { λ r. ⌜ r ≡ timeSeen
+        (dtFound (now (message .entry)) (addressOf segment field repetition component subcomponent)) ⌝ }
 {
     let address = address_of(segment, field, repetition, component, subcomponent);
     time_shown(value::dt(message, address))
@@ -289,7 +294,8 @@ pub extern "C" fn turrethog_tm(
     component: usize,
     subcomponent: usize,
 ) -> CTime
-    ensures { λ r. ⌜ r ≡ timeSeen (tmFound (now (message .entry)) (addressOf segment field repetition component subcomponent)) ⌝ }
+    ensures { λ r. ⌜ r ≡ timeSeen
+        (tmFound (now (message .entry)) (addressOf segment field repetition component subcomponent)) ⌝ }
 {
     let address = address_of(segment, field, repetition, component, subcomponent);
     time_shown(value::tm(message, address))
@@ -305,7 +311,8 @@ pub extern "C" fn turrethog_ts(
     component: usize,
     subcomponent: usize,
 ) -> CTime
-    ensures { λ r. ⌜ r ≡ timeSeen (tsFound (now (message .entry)) (addressOf segment field repetition component subcomponent)) ⌝ }
+    ensures { λ r. ⌜ r ≡ timeSeen
+        (tsFound (now (message .entry)) (addressOf segment field repetition component subcomponent)) ⌝ }
 {
     let address = address_of(segment, field, repetition, component, subcomponent);
     time_shown(value::ts(message, address))

@@ -1,10 +1,11 @@
-// The judges: structure alone, and the verdict over reading, structure and fields; and the names that could have stood where a segment
-// could not, one by one.
+// The judges: structure alone, and the verdict over reading, structure and fields; and the names that could have stood
+// where a segment could not, one by one.
 use fault::FaultRecord;
 ghost use mathlib.Core.Path.{_≡_};
 ghost use Rattle.boundary.specs.Seen.{structureSeen, verdictSeen, StructureSeen, VerdictSeen, NameSeen};
 
-// A number of the table; the place; whether the message could have ended there; and how many names could have stood there.
+// A number of the table; the place; whether the message could have ended there; and how many names could have stood
+// there.
 #[repr(C)]
 pub struct CStructure {
     pub number: u32,

@@ -20,8 +20,12 @@ pub extern "C" fn turrethog_escape(
     text: &[u8],
     buffer: &mut [u8],
 ) -> CAnswer
-    ensures { λ r. ⌜ r ≡ seen (answer (escaping (field ∷ component ∷ repetition ∷ escape ∷ subcomponent ∷ []) (now (text .entry)) (length (now (buffer .entry))))) ⌝ }
-    ensures { λ _. ⌜ now (buffer .exit) ≡ filled (escaping (field ∷ component ∷ repetition ∷ escape ∷ subcomponent ∷ []) (now (text .entry)) (length (now (buffer .entry)))) (now (buffer .entry)) ⌝ }
+    ensures { λ r. ⌜ r ≡ seen
+        (answer (escaping (field ∷ component ∷ repetition ∷ escape ∷ subcomponent ∷ []) (now (text .entry))
+        (length (now (buffer .entry))))) ⌝ }
+    ensures { λ _. ⌜ now (buffer .exit)
+        ≡ filled (escaping (field ∷ component ∷ repetition ∷ escape ∷ subcomponent ∷ []) (now (text .entry))
+        (length (now (buffer .entry)))) (now (buffer .entry)) ⌝ }
 {
     let delimiters = Delimiters {
         bytes: [field, component, repetition, escape, subcomponent],
@@ -40,8 +44,12 @@ pub extern "C" fn turrethog_unescape(
     text: &[u8],
     buffer: &mut [u8],
 ) -> CAnswer
-    ensures { λ r. ⌜ r ≡ seen (answer (unescaping (field ∷ component ∷ repetition ∷ escape ∷ subcomponent ∷ []) (now (text .entry)) (length (now (buffer .entry))))) ⌝ }
-    ensures { λ _. ⌜ now (buffer .exit) ≡ filled (unescaping (field ∷ component ∷ repetition ∷ escape ∷ subcomponent ∷ []) (now (text .entry)) (length (now (buffer .entry)))) (now (buffer .entry)) ⌝ }
+    ensures { λ r. ⌜ r ≡ seen
+        (answer (unescaping (field ∷ component ∷ repetition ∷ escape ∷ subcomponent ∷ []) (now (text .entry))
+        (length (now (buffer .entry))))) ⌝ }
+    ensures { λ _. ⌜ now (buffer .exit)
+        ≡ filled (unescaping (field ∷ component ∷ repetition ∷ escape ∷ subcomponent ∷ []) (now (text .entry))
+        (length (now (buffer .entry)))) (now (buffer .entry)) ⌝ }
 {
     let delimiters = Delimiters {
         bytes: [field, component, repetition, escape, subcomponent],
@@ -57,7 +65,8 @@ pub extern "C" fn turrethog_acknowledge<'a>(
     id: &[u8],
     buffer: &mut [u8],
 ) -> CAnswer
-    ensures { λ r. ⌜ AcknowledgeSeen (now (message .entry)) (now (time .entry)) (now (id .entry)) (now (buffer .entry)) r (now (buffer .exit)) ⌝ }
+    ensures { λ r. ⌜ AcknowledgeSeen (now (message .entry)) (now (time .entry)) (now (id .entry))
+        (now (buffer .entry)) r (now (buffer .exit)) ⌝ }
 {
     shown(acknowledgement::acknowledge(message, time, id, buffer))
 }

@@ -1,5 +1,6 @@
-// The four commands on the message that a file holds: `check`, `show`, `get` and `ack`. What they find is printed to the output
-// that they are handed. Why there is nothing to find is said on standard error, as `check` says it where there is no message.
+// The four commands on the message that a file holds: `check`, `show`, `get` and `ack`. What they find is printed to
+// the output that they are handed. Why there is nothing to find is said on standard error, as `check` says it where
+// there is no message.
 ghost use Prim.Native.Nat.{_≤_};
 use alphabet::Refusal;
 use arguments::Asked;

@@ -1,5 +1,5 @@
-// An input is taken in pieces: its lines are gathered, and each is answered on standard output as soon as it ends. The buffers are
-// lent by the program, which has room in them: so it is required.
+// An input is taken in pieces: its lines are gathered, and each is answered on standard output as soon as it ends. The
+// buffers are lent by the program, which has room in them: so it is required.
 ghost use lib.ListN.{length};
 ghost use Rattle.io.specs.Counts.{Counts};
 ghost use Rattle.answering.specs.Answers.{Roomy};

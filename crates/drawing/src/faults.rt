@@ -1,5 +1,5 @@
-// Where a fault of a message stands, drawn: the byte, the segment, the field or the repetition that is meant, and for a segment
-// that cannot stand where it stands what could have stood there.
+// Where a fault of a message stands, drawn: the byte, the segment, the field or the repetition that is meant, and for a
+// segment that cannot stand where it stands what could have stood there.
 use alphabet::Part;
 use element::Address;
 use element::State;

@@ -1,5 +1,5 @@
-// The verdict on a message as people are told it: a line that says accepted or refused, and under a refusal the place that is
-// meant, drawn with a mark under it.
+// The verdict on a message as people are told it: a line that says accepted or refused, and under a refusal the place
+// that is meant, drawn with a mark under it.
 mod faults;
 
 use terminal::Output;

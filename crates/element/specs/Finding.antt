@@ -62,6 +62,7 @@ abbrev pub partBytes : List ℕ → Part → List ℕ
 partBytes m Absent = []
 partBytes m (At s e) = between m s e
 
--- "raw": the bytes at an address, for which no fault is looked for; none where nothing stands. Four bytes have a field separator
+-- "raw": the bytes at an address, for which no fault is looked for; none where nothing stands. Four bytes have a field
+-- separator
 unfoldable pub rawBytes : List ℕ → Address → List ℕ
 rawBytes m a = cond (leb 4 (length m)) (partBytes m (elementAt m a)) []

@@ -1,4 +1,5 @@
--- From a segment down to a subcomponent, by document 01, 'Elements': "Each level splits the part above it at its own separator".
+-- From a segment down to a subcomponent, by document 01, 'Elements': "Each level splits the part above it at its own
+-- separator".
 use Prim.Native.Nat.{ℕ, zero, suc, _+_, _-_, _≤_}
 use mathlib.Core.List.{List}
 use mathlib.Core.Bool.{Bool, cond, _&&_}
@@ -29,8 +30,8 @@ unfoldable pub partIn : ℕ → List ℕ → Part → ℕ → Part
 partIn sep m Absent k = Absent
 partIn sep m (At s e) k = moved s (partAt sep (between m s e) k)
 
--- "Field 1 of MSH is the separator byte, field 2 the four encoding bytes": MSH, the first segment of a message, has its fields counted
--- from the separator itself
+-- "Field 1 of MSH is the separator byte, field 2 the four encoding bytes": MSH, the first segment of a message, has its
+-- fields counted from the separator itself
 abbrev pub headerField : List ℕ → Part → ℕ → Part
 headerField m part f = cond (eqb f 1) (At 3 4) (partIn (fieldSeparator m) m part (f - 1))
 
@@ -56,7 +57,8 @@ componentAt m a = below (getD (delimitersOf m) 1 0) m (repetitionAt m a) (a .com
 unfoldable pub subcomponentAt : List ℕ → Address → Part
 subcomponentAt m a = below (getD (delimitersOf m) 4 0) m (componentAt m a) (a .subcomponent)
 
--- MSH-1 and MSH-2 are "neither split further (repetition, component and subcomponent 0 or 1 give the whole, more is absent)"
+-- MSH-1 and MSH-2 are "neither split further (repetition, component and subcomponent 0 or 1 give the whole, more is
+-- absent)"
 abbrev pub fixed : ℕ → ℕ → Bool
 fixed segment f = eqb segment 0 && leb f 2
 

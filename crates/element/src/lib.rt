@@ -126,8 +126,8 @@ pub fn bytes_of(message: &[u8], address: Address) -> &[u8]
     bytes_at(message, element)
 }
 
-// The bytes at an address as they were sent, for judges that have read the message already: no fault is looked for, and there
-// are none where nothing stands.
+// The bytes at an address as they were sent, for judges that have read the message already: no fault is looked for, and
+// there are none where nothing stands.
 pub fn raw(message: &[u8], address: Address) -> &[u8]
     ensures { λ r. ⌜ now r ≡ rawBytes (now (message .entry)) address ⌝ }
 {

@@ -94,8 +94,8 @@ fn put_offset(answer: &mut [u8], at: usize, offset: Offset, end: u8) -> usize
     }
 }
 
-// Puts the answer to `dt`, `tm` and `ts`: behind the state, the nine parts of a time. Where there is no time the library
-// hands back one of which nothing was sent.
+// Puts the answer to `dt`, `tm` and `ts`: behind the state, the nine parts of a time. Where there is no time the
+// library hands back one of which nothing was sent.
 pub fn put_time(found: TimeFound, answer: &mut [u8]) -> usize
     requires { ⌜ Roomy (now answer) ⌝ }
     ensures { λ r. ⌜ r ≤ length (now (answer .exit)) ⌝ }

@@ -1,4 +1,5 @@
-// The three words with which each answer about an element begins: the number of the refusal, its place, and the element's state.
+// The three words with which each answer about an element begins: the number of the refusal, its place, and the
+// element's state.
 ghost use Prim.Native.Nat.{_+_, _≤_};
 ghost use lib.ListN.{length};
 use alphabet::Answer;
@@ -30,7 +31,8 @@ fn put_state(answer: &mut [u8], at: usize, kind: Refusal, state: State, end: u8)
     }
 }
 
-// Puts the three words with which each answer about an element begins: the number of the refusal, its place, and the state.
+// Puts the three words with which each answer about an element begins: the number of the refusal, its place, and the
+// state.
 pub fn put_begin(answer: &mut [u8], found: Answer, state: State, end: u8) -> usize
     requires { ⌜ 66 ≤ length (now answer) ⌝ }
     ensures { λ r. ⌜ r ≤ 66 ⌝ }

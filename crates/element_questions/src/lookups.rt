@@ -1,5 +1,5 @@
-// The verbs about an element: which there are, and the answer to each. They differ in the call and in the words that stand behind
-// the element's state.
+// The verbs about an element: which there are, and the answer to each. They differ in the call and in the words that
+// stand behind the element's state.
 ghost use Prim.Native.Nat.{_≤_};
 ghost use mathlib.Core.Path.{_≡_};
 ghost use lib.ListN.{length};
@@ -110,8 +110,8 @@ fn put_lookup(lookup: Lookup, message: &[u8], address: Address, answer: &mut [u8
     }
 }
 
-// Puts the answer to a line with one of these verbs into `answer`, and returns its length. `message` is lent for the bytes
-// that the line says. A line whose other words are not those of a lookup is no question.
+// Puts the answer to a line with one of these verbs into `answer`, and returns its length. `message` is lent for the
+// bytes that the line says. A line whose other words are not those of a lookup is no question.
 pub fn answer(lookup: Lookup, line: &[u8], message: &mut [u8], answer: &mut [u8]) -> usize
     requires { ⌜ Roomy (now answer) ⌝ }
     ensures { λ r. ⌜ r ≤ length (now (answer .exit)) ⌝ }

@@ -1,5 +1,5 @@
--- How text is written, by document 01, 'Text'. The delimiters are the list of the five, in the message's order: field, component, repetition,
--- escape, subcomponent.
+-- How text is written, by document 01, 'Text'. The delimiters are the list of the five, in the message's order: field,
+-- component, repetition, escape, subcomponent.
 use Prim.Native.Nat.{ℕ, _/_, _%_}
 use mathlib.Core.List.{List, [], _∷_, _++_}
 use mathlib.Core.Bool.{cond}
@@ -8,7 +8,8 @@ use lib.Dec.{ltb}
 use Rattle.alphabet.specs.Lists.{find}
 use Rattle.alphabet.specs.Bytes.{ascii, byteOf, printable, hexDigit, isNull}
 
--- "`\F\` field, `\S\` component, `\T\` subcomponent, `\R\` repetition, `\E\` escape": the letters in the delimiters' order
+-- "`\F\` field, `\S\` component, `\T\` subcomponent, `\R\` repetition, `\E\` escape": the letters in the delimiters'
+-- order
 abbrev pub letters : List ℕ
 letters = ascii "FSRET"
 
@@ -16,7 +17,8 @@ letters = ascii "FSRET"
 abbrev pub escapeOf : List ℕ → ℕ
 escapeOf ds = getD ds 3 0
 
--- "Escaping writes the five delimiters by letter, every byte that isn't allowed and CR as its own `\Xhh\` with capital digits, the rest plainly."
+-- "Escaping writes the five delimiters by letter, every byte that isn't allowed and CR as its own `\Xhh\` with capital
+-- digits, the rest plainly."
 unfoldable pub escapeByte : List ℕ → ℕ → List ℕ
 escapeByte ds b =
     cond (ltb (find b ds) 5)

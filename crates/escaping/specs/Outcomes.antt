@@ -1,4 +1,5 @@
--- What comes of writing or reading a text, by document 01, 'Numbers given back', and what an outcome makes of the answer and of the buffer.
+-- What comes of writing or reading a text, by document 01, 'Numbers given back', and what an outcome makes of the
+-- answer and of the buffer.
 use Prim.Native.Nat.{ℕ}
 use mathlib.Core.List.{List}
 use mathlib.Core.Bool.{cond}

@@ -1,5 +1,5 @@
-// How many bytes a text is written as, told of many bytes at once: the sum is free of branches, so that the compiler takes many
-// bytes in one step.
+// How many bytes a text is written as, told of many bytes at once: the sum is free of branches, so that the compiler
+// takes many bytes in one step.
 use alphabet::Delimiters;
 ghost use mathlib.Core.Path.{_≡_};
 ghost use Prim.Native.Nat.{_≤_};

@@ -1,5 +1,5 @@
-// What one byte of a text is written as: a delimiter by its letter, a byte that may not stand plainly by its hex digits,
-// and any other byte plainly.
+// What one byte of a text is written as: a delimiter by its letter, a byte that may not stand plainly by its hex
+// digits, and any other byte plainly.
 use alphabet::Delimiters;
 ghost use mathlib.Core.Path.{_≡_};
 ghost use Prim.Native.Nat.{_+_, _≤_};

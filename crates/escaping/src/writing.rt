@@ -15,8 +15,8 @@ ghost use Rattle.escaping.specs.Escape.{escapeBytes};
 ghost use Rattle.alphabet.specs.Filling.{over};
 ghost use Rattle.escaping.specs.Outcomes.{roomFor, escaping, answer, filled};
 
-// The length of a text as it is written, block by block, where that is at most `room`. It is counted against the room, since
-// five times a length need not be a usize.
+// The length of a text as it is written, block by block, where that is at most `room`. It is counted against the room,
+// since five times a length need not be a usize.
 fn escaped_length(delimiters: Delimiters, text: &[u8], room: usize) -> Room
     ensures { λ r. ⌜ r ≡ roomFor room (length (escapeBytes (delimiters .bytes) (now (text .entry)))) ⌝ }
 {
@@ -40,7 +40,8 @@ fn escaped_length(delimiters: Delimiters, text: &[u8], room: usize) -> Room
 // Writes a text to the front of the buffer: one byte, and what stands plainly behind it, at each turn.
 fn write_escaped(delimiters: Delimiters, text: &[u8], buffer: &mut [u8])
     requires { ⌜ length (escapeBytes (delimiters .bytes) (now text)) ≤ length (now buffer) ⌝ }
-    ensures { λ _. ⌜ now (buffer .exit) ≡ over (escapeBytes (delimiters .bytes) (now (text .entry))) (now (buffer .entry)) ⌝ }
+    ensures { λ _. ⌜ now (buffer .exit)
+        ≡ over (escapeBytes (delimiters .bytes) (now (text .entry))) (now (buffer .entry)) ⌝ }
 {
     let mut place = 0;
     let mut i = 0;
@@ -56,7 +57,9 @@ fn write_escaped(delimiters: Delimiters, text: &[u8], buffer: &mut [u8])
 // Writes a text to the front of the buffer.
 pub fn escape(delimiters: Delimiters, text: &[u8], buffer: &mut [u8]) -> Answer
     ensures { λ r. ⌜ r ≡ answer (escaping (delimiters .bytes) (now (text .entry)) (length (now (buffer .entry)))) ⌝ }
-    ensures { λ _. ⌜ now (buffer .exit) ≡ filled (escaping (delimiters .bytes) (now (text .entry)) (length (now (buffer .entry)))) (now (buffer .entry)) ⌝ }
+    ensures { λ _. ⌜ now (buffer .exit)
+        ≡ filled (escaping (delimiters .bytes) (now (text .entry)) (length (now (buffer .entry))))
+        (now (buffer .entry)) ⌝ }
 {
     let wrong = alphabet::first_wrong_delimiter(delimiters);
     if wrong < 5 {

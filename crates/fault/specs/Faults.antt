@@ -1,5 +1,5 @@
--- What a judge answers, by document 01, 'Numbers given back': number and place; "segment, field and repetition for 31 to 37 in the field judge"; and
--- for 21 and 22 what could have stood there.
+-- What a judge answers, by document 01, 'Numbers given back': number and place; "segment, field and repetition for 31
+-- to 37 in the field judge"; and for 21 and 22 what could have stood there.
 use Prim.Native.Nat.{ℕ, _-_}
 use mathlib.Core.Bool.{Bool, false}
 use mathlib.Core.List.{List, [], _++_}
@@ -12,7 +12,8 @@ use Rattle.fault.specs.declared.FaultRecord.{FaultRecord}
 abbrev pub nameList : List ℕ → Names
 nameList l = record { list = l ++ replicate (64 - length l) 0; count = length l }
 
--- a fault of the structure: whether the message could have ended at the place, and the names that could have stood there
+-- a fault of the structure: whether the message could have ended at the place, and the names that could have stood
+-- there
 abbrev pub atPlace : Refusal → ℕ → Bool → List ℕ → FaultRecord
 atPlace kind place ends list = record { kind = kind; place = place; field = 0; repetition = 0; «could_end» = ends; names = nameList list }
 

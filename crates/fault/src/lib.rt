@@ -1,5 +1,5 @@
-// The fault record that all judges share: what is wrong with a message and where, or that nothing is. The structure judge and the field
-// judge build it alike, and the verdict hands on the first.
+// The fault record that all judges share: what is wrong with a message and where, or that nothing is. The structure
+// judge and the field judge build it alike, and the verdict hands on the first.
 use alphabet::Refusal;
 ghost use mathlib.Core.Path.{_≡_};
 ghost use mathlib.Core.List.{[]};
@@ -11,9 +11,10 @@ pub struct Names {
     pub count: usize,
 }
 
-// Accepted, or the first fault. The place is a byte's offset for a reading fault and a segment's number for the others; field and
-// repetition are those of a field's fault. For a segment that cannot stand where it stands and for a message that ended early:
-// whether it could have ended there, and the names that could have stood there. What a fault does not use is 0, no and no names.
+// Accepted, or the first fault. The place is a byte's offset for a reading fault and a segment's number for the others;
+// field and repetition are those of a field's fault. For a segment that cannot stand where it stands and for a message
+// that ended early: whether it could have ended there, and the names that could have stood there. What a fault does not
+// use is 0, no and no names.
 pub struct FaultRecord {
     pub kind: Refusal,
     pub place: usize,

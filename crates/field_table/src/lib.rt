@@ -1,5 +1,5 @@
-// The table of document 01, 'Fields judged', as data: its rows, and the lists of values that they name. The judge is handed
-// the rows, once for a message, as a value, and knows nothing of what stands in them.
+// The table of document 01, 'Fields judged', as data: its rows, and the lists of values that they name. The judge is
+// handed the rows, once for a message, as a value, and knows nothing of what stands in them.
 ghost use mathlib.Core.Path.{_≡_};
 ghost use Rattle.alphabet.specs.Parts.{split};
 ghost use Rattle.field_table.specs.Table.{valuesOf, member, rows};
@@ -27,8 +27,8 @@ pub enum Kind {
     AsField(usize),
 }
 
-// The segment's name is its three bytes as one number, the first highest. Of each repetition a row judges a component, counted
-// from 1, or the whole, which is 0.
+// The segment's name is its three bytes as one number, the first highest. Of each repetition a row judges a component,
+// counted from 1, or the whole, which is 0.
 pub struct Row {
     pub segment: u32,
     pub field: usize,

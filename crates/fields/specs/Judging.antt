@@ -1,5 +1,6 @@
--- The order of judging, by document 01, 'Fields judged': "Order: segments as sent, rows as above". "The first fault found in this order ends the judging."
--- Any bytes are judged, and no fault of reading is looked for: whoever asks has read the message.
+-- The order of judging, by document 01, 'Fields judged': "Order: segments as sent, rows as above". "The first fault
+-- found in this order ends the judging." Any bytes are judged, and no fault of reading is looked for: whoever asks has
+-- read the message.
 use Prim.Native.Nat.{ℕ, _+_}
 use mathlib.Core.List.{List, [], _∷_, map}
 use mathlib.Core.Bool.{cond}

@@ -1,4 +1,5 @@
--- What the contracts of private functions say of a walk along one segment's bytes. Nobody has to believe these: the judge's own contract names none of them.
+-- What the contracts of private functions say of a walk along one segment's bytes. Nobody has to believe these: the
+-- judge's own contract names none of them.
 use Prim.Native.Nat.{ℕ, _+_, _-_, _^_, _≤_, _<_}
 use mathlib.Core.Path.{_≡_}
 use mathlib.Core.List.{List, []}
@@ -16,7 +17,8 @@ use Rattle.fields.specs.declared.walk.Cursor.{Cursor}
 use Rattle.fields.specs.declared.walk.Sought.{Sought}
 use Rattle.fields.specs.declared.walk.Turn.{Turn}
 
--- the bytes of a field, none where it is absent: MSH has its fields counted from the separator, and its first two are never split
+-- the bytes of a field, none where it is absent: MSH has its fields counted from the separator, and its first two are
+-- never split
 abbrev pub fieldBytes : List ℕ → List ℕ → ℕ → ℕ → List ℕ
 fieldBytes ds s number field =
     cond (eqb number 0)

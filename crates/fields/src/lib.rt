@@ -34,8 +34,8 @@ fn name_of(number: usize, segment: &[u8]) -> u32
     reading::name_of(segment)
 }
 
-// The first fault of the fields, by any rows. Segments are taken as they were sent, rows as they are handed in, repetitions in
-// turn, and the first fault leaves all three loops.
+// The first fault of the fields, by any rows. Segments are taken as they were sent, rows as they are handed in,
+// repetitions in turn, and the first fault leaves all three loops.
 pub fn judge_by(message: &[u8], rows: [Row; COUNT]) -> FaultRecord
     ensures { λ r. ⌜ r ≡ faultAnswer (judging rows (now (message .entry))) ⌝ }
 {

@@ -1,5 +1,6 @@
-// A walk along the bytes of one segment: a cursor goes forward from field to field, so that the rows of a segment, whose fields
-// rise, pass over its bytes once. A row that asks for a field behind the cursor is answered from the segment's start.
+// A walk along the bytes of one segment: a cursor goes forward from field to field, so that the rows of a segment,
+// whose fields rise, pass over its bytes once. A row that asks for a field behind the cursor is answered from the
+// segment's start.
 use alphabet::Check;
 use alphabet::Delimiters;
 use field_table::Kind;
@@ -30,9 +31,9 @@ pub struct Sought {
     pub end: usize,
 }
 
-// A row of a segment as it is judged: what the last check found, first the row's opening; where those of its repetitions stand
-// that are left, from `start` up to and without `end`, or none where `start` is past `end`; the number of the first of them; and
-// what they are to be judged by.
+// A row of a segment as it is judged: what the last check found, first the row's opening; where those of its
+// repetitions stand that are left, from `start` up to and without `end`, or none where `start` is past `end`; the
+// number of the first of them; and what they are to be judged by.
 pub struct Turn {
     pub cursor: Cursor,
     pub found: Check,
@@ -56,7 +57,8 @@ fn rewound(segment: &[u8], separator: u8, cursor: Cursor, wanted: usize) -> Curs
 
 // The cursor behind a part that was found, from which the next is sought; at the part itself where it is the last.
 fn behind(segment: &[u8], separator: u8, cursor: Cursor, end: usize) -> Cursor
-    requires { ⌜ Stands separator (now segment) cursor × (end ≡ cursor .place + find separator (drop (cursor .place) (now segment))) ⌝ }
+    requires { ⌜ Stands separator (now segment) cursor
+        × (end ≡ cursor .place + find separator (drop (cursor .place) (now segment))) ⌝ }
     ensures { λ r. ⌜ Stands separator (now (segment .entry)) r ⌝ }
 {
     if end < segment.len() {
@@ -71,7 +73,8 @@ fn behind(segment: &[u8], separator: u8, cursor: Cursor, end: usize) -> Cursor
 // The part of an index, from 0; where there is none, no bytes.
 fn seek(segment: &[u8], separator: u8, cursor: Cursor, wanted: usize) -> Sought
     requires { ⌜ Stands separator (now segment) cursor ⌝ }
-    ensures { λ r. ⌜ Finds separator (now (segment .entry)) (getD (split separator (now (segment .entry))) wanted []) r ⌝ }
+    ensures { λ r. ⌜ Finds separator (now (segment .entry))
+        (getD (split separator (now (segment .entry))) wanted []) r ⌝ }
 {
     let from = rewound(segment, separator, cursor, wanted);
     let mut index = from.index;
@@ -110,7 +113,8 @@ fn field_in(
     cursor: Cursor,
 ) -> Sought
     requires { ⌜ Stands (getD (delimiters .bytes) 0 0) (now segment) cursor ⌝ }
-    ensures { λ r. ⌜ Finds (getD (delimiters .bytes) 0 0) (now (segment .entry)) (fieldBytes (delimiters .bytes) (now (segment .entry)) number field) r ⌝ }
+    ensures { λ r. ⌜ Finds (getD (delimiters .bytes) 0 0) (now (segment .entry))
+        (fieldBytes (delimiters .bytes) (now (segment .entry)) number field) r ⌝ }
 {
     let bytes = delimiters.bytes;
     let mut wanted = field;

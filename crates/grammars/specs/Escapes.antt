@@ -1,5 +1,6 @@
--- The escape table of document 01, 'Text', as its rows: what may stand between two escape delimiters, and the bytes that it says. A second saying of `known` and
--- `meaning` of crates/text, without a search in a list of letters. And how a text is written, as rules: a second saying of `escape` there.
+-- The escape table of document 01, 'Text', as its rows: what may stand between two escape delimiters, and the bytes
+-- that it says. A second saying of `known` and `meaning` of crates/text, without a search in a list of letters. And how
+-- a text is written, as rules: a second saying of `escape` there.
 use Prim.Native.Nat.{ℕ, _+_, _*_, _/_, _%_, _<_}
 use mathlib.Core.Path.{_≡_}
 use mathlib.Core.List.{List, [], _∷_, _++_}
@@ -8,8 +9,8 @@ use lib.ListN.{getD}
 use Rattle.alphabet.specs.Bytes.{carriageReturn}
 use Rattle.grammars.specs.Tables.{marked, allowedBytes, hexDigits, hexNumber}
 
--- "`\F\` field, `\S\` component, `\T\` subcomponent, `\R\` repetition, `\E\` escape": each letter beside the byte of the header that it means. A letter is its
--- ASCII byte: F 70, S 83, T 84, R 82, E 69
+-- "`\F\` field, `\S\` component, `\T\` subcomponent, `\R\` repetition, `\E\` escape": each letter beside the byte of
+-- the header that it means. A letter is its ASCII byte: F 70, S 83, T 84, R 82, E 69
 pub data Letter (field component repetition escape subcomponent : ℕ) : ℕ → ℕ → Type 0 where
   F : Letter field component repetition escape subcomponent 70 field
   S : Letter field component repetition escape subcomponent 83 component
@@ -35,8 +36,8 @@ NoDelimiter field component repetition escape subcomponent b = (l : ℕ) → Let
 abbrev pub ownHex : ℕ → ℕ → List ℕ
 ownHex escape b = escape ∷ 88 ∷ getD hexDigits (b / 16) 0 ∷ getD hexDigits (b % 16) 0 ∷ escape ∷ []
 
--- "Escaping writes the five delimiters by letter, every byte that isn't allowed and CR as its own `\Xhh\` with capital digits, the rest plainly.": a byte and
--- what it is written as
+-- "Escaping writes the five delimiters by letter, every byte that isn't allowed and CR as its own `\Xhh\` with capital
+-- digits, the rest plainly.": a byte and what it is written as
 pub data WritesByte (field component repetition escape subcomponent : ℕ) : ℕ → List ℕ → Type 0 where
   by-letter : {l b : ℕ} → Letter field component repetition escape subcomponent l b → WritesByte field component repetition escape subcomponent b (escape ∷ l ∷ escape ∷ [])
   not-allowed : (b : ℕ) → NoDelimiter field component repetition escape subcomponent b → marked allowedBytes b ≡ false
@@ -51,7 +52,8 @@ pub data WritesBytes (field component repetition escape subcomponent : ℕ) : Li
   next : {b : ℕ} {t w v : List ℕ} → WritesByte field component repetition escape subcomponent b w → WritesBytes field component repetition escape subcomponent t v
       → WritesBytes field component repetition escape subcomponent (b ∷ t) (w ++ v)
 
--- "House: text that is exactly two quotes is written `\X2222\`, so that it isn't null."; a quote is 34, the digit 2 is 50
+-- "House: text that is exactly two quotes is written `\X2222\`, so that it isn't null."; a quote is 34, the digit 2 is
+-- 50
 pub data Writes (field component repetition escape subcomponent : ℕ) : List ℕ → List ℕ → Type 0 where
   two-quotes : Writes field component repetition escape subcomponent (34 ∷ 34 ∷ []) (escape ∷ 88 ∷ 50 ∷ 50 ∷ 50 ∷ 50 ∷ escape ∷ [])
   other : {t w : List ℕ} → (t ≡ 34 ∷ 34 ∷ [] → ⊥) → WritesBytes field component repetition escape subcomponent t w → Writes field component repetition escape subcomponent t w

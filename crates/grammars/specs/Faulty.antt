@@ -1,5 +1,5 @@
--- Which fault of reading a message has, and where it stands, by document 01, 'Numbers given back': each number with its own place, and what was sound before it.
--- "Reading checks 1 to 5 in order, then the segments."
+-- Which fault of reading a message has, and where it stands, by document 01, 'Numbers given back': each number with its
+-- own place, and what was sound before it. "Reading checks 1 to 5 in order, then the segments."
 use Prim.Native.Nat.{ℕ, _-_, _≤_, _<_}
 use mathlib.Core.Path.{_≡_}
 use mathlib.Core.Logic.{_⊎_}

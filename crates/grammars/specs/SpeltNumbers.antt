@@ -1,5 +1,5 @@
--- NM and SI as grammars, by document 01, 'Numbers and times', so that the readers are not their own meaning: what spells a number, rule by rule, with the
--- number that it spells. `Says k l n`: the k digits l say n.
+-- NM and SI as grammars, by document 01, 'Numbers and times', so that the readers are not their own meaning: what
+-- spells a number, rule by rule, with the number that it spells. `Says k l n`: the k digits l say n.
 use Prim.Native.Nat.{ℕ, suc, _+_, _≤_, _<_}
 use mathlib.Core.List.{List, _∷_, _++_}
 use lib.IntN.{ℤ, pos, negℤ}
@@ -7,8 +7,8 @@ use Rattle.alphabet.specs.declared.answers.Refusal.the-variants.{None, BreaksFo
 use Rattle.numbers.specs.declared.numerals.ReadNumber.{ReadNumber}
 use Rattle.grammars.specs.Spelt.{Says}
 
--- "digits, optionally a point and digits; a digit on each side of a point": `Unsigned l n decimals digits`. Both sides together say the number, and those
--- behind the point are the decimals. The point is byte 46
+-- "digits, optionally a point and digits; a digit on each side of a point": `Unsigned l n decimals digits`. Both sides
+-- together say the number, and those behind the point are the decimals. The point is byte 46
 pub data Unsigned : List ℕ → ℕ → ℕ → ℕ → Type 0 where
   unpointed : {k n : ℕ} {l : List ℕ} → Says (suc k) l n → Unsigned l n 0 (suc k)
   pointed : {j k a b n : ℕ} {w f : List ℕ} → Says (suc j) w a → Says (suc k) f b → Says (suc j + suc k) (w ++ f) n → Unsigned (w ++ (46 ∷ f)) n (suc k) (suc j + suc k)

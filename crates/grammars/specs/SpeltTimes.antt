@@ -1,5 +1,6 @@
--- What a DT, a TM and a TS are and which time each spells, as a grammar by document 01, 'Numbers and times', so that the readers of times are not their own meaning:
--- each rule puts bytes together from its pieces, and nothing here looks for a place in them.
+-- What a DT, a TM and a TS are and which time each spells, as a grammar by document 01, 'Numbers and times', so that
+-- the readers of times are not their own meaning: each rule puts bytes together from its pieces, and nothing here looks
+-- for a place in them.
 use Prim.Native.Nat.{ℕ, _*_, _≤_}
 use mathlib.Core.Path.{_≡_}
 use mathlib.Core.List.{List, [], _∷_, _++_}

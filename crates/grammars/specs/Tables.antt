@@ -1,5 +1,5 @@
--- The bytes of document 01 as tables that a reader compares with the document at sight: a second saying of the tests in crates/alphabet and crates/reading,
--- to which `TableLaws` holds each of the 256 bytes by computing.
+-- The bytes of document 01 as tables that a reader compares with the document at sight: a second saying of the tests in
+-- crates/alphabet and crates/reading, to which `TableLaws` holds each of the 256 bytes by computing.
 use Prim.Native.Nat.{ℕ, _/_, _%_, min}
 use Prim.Native.String.{String}
 use mathlib.Core.List.{List, [], _∷_, _++_}

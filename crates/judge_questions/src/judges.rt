@@ -49,8 +49,8 @@ fn put_judged(judge: Judge, message: &[u8], answer: &mut [u8]) -> usize
     }
 }
 
-// Puts the answer to a line with one of these verbs into `answer`, and returns its length. `message` is lent for the bytes
-// that the line says. A line with another word behind the message, or with none, is no question.
+// Puts the answer to a line with one of these verbs into `answer`, and returns its length. `message` is lent for the
+// bytes that the line says. A line with another word behind the message, or with none, is no question.
 pub fn answer(judge: Judge, line: &[u8], message: &mut [u8], answer: &mut [u8]) -> usize
     requires { ⌜ Roomy (now answer) ⌝ }
     ensures { λ r. ⌜ r ≤ length (now (answer .exit)) ⌝ }

@@ -27,7 +27,8 @@ fn put_reading(message: &[u8], answer: &mut [u8]) -> usize
 pub fn answer_read(line: &[u8], message: &mut [u8], answer: &mut [u8]) -> usize
     requires { ⌜ Roomy (now answer) ⌝ }
     ensures { λ r. ⌜ Counts r (now (answer .exit)) ⌝ }
-    ensures { λ r. ⌜ ReadAnswer (fitting (length (now (message .entry))) (readAsked (Words·words (now (line .entry))))) (take r (now (answer .exit))) ⌝ }
+    ensures { λ r. ⌜ ReadAnswer (fitting (length (now (message .entry))) (readAsked (Words·words (now (line .entry)))))
+        (take r (now (answer .exit))) ⌝ }
 {
     if words::count(line) != 2 {
         return answers::no_question(answer);

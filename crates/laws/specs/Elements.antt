@@ -1,5 +1,5 @@
--- What document 01, 'Elements', says of an address and of the parts of a segment, a second time: by rules and on lists of parts, so that the definitions
--- that look for an element's place are not their own meaning.
+-- What document 01, 'Elements', says of an address and of the parts of a segment, a second time: by rules and on lists
+-- of parts, so that the definitions that look for an element's place are not their own meaning.
 use mathlib.Core.Path.{_≡_}
 use mathlib.Core.Bool.{cond}
 use mathlib.Core.List.{List, [], _∷_}
@@ -17,7 +17,8 @@ use Rattle.element.specs.declared.address.Address.{Address}
 abbrev pub address : ℕ → ℕ → ℕ → ℕ → ℕ → Address
 address s f r c u = record { segment = s; field = f; repetition = r; component = c; subcomponent = u }
 
--- "An element is asked for by segment (from 0), field (from 1), repetition, component, subcomponent (from 1; 0 means the whole, and after a 0 only 0 may stand)."
+-- "An element is asked for by segment (from 0), field (from 1), repetition, component, subcomponent (from 1; 0 means
+-- the whole, and after a 0 only 0 may stand)."
 pub data Asks : Address → Type 0 where
   whole-field : (s f : ℕ) → 1 ≤ f → Asks (address s f 0 0 0)
   whole-repetition : (s f r : ℕ) → 1 ≤ f → 1 ≤ r → Asks (address s f r 0 0)
@@ -33,7 +34,8 @@ level sep number bytes = cond (eqb number 0) bytes (getD (split sep bytes) (numb
 abbrev pub segmentBytes : List ℕ → Address → List ℕ
 segmentBytes m a = getD (segments m) (a .segment) []
 
--- which part of its segment a field is, from 0: part 0 is the name, and MSH's fields are counted from the separator itself
+-- which part of its segment a field is, from 0: part 0 is the name, and MSH's fields are counted from the separator
+-- itself
 abbrev pub fieldPlace : Address → ℕ
 fieldPlace a = cond (eqb (a .segment) 0) (a .field - 1) (a .field)
 
@@ -57,7 +59,8 @@ unfoldable pub spanned : List (List ℕ) → ℕ
 spanned [] = 0
 spanned (p ∷ ps) = length p + 1 + spanned ps
 
--- "splits the part above it at its own separator": before part k, from 0, stand the parts of lower number, each with its separator
+-- "splits the part above it at its own separator": before part k, from 0, stand the parts of lower number, each with
+-- its separator
 abbrev pub before : ℕ → ℕ → List ℕ → ℕ
 before sep k bytes = spanned (take k (split sep bytes))
 
@@ -84,7 +87,8 @@ startOf m a = componentStart m a + beforeLevel (getD (delimitersOf m) 4 0) (a .s
 
 -- ---- past the last part
 
--- "absent, past the last part": some level has fewer parts than the number asked for. "An absent [part splits] into none": below it all is absent
+-- "absent, past the last part": some level has fewer parts than the number asked for. "An absent [part splits] into
+-- none": below it all is absent
 pub data Past (m : List ℕ) (a : Address) : Type 0 where
   no-field : length (split (fieldSeparator m) (segmentBytes m a)) ≤ fieldPlace a → Past m a
   no-repetition : length (split (getD (delimitersOf m) 2 0) (fieldBytes m a)) < a .repetition → Past m a

@@ -1,4 +1,5 @@
--- Which numbers each entry point can give back, by document 01, 'Numbers given back'. 0 is given where nothing is refused.
+-- Which numbers each entry point can give back, by document 01, 'Numbers given back'. 0 is given where nothing is
+-- refused.
 use mathlib.Core.List.{List, [], _∷_}
 use Prim.Native.Nat.{ℕ}
 

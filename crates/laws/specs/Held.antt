@@ -1,5 +1,5 @@
--- What the field judge looks at, by document 01, 'Fields judged', said by the elements that a lookup finds, so that the judge's own walk along a message is
--- not its meaning.
+-- What the field judge looks at, by document 01, 'Fields judged', said by the elements that a lookup finds, so that the
+-- judge's own walk along a message is not its meaning.
 use mathlib.Core.Path.{_≡_}
 use mathlib.Core.Bool.{true}
 use mathlib.Core.List.{List, [], _∷_, map}

@@ -1,5 +1,6 @@
--- What each state says of the bytes of an element that is there, by document 01, 'Elements', without the tests that tell the states apart and without
--- their order. `ds` are the five delimiters as the message has them: field, component, repetition, escape, subcomponent.
+-- What each state says of the bytes of an element that is there, by document 01, 'Elements', without the tests that
+-- tell the states apart and without their order. `ds` are the five delimiters as the message has them: field,
+-- component, repetition, escape, subcomponent.
 use mathlib.Core.Path.{_≡_}
 use mathlib.Core.List.{List, [], _∷_}
 use Prim.Native.Nat.{ℕ, _<_}

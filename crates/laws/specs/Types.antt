@@ -1,5 +1,5 @@
--- Which structure is listed for which type, by document 01, 'Structures': "The type is components 1 and 2 of MSH-9, repetition 1, compared as raw bytes". A second
--- saying of the choice that the judge makes, as its table.
+-- Which structure is listed for which type, by document 01, 'Structures': "The type is components 1 and 2 of MSH-9,
+-- repetition 1, compared as raw bytes". A second saying of the choice that the judge makes, as its table.
 use Prim.Native.Nat.{ℕ}
 use mathlib.Core.List.{List}
 use Rattle.alphabet.specs.Bytes.{ascii}

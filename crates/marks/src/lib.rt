@@ -1,5 +1,6 @@
-// A segment is drawn on a line, and on the next one stand marks under the bytes that are meant. A long segment is cut to a
-// window around the marks, and dots stand where it goes on. No bytes are marked by one mark, at the place where they would be.
+// A segment is drawn on a line, and on the next one stand marks under the bytes that are meant. A long segment is cut
+// to a window around the marks, and dots stand where it goes on. No bytes are marked by one mark, at the place where
+// they would be.
 ghost use Prim.Native.Nat.{_≤_};
 use terminal::Output;
 

@@ -1,4 +1,5 @@
-// The address of an element as people write it: PID-5, PID-5.1, OBX-5[2].1. A number that is 0 is the whole, and is left out.
+// The address of an element as people write it: PID-5, PID-5.1, OBX-5[2].1. A number that is 0 is the whole, and is
+// left out.
 use crate::parts;
 use element::Address;
 use terminal::Output;

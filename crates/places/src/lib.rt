@@ -1,5 +1,5 @@
-// Where the parts of a message stand, and the address by which people name them. Places are looked for without a proof that a
-// message was read: whoever draws or shows has any bytes.
+// Where the parts of a message stand, and the address by which people name them. Places are looked for without a proof
+// that a message was read: whoever draws or shows has any bytes.
 mod addresses;
 mod parts;
 

@@ -1,5 +1,5 @@
-// Where the parts of bytes begin and end, for walks that pass each byte once, and the piece of bytes between two places. A piece
-// is had of any two numbers, so that whoever draws owes no proof that they are places.
+// Where the parts of bytes begin and end, for walks that pass each byte once, and the piece of bytes between two
+// places. A piece is had of any two numbers, so that whoever draws owes no proof that they are places.
 ghost use Prim.Native.Nat.{_≤_};
 ghost use mathlib.Core.Path.{_≡_};
 ghost use lib.ListN.{length};

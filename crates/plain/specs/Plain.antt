@@ -1,5 +1,5 @@
--- Which bytes may not stand plainly, by document 01, 'Text': "Escaping writes the five delimiters by letter, every byte that isn't allowed and CR as
--- its own `\Xhh\` with capital digits, the rest plainly." `ds` are the five delimiters.
+-- Which bytes may not stand plainly, by document 01, 'Text': "Escaping writes the five delimiters by letter, every byte
+-- that isn't allowed and CR as its own `\Xhh\` with capital digits, the rest plainly." `ds` are the five delimiters.
 use Prim.Native.Nat.{ℕ}
 use mathlib.Core.List.{List}
 use mathlib.Core.Bool.{Bool, not, _||_}

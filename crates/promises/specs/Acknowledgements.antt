@@ -1,4 +1,5 @@
--- What demand 2 says of an acknowledgement: looked up in the bytes w that were written, and in the message m that was sent. And when demand 1 has one refused.
+-- What demand 2 says of an acknowledgement: looked up in the bytes w that were written, and in the message m that was
+-- sent. And when demand 1 has one refused.
 use Prim.Native.Nat.{ℕ, _≤_, _<_}
 use mathlib.Core.Path.{_≡_}
 use mathlib.Core.Logic.{_↔_}
@@ -60,7 +61,8 @@ pub record Carries (m time id w : List ℕ) : Type 0 where
   -- "7 the caller's time; 8 empty"
   pub callers-time : rawBytes w (inHeader 7) ≡ time
   pub no-security : rawBytes w (inHeader 8) ≡ []
-  -- "9 `ACK`, and a component separator and raw component 2 of the sender's MSH-9, repetition 1, after it where that is present"
+  -- "9 `ACK`, and a component separator and raw component 2 of the sender's MSH-9, repetition 1, after it where that is
+  -- present"
   pub with-event : stateOf (delimitersOf m) (rawBytes m (typeAddress 2)) ≡ Present
       → rawBytes w (inHeader 9) ≡ ascii "ACK" ++ (getD (delimitersOf m) 1 0 ∷ rawBytes m (typeAddress 2))
   pub without-event : (stateOf (delimitersOf m) (rawBytes m (typeAddress 2)) ≡ Present → ⊥) → rawBytes w (inHeader 9) ≡ ascii "ACK"
@@ -92,7 +94,8 @@ pub data Unacknowledgeable (m : List ℕ) : Type 0 where
   no-control-id : (stateOf (delimitersOf (header m)) (rawBytes (header m) (inHeader 10)) ≡ Present → ⊥) → Unacknowledgeable m
   long-control-id : idLimit < length (rawBytes (header m) (inHeader 10)) → Unacknowledgeable m
 
--- "Acknowledging: 16, 17, 9, 10.": the first three, which are refused whatever the buffer, each where those before it are not; 16: "caller's time isn't TS"
+-- "Acknowledging: 16, 17, 9, 10.": the first three, which are refused whatever the buffer, each where those before it
+-- are not; 16: "caller's time isn't TS"
 pub data RefusedBy (m time id : List ℕ) : Refusal → Type 0 where
   bad-time : ((t : Time) → Ts time t → ⊥) → RefusedBy m time id CallersTime
   bad-id : (t : Time) → Ts time t → (GoodId id → ⊥) → RefusedBy m time id CallersId

@@ -1,4 +1,5 @@
--- What demand 2 says of text: "Text of any bytes, escaped and then unescaped under the same permitted delimiters, comes back the same where both buffers have room."
+-- What demand 2 says of text: "Text of any bytes, escaped and then unescaped under the same permitted delimiters, comes
+-- back the same where both buffers have room."
 use Prim.Native.Nat.{ℕ, _≤_}
 use mathlib.Core.Path.{_≡_}
 use mathlib.Core.List.{List}
@@ -14,8 +15,9 @@ use Rattle.escaping.specs.Outcomes.{escaping, answer, filled}
 abbrev pub left : List ℕ → List ℕ → List ℕ → List ℕ
 left ds t d = take (answer (escaping ds t (length d)) .length) (filled (escaping ds t (length d)) d)
 
--- where the delimiters are permitted, and the first buffer has room for the escaped text and the second, e, for the text: the answer r is the text's
--- length, and the second buffer, afterwards x, has the text at its front and is otherwise as it was
+-- where the delimiters are permitted, and the first buffer has room for the escaped text and the second, e, for the
+-- text: the answer r is the text's length, and the second buffer, afterwards x, has the text at its front and is
+-- otherwise as it was
 abbrev pub ComesBack : List ℕ → List ℕ → ℕ → List ℕ → Answer → List ℕ → Type 0
 ComesBack ds t room e r x =
     firstWrongDelimiter ds ≡ 5 → length (escape ds t) ≤ room → length t ≤ length e → (r ≡ record { kind = None; place = 0; length = length t }) × (x ≡ over t e)

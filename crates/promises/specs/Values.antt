@@ -1,4 +1,5 @@
--- What demand 2 says of the number and the time of an element: "its number or its time"; "an element not present gives its state alone".
+-- What demand 2 says of the number and the time of an element: "its number or its time"; "an element not present gives
+-- its state alone".
 use lib.IntN.{pos}
 use Rattle.calendar.specs.Calendar.{noTime}
 use Rattle.element.specs.declared.Found.{Found}

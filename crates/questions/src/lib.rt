@@ -1,6 +1,6 @@
-// The questions that the program knows, by their verbs. A family of verbs has a library of its own, which counts a line's words,
-// decodes them and puts the answer; here stands which family a verb is of. A line with no verb is no question. The buffers are
-// lent by the program, which has room in them: so it is required.
+// The questions that the program knows, by their verbs. A family of verbs has a library of its own, which counts a
+// line's words, decodes them and puts the answer; here stands which family a verb is of. A line with no verb is no
+// question. The buffers are lent by the program, which has room in them: so it is required.
 ghost use mathlib.Core.Path.{_≡_};
 ghost use mathlib.Core.List.{[]};
 ghost use lib.ListN.{length, take, getD};
@@ -54,7 +54,8 @@ fn family_of(verb: &[u8]) -> Family
 pub fn answer(line: &[u8], said: &mut [u8], answer: &mut [u8]) -> usize
     requires { ⌜ Roomy (now answer) ⌝ }
     ensures { λ r. ⌜ Counts r (now (answer .exit)) ⌝ }
-    ensures { λ r. ⌜ ((Verb (getD (Words·words (now (line .entry))) 0 []) → ⊥) → take r (now (answer .exit)) ≡ noQuestion) ⌝ }
+    ensures { λ r. ⌜ ((Verb (getD (Words·words (now (line .entry))) 0 []) → ⊥) → take r (now (answer .exit))
+        ≡ noQuestion) ⌝ }
 {
     let family = family_of(words::word(line, 0));
     match family {

@@ -40,7 +40,8 @@ opening m = inOrder (lengthCheck m ∷ headerCheck m ∷ delimiterCheck m ∷ by
 abbrev pub endCheck : List ℕ → Check
 endCheck m = failsIf (not (eqb (getD m (length m - 1) 0) carriageReturn)) NotEnded (length m - 1)
 
--- "8 if it is the 257th, 6 bad name, 7 a second MSH", of the segment of number k, from 0, whose first byte stands at `at`
+-- "8 if it is the 257th, 6 bad name, 7 a second MSH", of the segment of number k, from 0, whose first byte stands at
+-- `at`
 abbrev pub segmentCheck : ℕ → ℕ → ℕ → List ℕ → Check
 segmentCheck sep k at s =
     inOrder

@@ -45,7 +45,8 @@ named sep s =
 abbrev pub isHeader : List ℕ → Bool
 isHeader s = eqb (getD s 0 0) (byteOf "M") && (eqb (getD s 1 0) (byteOf "S") && eqb (getD s 2 0) (byteOf "H"))
 
--- "A segment's name is three bytes": as one number, in base 256, so that a list of names is a list of numbers; a byte that is not there counts as 0
+-- "A segment's name is three bytes": as one number, in base 256, so that a list of names is a list of numbers; a byte
+-- that is not there counts as 0
 unfoldable pub nameOf : List ℕ → ℕ
 nameOf s = (getD s 0 0 * 256 + getD s 1 0) * 256 + getD s 2 0
 

@@ -23,8 +23,8 @@ pub fn delimiters_of(message: &[u8]) -> Delimiters
     }
 }
 
-// The place of the CR that ends the segment which begins at `start`, or the message's end where there is none; from past the
-// end it is `start` itself. A walk over the segments goes on behind it.
+// The place of the CR that ends the segment which begins at `start`, or the message's end where there is none; from
+// past the end it is `start` itself. A walk over the segments goes on behind it.
 pub fn segment_end(message: &[u8], start: usize) -> usize
     ensures { λ r. ⌜ r ≡ start + find carriageReturn (drop start (now (message .entry))) ⌝ }
 {
@@ -34,7 +34,8 @@ pub fn segment_end(message: &[u8], start: usize) -> usize
     start + alphabet::find_far(&message[start..], alphabet::CARRIAGE_RETURN)
 }
 
-// Where the part of the given index, from 0, stands at CR: as `alphabet::nth_part` tells it, but each CR is sought as what stands far off.
+// Where the part of the given index, from 0, stands at CR: as `alphabet::nth_part` tells it, but each CR is sought as
+// what stands far off.
 fn line_at(message: &[u8], index: usize) -> Part
     ensures { λ r. ⌜ r ≡ partAt carriageReturn (now (message .entry)) index ⌝ }
 {

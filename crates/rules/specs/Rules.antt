@@ -1,5 +1,6 @@
--- What a row asks of the repetitions of its field, by document 01, 'Fields judged': "House cut, judged on raw bytes. 'Whole' is one repetition."
--- `ds` are the five delimiters. Checks give the number and, as their place, the repetition: "31, 34, 35, 36: repetition 1".
+-- What a row asks of the repetitions of its field, by document 01, 'Fields judged': "House cut, judged on raw bytes.
+-- 'Whole' is one repetition." `ds` are the five delimiters. Checks give the number and, as their place, the repetition:
+-- "31, 34, 35, 36: repetition 1".
 use Prim.Native.Nat.{ℕ, zero, suc, _+_}
 use mathlib.Core.List.{List, [], _∷_}
 use mathlib.Core.Bool.{Bool, true, false, cond, not, _&&_, _||_}
@@ -101,7 +102,8 @@ saidField (AsField f) = f
 abbrev pub isSaid : Kind → Bool
 isSaid kind = not (eqb (saidField kind) 0)
 
--- 35: "some repetition of OBX-5 present, OBX-2 repetition 1 not"; `said` is OBX-2's repetition 1, and where it is absent no bytes
+-- 35: "some repetition of OBX-5 present, OBX-2 repetition 1 not"; `said` is OBX-2's repetition 1, and where it is
+-- absent no bytes
 abbrev pub saidCheck : List ℕ → Kind → List ℕ → List (List ℕ) → Check
 saidCheck ds kind said repetitions =
     failsIf ((isSaid kind && not (isPresent (stateOf ds said))) && somePresent ds repetitions) ValueWithoutType 1

@@ -97,7 +97,8 @@ fn check_required(required: bool, state: State) -> Check
 
 // The same of repetition 1 of a row's field: what is not required is not looked at.
 fn check_first(delimiters: Delimiters, row: Row, repetition: &[u8]) -> Check
-    ensures { λ r. ⌜ r ≡ requiredCheck (row .required) (stateOf (delimiters .bytes) (judgedPart (delimiters .bytes) (row .component) (now (repetition .entry)))) ⌝ }
+    ensures { λ r. ⌜ r ≡ requiredCheck (row .required)
+        (stateOf (delimiters .bytes) (judgedPart (delimiters .bytes) (row .component) (now (repetition .entry)))) ⌝ }
 {
     if !row.required {
         return Check::Passes;
@@ -186,7 +187,8 @@ pub fn component_of(row: Row, said: &[u8]) -> usize
 
 // Number 35: a field whose type is said has some repetition present, and what says it is not.
 fn check_said(delimiters: Delimiters, kind: Kind, said: &[u8], field: &[u8]) -> Check
-    ensures { λ r. ⌜ r ≡ saidCheck (delimiters .bytes) kind (now (said .entry)) (split (getD (delimiters .bytes) 2 0) (now (field .entry))) ⌝ }
+    ensures { λ r. ⌜ r ≡ saidCheck (delimiters .bytes) kind (now (said .entry))
+        (split (getD (delimiters .bytes) 2 0) (now (field .entry))) ⌝ }
 {
     let untyped = is_said(kind) & !is_present(delimiters, said);
     if !untyped {
@@ -201,7 +203,8 @@ fn check_said(delimiters: Delimiters, kind: Kind, said: &[u8], field: &[u8]) -> 
 
 // The checks of a row before its repetitions are judged in turn: 31 or 34, then 36, then 35.
 pub fn check_opening(delimiters: Delimiters, row: Row, said: &[u8], field: &[u8]) -> Check
-    ensures { λ r. ⌜ r ≡ openingCheck (delimiters .bytes) row (now (said .entry)) (split (getD (delimiters .bytes) 2 0) (now (field .entry))) ⌝ }
+    ensures { λ r. ⌜ r ≡ openingCheck (delimiters .bytes) row (now (said .entry))
+        (split (getD (delimiters .bytes) 2 0) (now (field .entry))) ⌝ }
 {
     let bytes = delimiters.bytes;
     let end = alphabet::find(field, bytes[2]);

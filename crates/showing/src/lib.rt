@@ -1,5 +1,5 @@
-// `show`: every segment of a message and its parts, down to those that are split no further, each with its address, its state and
-// its text. The message is walked once: each level hands its parts on to the level below.
+// `show`: every segment of a message and its parts, down to those that are split no further, each with its address, its
+// state and its text. The message is walked once: each level hands its parts on to the level below.
 use alphabet::Delimiters;
 use element::Address;
 use element::Element;
@@ -44,7 +44,8 @@ fn component_address(above: Address, is_split: bool, number: usize) -> Address {
     }
 }
 
-// The address of a subcomponent of a component, which is told where its subcomponents are: PID-5.1.2, also where it stands alone.
+// The address of a subcomponent of a component, which is told where its subcomponents are: PID-5.1.2, also where it
+// stands alone.
 fn subcomponent_address(above: Address, is_split: bool, number: usize) -> Address {
     if !is_split {
         return above;
@@ -231,7 +232,8 @@ fn show_delimiters(out: Output, segment: &[u8], number: usize, start: usize, end
     terminal::end_line(out)
 }
 
-// Shows a segment. The fields of MSH, the first, are counted from the separator itself, so that its third begins at byte 9.
+// Shows a segment. The fields of MSH, the first, are counted from the separator itself, so that its third begins at
+// byte 9.
 fn show_segment(
     out: Output,
     delimiters: Delimiters,

@@ -1,5 +1,6 @@
--- How the private functions walk the names of a message by a structure's tables. Nobody has to believe this: `proofs/` shows that the walk is the
--- grammar, once for every shape and every table that fits it. A set of places is a number: place q is in m where digit q of m, in base 2, is 1.
+-- How the private functions walk the names of a message by a structure's tables. Nobody has to believe this: `proofs/`
+-- shows that the walk is the grammar, once for every shape and every table that fits it. A set of places is a number:
+-- place q is in m where digit q of m, in base 2, is 1.
 use mathlib.Core.Path.{_≡_}
 use mathlib.Core.Bool.{Bool, true, false, cond, not, _&&_, _||_}
 use mathlib.Core.List.{List, [], _∷_, _++_}

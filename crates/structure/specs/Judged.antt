@@ -1,4 +1,5 @@
--- What a judgement of a message's structure says. It is a relation to the grammar alone; `proofs/OnlyOne.antt` shows that no second judgement meets it.
+-- What a judgement of a message's structure says. It is a relation to the grammar alone; `proofs/OnlyOne.antt` shows
+-- that no second judgement meets it.
 use mathlib.Core.Path.{_≡_}
 use mathlib.Core.Logic.{_↔_}
 use mathlib.Core.Bool.{Bool, cond}
@@ -21,8 +22,9 @@ use Rattle.structure.specs.Structures.{ListedStructure, chosen, unlisted
 abbrev pub front : Shape → ℕ → List ℕ → List ℕ
 front s n ns = kept (names s) (take n ns)
 
--- The names ns, as sent, are refused at a segment: those before it begin a list that the structure yields, and with it they begin none; or at the
--- end, where only more are missing. The list has the names that could have stood there, and `ends` says whether the message could have ended there.
+-- The names ns, as sent, are refused at a segment: those before it begin a list that the structure yields, and with it
+-- they begin none; or at the end, where only more are missing. The list has the names that could have stood there, and
+-- `ends` says whether the message could have ended there.
 pub record Refused (s : Shape) (ns : List ℕ) (place : ℕ) (ends : Bool) (list : List ℕ) : Type 0 where
   pub not-yielded : Yields s (kept (names s) ns) → ⊥
   pub within : place ≤ length ns

@@ -1,11 +1,12 @@
--- Message structures and what they yield, by document 01, 'Structures': "Brackets optional, braces one or more." Nothing here says how a message is judged.
+-- Message structures and what they yield, by document 01, 'Structures': "Brackets optional, braces one or more."
+-- Nothing here says how a message is judged.
 use mathlib.Core.Path.{_≡_}
 use mathlib.Core.List.{List, [], _∷_, _++_, map}
 use Prim.Native.Nat.{ℕ, suc, _+_}
 use lib.ListN.{getD}
 
--- A structure, each part with what is written after it: a segment, a group in brackets, a group in braces. A segment's label is its name; in a
--- structure whose places are numbered it is its place.
+-- A structure, each part with what is written after it: a segment, a group in brackets, a group in braces. A segment's
+-- label is its name; in a structure whose places are numbered it is its place.
 pub data Shape : Type 0 where
   end : Shape
   seg : ℕ → Shape → Shape
@@ -46,7 +47,8 @@ size (seg n s) = suc (size s)
 size (opt b s) = size b + size s
 size (rep b s) = size b + size s
 
--- the structure with each name replaced by its place, the first of which is k: what it yields are places, filled one after another
+-- the structure with each name replaced by its place, the first of which is k: what it yields are places, filled one
+-- after another
 abbrev pub numbered : ℕ → Shape → Shape
 numbered k end = end
 numbered k (seg n s) = seg k (numbered (suc k) s)

@@ -1,5 +1,5 @@
--- The structures of document 01, each under its line, and how a type chooses one, of these or of any others. `lines` lays the document's own lines beside
--- the shapes: each shape, written out, is its line.
+-- The structures of document 01, each under its line, and how a type chooses one, of these or of any others. `lines`
+-- lays the document's own lines beside the shapes: each shape, written out, is its line.
 use Prim.Native.Nat.{ℕ, _/_, _%_}
 use Prim.Native.String.{String}
 use mathlib.Core.Path.{_≡_, refl}
@@ -29,7 +29,8 @@ some n s = rep (the n end) s
 abbrev any : String → Shape → Shape
 any n s = opt (some n end) s
 
--- ORU^R01 (v2.4): MSH { [PID [PD1] [{NK1}] [{NTE}] [PV1 [PV2]]] { [ORC] OBR [{NTE}] [{ [OBX] [{NTE}] }] [{CTI}] } } [DSC]
+-- ORU^R01 (v2.4): MSH { [PID [PD1] [{NK1}] [{NTE}] [PV1 [PV2]]] { [ORC] OBR [{NTE}] [{ [OBX] [{NTE}] }] [{CTI}] } }
+-- [DSC]
 abbrev pub oruR01 : Shape
 oruR01 = the "MSH" (rep (opt patient (rep observations end)) (maybe "DSC" end))
   where
@@ -78,8 +79,8 @@ lines = (refl, refl, refl, refl, refl)
 
 -- ---- which structure a type chooses
 
--- A structure that is listed, and for which types: an event of no bytes is any event. The name is the one that HL7 gives the structure, as component 3 of
--- MSH-9 has it: "component 3 isn't looked at", so no judge asks for it yet.
+-- A structure that is listed, and for which types: an event of no bytes is any event. The name is the one that HL7
+-- gives the structure, as component 3 of MSH-9 has it: "component 3 isn't looked at", so no judge asks for it yet.
 pub record ListedStructure : Type 0 where
   pub type : List ℕ
   pub event : List ℕ
@@ -100,7 +101,8 @@ unfoldable pub choose : List ListedStructure → List ℕ → List ℕ → Choic
 choose [] type event = unlisted
 choose (x ∷ book) type event = cond (meets type event x) (chosen x) (choose book type event)
 
--- "The type is components 1 and 2 of MSH-9, repetition 1, compared as raw bytes": which of some structures a message's type chooses
+-- "The type is components 1 and 2 of MSH-9, repetition 1, compared as raw bytes": which of some structures a message's
+-- type chooses
 unfoldable pub structureFor : List ListedStructure → List ℕ → Choice
 structureFor book m = choose book (rawBytes m (typeAddress 1)) (rawBytes m (typeAddress 2))
 

@@ -1,7 +1,7 @@
-// All that the command says to people goes through here. A terminal obeys control bytes, and a message or a file's name may
-// hold any of them. So printable ASCII alone is printed as it stands, and any other byte as its two hex digits in braces: LF
-// is {0A}. An opening brace is {7B}, so that what is seen says which bytes there are. And whoever prints is told whether it was
-// written: each function takes an output and returns it.
+// All that the command says to people goes through here. A terminal obeys control bytes, and a message or a file's name
+// may hold any of them. So printable ASCII alone is printed as it stands, and any other byte as its two hex digits in
+// braces: LF is {0A}. An opening brace is {7B}, so that what is seen says which bytes there are. And whoever prints is
+// told whether it was written: each function takes an output and returns it.
 ghost use Prim.Native.Nat.{_≤_};
 ghost use mathlib.Core.Path.{_≡_};
 ghost use lib.ListN.{length};
@@ -30,8 +30,8 @@ pub fn standard_error() -> Output {
     }
 }
 
-// Writes bytes raw, which is for what goes to a line and not to people. Once some were not written nothing more is tried: what
-// came behind a gap would be read as if it stood there.
+// Writes bytes raw, which is for what goes to a line and not to people. Once some were not written nothing more is
+// tried: what came behind a gap would be read as if it stood there.
 pub fn write(out: Output, bytes: &[u8]) -> Output {
     if !out.is_whole {
         return out;
@@ -90,7 +90,8 @@ fn print_in_braces(out: Output, bytes: &[u8], place: usize) -> Output {
     out
 }
 
-// Prints any bytes. What needs no braces is written in one piece, since a call for each byte would take most of the time.
+// Prints any bytes. What needs no braces is written in one piece, since a call for each byte would take most of the
+// time.
 pub fn print(out: Output, bytes: &[u8]) -> Output {
     let mut printed = out;
     let mut start = 0;

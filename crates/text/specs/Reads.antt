@@ -1,5 +1,6 @@
--- What a text says, and why and where it is refused, as a grammar: nothing of how it is found. `Grammar` of the crate `laws` shows that the scan of
--- `Unescape` gives a text exactly where `Reads` does, and the same text; and a fault exactly where `Refuses` does, the same and at the same place.
+-- What a text says, and why and where it is refused, as a grammar: nothing of how it is found. `Grammar` of the crate
+-- `laws` shows that the scan of `Unescape` gives a text exactly where `Reads` does, and the same text; and a fault
+-- exactly where `Refuses` does, the same and at the same place.
 use Prim.Native.Nat.{ℕ, _≤_, _<_}
 use mathlib.Core.Path.{_≡_}
 use mathlib.Core.List.{List, [], _∷_, _++_}
@@ -14,15 +15,16 @@ use Rattle.escaping.specs.Escape.{escapeOf}
 use Rattle.text.specs.Unescape.{known, meaning}
 use Rattle.escaping.specs.Outcomes.{Outcome, text, fault}
 
--- s says t: nothing; a plain byte and a text; or a known sequence, between two escape delimiters and with none inside, and a text
+-- s says t: nothing; a plain byte and a text; or a known sequence, between two escape delimiters and with none inside,
+-- and a text
 pub data Reads (ds : List ℕ) : List ℕ → List ℕ → Type 0 where
   done : Reads ds [] []
   plain : {r t : List ℕ} (b : ℕ) → printable b ≡ true → 5 ≤ find b ds → Reads ds r t → Reads ds (b ∷ r) (b ∷ t)
   escaped : {r t : List ℕ} (c : List ℕ) → find (escapeOf ds) c ≡ length c → known c ≡ true → Reads ds r t
       → Reads ds (escapeOf ds ∷ (c ++ escapeOf ds ∷ r)) (meaning ds c ++ t)
 
--- what is wrong at the first byte: "first byte not allowed; in text, CR too", "raw separator other than the escape in text", "unknown escape; escape
--- never closed"
+-- what is wrong at the first byte: "first byte not allowed; in text, CR too", "raw separator other than the escape in
+-- text", "unknown escape; escape never closed"
 pub data Stops (ds : List ℕ) : List ℕ → Refusal → Type 0 where
   unprintable : (b : ℕ) (r : List ℕ) → (b ≡ escapeOf ds → ⊥) → printable b ≡ false → Stops ds (b ∷ r) NotAllowed
   separator : (b : ℕ) (r : List ℕ) → (b ≡ escapeOf ds → ⊥) → printable b ≡ true → find b ds < 5 → Stops ds (b ∷ r) Separator

@@ -1,4 +1,5 @@
--- How text is read, by document 01, 'Text'. `Reads` says the same as a grammar, and `Grammar` of the crate `laws` that the two agree.
+-- How text is read, by document 01, 'Text'. `Reads` says the same as a grammar, and `Grammar` of the crate `laws` that
+-- the two agree.
 use Prim.Native.Nat.{ℕ, zero, suc, _+_}
 use mathlib.Core.List.{List, [], _∷_, _++_}
 use mathlib.Core.Bool.{Bool, false, cond, _&&_}
@@ -30,8 +31,8 @@ pub data Step : Type 0 where
   stop : Refusal → Step
   emit : List ℕ → ℕ → Step
 
--- "a sequence is judged whole at its opening byte", "unknown escape; escape never closed": r is what follows the byte, n the place of the next
--- escape delimiter in r
+-- "a sequence is judged whole at its opening byte", "unknown escape; escape never closed": r is what follows the byte,
+-- n the place of the next escape delimiter in r
 unfoldable pub sequence : List ℕ → List ℕ → ℕ → Step
 sequence ds r n =
     cond (ltb n (length r)) (cond (known (take n r)) (emit (meaning ds (take n r)) (n + 1)) (stop UnknownEscape)) (stop UnclosedEscape)
@@ -50,7 +51,8 @@ abbrev pub after : Step → ℕ → (ℕ → Outcome) → Outcome
 after (stop k) at rest = fault k at
 after (emit xs k) at rest = before xs (rest k)
 
--- "it works from the left": what a list of bytes says, the first of which stands at place `at`, once `skip` of them are passed over
+-- "it works from the left": what a list of bytes says, the first of which stands at place `at`, once `skip` of them are
+-- passed over
 unfoldable pub scan : List ℕ → ℕ → ℕ → List ℕ → Outcome
 scan ds at skip [] = text []
 scan ds at (suc skip) (b ∷ r) = scan ds (at + 1) skip r

@@ -1,4 +1,5 @@
-// What may stand between two escape delimiters, and the bytes that it says: a letter of the table, or X and pairs of hex digits.
+// What may stand between two escape delimiters, and the bytes that it says: a letter of the table, or X and pairs of
+// hex digits.
 use alphabet::Delimiters;
 use escaping::LETTERS;
 use plain::place_of;
@@ -47,9 +48,11 @@ fn put_pairs(digits: &[u8], buffer: &mut [u8], at: usize) -> usize
 
 // Writes the bytes that a known sequence says into the buffer from `at` on, and returns the place behind them.
 pub fn put_meaning(delimiters: Delimiters, inside: &[u8], buffer: &mut [u8], at: usize) -> usize
-    requires { ⌜ (known (now inside) ≡ true) × (at + length (meaning (delimiters .bytes) (now inside)) ≤ length (now buffer)) ⌝ }
+    requires { ⌜ (known (now inside) ≡ true)
+        × (at + length (meaning (delimiters .bytes) (now inside)) ≤ length (now buffer)) ⌝ }
     ensures { λ r. ⌜ r ≡ at + length (meaning (delimiters .bytes) (now (inside .entry))) ⌝ }
-    ensures { λ _. ⌜ now (buffer .exit) ≡ pasted (now (buffer .entry)) at (meaning (delimiters .bytes) (now (inside .entry))) ⌝ }
+    ensures { λ _. ⌜ now (buffer .exit)
+        ≡ pasted (now (buffer .entry)) at (meaning (delimiters .bytes) (now (inside .entry))) ⌝ }
 {
     if inside.len() == 1 {
         let five = delimiters.bytes;

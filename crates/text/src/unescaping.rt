@@ -1,5 +1,5 @@
-// Reading a text: from the left, a sequence judged whole at its opening byte. It is judged to its end before anything is
-// written, so that a refusal writes nothing.
+// Reading a text: from the left, a sequence judged whole at its opening byte. It is judged to its end before anything
+// is written, so that a refusal writes nothing.
 use crate::sequences::is_known;
 use crate::sequences::put_meaning;
 use alphabet::Answer;
@@ -34,7 +34,8 @@ pub enum Judged {
 
 // What an escape delimiter opens, where `rest` is what follows it.
 fn sequence_in(delimiters: Delimiters, rest: &[u8]) -> Found
-    ensures { λ r. ⌜ r ≡ seen (sequence (delimiters .bytes) (now (rest .entry)) (find (escapeOf (delimiters .bytes)) (now (rest .entry)))) ⌝ }
+    ensures { λ r. ⌜ r ≡ seen
+        (sequence (delimiters .bytes) (now (rest .entry)) (find (escapeOf (delimiters .bytes)) (now (rest .entry)))) ⌝ }
 {
     let five = delimiters.bytes;
     let n = alphabet::find(rest, five[3]);
@@ -59,7 +60,8 @@ fn sequence_in(delimiters: Delimiters, rest: &[u8]) -> Found
 // What stands at the place i.
 fn step_at(delimiters: Delimiters, text: &[u8], i: usize) -> Found
     requires { ⌜ i < length (now text) ⌝ }
-    ensures { λ r. ⌜ r ≡ seen (step (delimiters .bytes) (getD (now (text .entry)) i 0) (drop (i + 1) (now (text .entry)))) ⌝ }
+    ensures { λ r. ⌜ r ≡ seen
+        (step (delimiters .bytes) (getD (now (text .entry)) i 0) (drop (i + 1) (now (text .entry)))) ⌝ }
 {
     let five = delimiters.bytes;
     let b = text[i];
@@ -76,7 +78,8 @@ fn step_at(delimiters: Delimiters, text: &[u8], i: usize) -> Found
     Found::Bytes { length: 1, skip: 0 }
 }
 
-// The text's length, or its first fault: what stands at a place, and the bytes that stand plainly behind it, at each turn.
+// The text's length, or its first fault: what stands at a place, and the bytes that stand plainly behind it, at each
+// turn.
 fn judge(delimiters: Delimiters, text: &[u8]) -> Judged
     ensures { λ r. ⌜ r ≡ judged (scan (delimiters .bytes) 0 0 (now (text .entry))) ⌝ }
 {
@@ -103,10 +106,13 @@ fn judge(delimiters: Delimiters, text: &[u8]) -> Judged
     Judged::Text(n)
 }
 
-// Writes what a text with no fault says to the front of the buffer: a sequence, or the bytes up to the next one, at each turn.
+// Writes what a text with no fault says to the front of the buffer: a sequence, or the bytes up to the next one, at
+// each turn.
 fn write_text(delimiters: Delimiters, text: &[u8], buffer: &mut [u8])
-    requires { ⌜ (isText (scan (delimiters .bytes) 0 0 (now text)) ≡ true) × (length (textOf (scan (delimiters .bytes) 0 0 (now text))) ≤ length (now buffer)) ⌝ }
-    ensures { λ _. ⌜ now (buffer .exit) ≡ over (textOf (scan (delimiters .bytes) 0 0 (now (text .entry)))) (now (buffer .entry)) ⌝ }
+    requires { ⌜ (isText (scan (delimiters .bytes) 0 0 (now text)) ≡ true)
+        × (length (textOf (scan (delimiters .bytes) 0 0 (now text))) ≤ length (now buffer)) ⌝ }
+    ensures { λ _. ⌜ now (buffer .exit)
+        ≡ over (textOf (scan (delimiters .bytes) 0 0 (now (text .entry)))) (now (buffer .entry)) ⌝ }
 {
     let five = delimiters.bytes;
     let mark = five[3];
@@ -131,7 +137,9 @@ fn write_text(delimiters: Delimiters, text: &[u8], buffer: &mut [u8])
 // Reads a text, and writes what it says to the front of the buffer.
 pub fn unescape(delimiters: Delimiters, text: &[u8], buffer: &mut [u8]) -> Answer
     ensures { λ r. ⌜ r ≡ answer (unescaping (delimiters .bytes) (now (text .entry)) (length (now (buffer .entry)))) ⌝ }
-    ensures { λ _. ⌜ now (buffer .exit) ≡ filled (unescaping (delimiters .bytes) (now (text .entry)) (length (now (buffer .entry)))) (now (buffer .entry)) ⌝ }
+    ensures { λ _. ⌜ now (buffer .exit)
+        ≡ filled (unescaping (delimiters .bytes) (now (text .entry)) (length (now (buffer .entry))))
+        (now (buffer .entry)) ⌝ }
 {
     let wrong = alphabet::first_wrong_delimiter(delimiters);
     if wrong < 5 {

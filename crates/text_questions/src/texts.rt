@@ -87,8 +87,8 @@ fn answer_text(writing: Writing, line: &[u8], text: &[u8], answer: &mut [u8]) ->
     put_writing(writing, delimiters, text, &mut buffer[..room], answer)
 }
 
-// Puts the answer to a line with one of these verbs into `answer`, and returns its length. `said` is lent for the bytes of the
-// text. A line whose other words are not those of a text is no question.
+// Puts the answer to a line with one of these verbs into `answer`, and returns its length. `said` is lent for the bytes
+// of the text. A line whose other words are not those of a text is no question.
 pub fn answer(writing: Writing, line: &[u8], said: &mut [u8], answer: &mut [u8]) -> usize
     requires { ⌜ Roomy (now answer) ⌝ }
     ensures { λ r. ⌜ r ≤ length (now (answer .exit)) ⌝ }

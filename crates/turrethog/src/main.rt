@@ -1,5 +1,6 @@
-// `turrethog` is the command of the person on the bench: it tells whether a file holds a message that is accepted, shows what it
-// says, gets an element out of it, and acknowledges it. This file is the frame: it reads the arguments and the files, and hands the messages on.
+// `turrethog` is the command of the person on the bench: it tells whether a file holds a message that is accepted,
+// shows what it says, gets an element out of it, and acknowledges it. This file is the frame: it reads the arguments
+// and the files, and hands the messages on.
 mod status;
 
 use arguments::CHECK;
@@ -15,8 +16,8 @@ ghost use Rattle.alphabet.specs.Limits.{messageLimit};
 // One byte more than a message may have: a file that fills it is over the limit.
 const ROOM: usize = 32_769;
 
-// Does what a command asks of each file that the arguments from the one before `first` up to and without `until` name: that is
-// one where words stand behind it. Returns the worst status.
+// Does what a command asks of each file that the arguments from the one before `first` up to and without `until` name:
+// that is one where words stand behind it. Returns the worst status.
 fn answer_files(
     command: u8,
     first: usize,
@@ -76,7 +77,8 @@ fn is_script(word: &mut [u8]) -> bool {
     alphabet::same(&word[..length], b"--status-on-3")
 }
 
-// Bytes for a message, or for the text of an element. By a call of its own it is no list of so many bytes in the caller's proof.
+// Bytes for a message, or for the text of an element. By a call of its own it is no list of so many bytes in the
+// caller's proof.
 fn room_for_message() -> [u8; ROOM]
     ensures { λ r. ⌜ messageLimit + 1 ≡ length r ⌝ }
 {

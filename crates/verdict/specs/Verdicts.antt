@@ -1,5 +1,5 @@
--- The verdict, by document 01, 'Numbers given back': "Judges answer a reading fault first, then 20, 21, 22, then fields." It is said over any book, a
--- list of structures; document 01's own is one.
+-- The verdict, by document 01, 'Numbers given back': "Judges answer a reading fault first, then 20, 21, 22, then
+-- fields." It is said over any book, a list of structures; document 01's own is one.
 use mathlib.Core.Path.{_≡_}
 use mathlib.Core.List.{List}
 use Prim.Native.Nat.{ℕ}

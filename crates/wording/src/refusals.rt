@@ -1,4 +1,5 @@
-// The refusals in words, each with its number of document 01. Where a place is drawn under them, `this` is what is marked there.
+// The refusals in words, each with its number of document 01. Where a place is drawn under them, `this` is what is
+// marked there.
 use alphabet::Refusal;
 use terminal::Output;
 

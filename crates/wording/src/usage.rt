@@ -1,5 +1,5 @@
-// What the command can be asked, told to whoever asks for that, or asks nothing or something that it does not know. Each way to
-// ask has a line that can be typed as it stands. The command's version stands here too.
+// What the command can be asked, told to whoever asks for that, or asks nothing or something that it does not know.
+// Each way to ask has a line that can be typed as it stands. The command's version stands here too.
 use terminal::Output;
 
 // LF, which ends each line of the texts below.
