@@ -6,27 +6,27 @@ use mathlib.Core.Path.{_≡_}
 use mathlib.Core.List.{List, [], _∷_, _++_}
 use mathlib.Core.Bool.{true, false}
 use lib.ListN.{getD}
-use Rattle.alphabet.specs.Bytes.{carriageReturn}
+use Rattle.alphabet.specs.Bytes.{carriageReturn, ascii, byteOf}
 use Rattle.grammars.specs.Tables.{marked, allowedBytes, hexDigits, hexNumber}
 
 -- "`\F\` field, `\S\` component, `\T\` subcomponent, `\R\` repetition, `\E\` escape": each letter beside the byte of
--- the header that it means. A letter is its ASCII byte: F 70, S 83, T 84, R 82, E 69
+-- the header that it means
 pub data Letter (field component repetition escape subcomponent : ℕ) : ℕ → ℕ → Type 0 where
-  F : Letter field component repetition escape subcomponent 70 field
-  S : Letter field component repetition escape subcomponent 83 component
-  T : Letter field component repetition escape subcomponent 84 subcomponent
-  R : Letter field component repetition escape subcomponent 82 repetition
-  E : Letter field component repetition escape subcomponent 69 escape
+  F : Letter field component repetition escape subcomponent (byteOf "F") field
+  S : Letter field component repetition escape subcomponent (byteOf "S") component
+  T : Letter field component repetition escape subcomponent (byteOf "T") subcomponent
+  R : Letter field component repetition escape subcomponent (byteOf "R") repetition
+  E : Letter field component repetition escape subcomponent (byteOf "E") escape
 
 -- "pairs of hex digits of either case", and the byte that each pair says
 pub data Pairs : List ℕ → List ℕ → Type 0 where
   none : Pairs [] []
   pair : {l t : List ℕ} (a b : ℕ) → hexNumber a < 16 → hexNumber b < 16 → Pairs l t → Pairs (a ∷ b ∷ l) ((hexNumber a * 16 + hexNumber b) ∷ t)
 
--- a letter of the table, or "`\Xhh..\` one or more pairs"; X is 88
+-- a letter of the table, or "`\Xhh..\` one or more pairs"
 pub data Escapes (field component repetition escape subcomponent : ℕ) : List ℕ → List ℕ → Type 0 where
   letter : {l b : ℕ} → Letter field component repetition escape subcomponent l b → Escapes field component repetition escape subcomponent (l ∷ []) (b ∷ [])
-  hex : {a b : ℕ} {l t : List ℕ} → Pairs (a ∷ b ∷ l) t → Escapes field component repetition escape subcomponent (88 ∷ a ∷ b ∷ l) t
+  hex : {a b : ℕ} {l t : List ℕ} → Pairs (a ∷ b ∷ l) t → Escapes field component repetition escape subcomponent (byteOf "X" ∷ a ∷ b ∷ l) t
 
 -- a byte that no row has
 abbrev pub NoDelimiter : ℕ → ℕ → ℕ → ℕ → ℕ → ℕ → Type 0
@@ -34,7 +34,7 @@ NoDelimiter field component repetition escape subcomponent b = (l : ℕ) → Let
 
 -- "as its own `\Xhh\` with capital digits"
 abbrev pub ownHex : ℕ → ℕ → List ℕ
-ownHex escape b = escape ∷ 88 ∷ getD hexDigits (b / 16) 0 ∷ getD hexDigits (b % 16) 0 ∷ escape ∷ []
+ownHex escape b = escape ∷ byteOf "X" ∷ getD hexDigits (b / 16) 0 ∷ getD hexDigits (b % 16) 0 ∷ escape ∷ []
 
 -- "Escaping writes the five delimiters by letter, every byte that isn't allowed and CR as its own `\Xhh\` with capital
 -- digits, the rest plainly.": a byte and what it is written as
@@ -52,8 +52,7 @@ pub data WritesBytes (field component repetition escape subcomponent : ℕ) : Li
   next : {b : ℕ} {t w v : List ℕ} → WritesByte field component repetition escape subcomponent b w → WritesBytes field component repetition escape subcomponent t v
       → WritesBytes field component repetition escape subcomponent (b ∷ t) (w ++ v)
 
--- "House: text that is exactly two quotes is written `\X2222\`, so that it isn't null."; a quote is 34, the digit 2 is
--- 50
+-- "House: text that is exactly two quotes is written `\X2222\`, so that it isn't null."
 pub data Writes (field component repetition escape subcomponent : ℕ) : List ℕ → List ℕ → Type 0 where
-  two-quotes : Writes field component repetition escape subcomponent (34 ∷ 34 ∷ []) (escape ∷ 88 ∷ 50 ∷ 50 ∷ 50 ∷ 50 ∷ escape ∷ [])
-  other : {t w : List ℕ} → (t ≡ 34 ∷ 34 ∷ [] → ⊥) → WritesBytes field component repetition escape subcomponent t w → Writes field component repetition escape subcomponent t w
+  two-quotes : Writes field component repetition escape subcomponent (ascii "\"\"") (escape ∷ (ascii "X2222" ++ (escape ∷ [])))
+  other : {t w : List ℕ} → (t ≡ ascii "\"\"" → ⊥) → WritesBytes field component repetition escape subcomponent t w → Writes field component repetition escape subcomponent t w

@@ -6,7 +6,7 @@ use mathlib.Core.Logic.{_⊎_}
 use mathlib.Core.Bool.{true, false}
 use mathlib.Core.List.{List, []}
 use lib.ListN.{length, getD, take}
-use Rattle.alphabet.specs.Bytes.{carriageReturn, allowed}
+use Rattle.alphabet.specs.Bytes.{carriageReturn, allowed, byteOf}
 use Rattle.alphabet.specs.Delimiters.{permitted}
 use Rattle.alphabet.specs.Limits.{messageLimit, segmentLimit}
 use Rattle.alphabet.specs.declared.answers.Refusal.{Refusal}
@@ -21,7 +21,7 @@ Sized m = (1 ≤ length m) × (length m ≤ messageLimit)
 -- "Bytes 0 to 2 are `MSH`." "Byte 8 is the field separator or CR."
 pub record Headed (m : List ℕ) : Type 0 where
   pub nine : 9 ≤ length m
-  pub name : (getD m 0 0 ≡ 77) × (getD m 1 0 ≡ 83) × (getD m 2 0 ≡ 72)
+  pub name : (getD m 0 0 ≡ byteOf "M") × (getD m 1 0 ≡ byteOf "S") × (getD m 2 0 ≡ byteOf "H")
   pub eight : (getD m 8 0 ≡ getD m 3 0) ⊎ (getD m 8 0 ≡ carriageReturn)
 
 -- the delimiter byte at place p, of those that stand from place 3 on: "not permitted or equal to an earlier one"

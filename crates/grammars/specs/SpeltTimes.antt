@@ -4,6 +4,7 @@
 use Prim.Native.Nat.{ℕ, _*_, _≤_}
 use mathlib.Core.Path.{_≡_}
 use mathlib.Core.List.{List, [], _∷_, _++_}
+use Rattle.alphabet.specs.Bytes.{byteOf}
 use Rattle.alphabet.specs.declared.answers.Refusal.the-variants.{None, BreaksForm}
 use Rattle.calendar.specs.declared.figures.Figure.the-variants.{NotSent, Sent}
 use Rattle.calendar.specs.declared.figures.Sign.{Sign}
@@ -102,25 +103,25 @@ pub data SpeltDate : List ℕ → Date → Type 0 where
   to-month : {yyyy mm : List ℕ} {y m : ℕ} → Year yyyy y → Month mm m → SpeltDate (yyyy ++ mm) (record { year = Sent y; month = Sent m; day = NotSent })
   to-day : {l : List ℕ} {d : Date} → SpeltDay l d → SpeltDate l d
 
--- "HHMM[SS[.S to .SSSS]]": 46 is the point, and the fraction is the number behind it with the count of its digits
+-- "HHMM[SS[.S to .SSSS]]": the fraction is the number behind it with the count of its digits
 pub data SpeltMinutes : List ℕ → Clock → Type 0 where
   to-minute : {hh mm : List ℕ} {h m : ℕ} → Hour hh h → Minute mm m
       → SpeltMinutes (hh ++ mm) (record { hour = Sent h; minute = Sent m; second = NotSent; fraction = NotSent; digits = 0 })
   to-second : {hh mm ss : List ℕ} {h m s : ℕ} → Hour hh h → Minute mm m → Second ss s
       → SpeltMinutes (hh ++ (mm ++ ss)) (record { hour = Sent h; minute = Sent m; second = Sent s; fraction = NotSent; digits = 0 })
   to-fraction : {hh mm ss behind : List ℕ} {h m s f count : ℕ} → Hour hh h → Minute mm m → Second ss s → Says count behind f → 1 ≤ count → count ≤ 4
-      → SpeltMinutes (hh ++ (mm ++ (ss ++ (46 ∷ behind)))) (record { hour = Sent h; minute = Sent m; second = Sent s; fraction = Sent f; digits = count })
+      → SpeltMinutes (hh ++ (mm ++ (ss ++ (byteOf "." ∷ behind)))) (record { hour = Sent h; minute = Sent m; second = Sent s; fraction = Sent f; digits = count })
 
 -- "HH[MM[SS[.S to .SSSS]]]"
 pub data SpeltClock : List ℕ → Clock → Type 0 where
   to-hour : {hh : List ℕ} {h : ℕ} → Hour hh h → SpeltClock hh (record { hour = Sent h; minute = NotSent; second = NotSent; fraction = NotSent; digits = 0 })
   beyond : {l : List ℕ} {c : Clock} → SpeltMinutes l c → SpeltClock l c
 
--- "[+/-ZZZZ]": 43 is the plus, 45 the minus, and which of them was sent is kept, also before 0000
+-- "[+/-ZZZZ]": which of the signs was sent is kept, also before 0000
 pub data SpeltOffset : List ℕ → Offset → Type 0 where
   nothing : SpeltOffset [] offsetNotSent
-  plus : {hh mm : List ℕ} {h m : ℕ} → OffsetHour hh h → OffsetMinute mm m → SpeltOffset (43 ∷ (hh ++ mm)) (record { sign = Sign.Plus; hours = h; minutes = m })
-  minus : {hh mm : List ℕ} {h m : ℕ} → OffsetHour hh h → OffsetMinute mm m → SpeltOffset (45 ∷ (hh ++ mm)) (record { sign = Sign.Minus; hours = h; minutes = m })
+  plus : {hh mm : List ℕ} {h m : ℕ} → OffsetHour hh h → OffsetMinute mm m → SpeltOffset (byteOf "+" ∷ (hh ++ mm)) (record { sign = Sign.Plus; hours = h; minutes = m })
+  minus : {hh mm : List ℕ} {h m : ℕ} → OffsetHour hh h → OffsetMinute mm m → SpeltOffset (byteOf "-" ∷ (hh ++ mm)) (record { sign = Sign.Minus; hours = h; minutes = m })
 
 -- ---- the three types
 

@@ -1,4 +1,4 @@
--- Rests on the laws of `first`: no byte before i is notAllowed, at each turn.
+-- Rests on the laws of `first`: every byte before i is allowed, at each turn.
 use Prim.Native.Nat.{ℕ, _≤_, _+_, _-_}
 use mathlib.Core.Path.{_≡_, sym, ap, _∙_}
 use mathlib.Core.Bool.{not}
