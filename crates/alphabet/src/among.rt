@@ -1,5 +1,6 @@
-// Where one of five bytes first stands, told of 32 bytes together: the tests are free of branches and every byte of a block is looked at,
-// so that the compiler takes many bytes in one step. The same search ends, where it is told to, at bytes that are not printable.
+// Where one of five bytes first stands, told of 32 bytes together: the tests are free of branches and every byte of a
+// block is looked at, so that the compiler takes many bytes in one step. The same search ends, where it is told to, at
+// bytes that are not printable, which is how far a text stands plainly.
 use crate::bytes::BLOCK;
 use crate::bytes::is_printable;
 ghost use mathlib.Core.Path.{_≡_};
@@ -28,8 +29,8 @@ fn is_stop(five: [u8; 5], unprintable: bool, b: u8) -> bool
     (unprintable & !is_printable(b)) | one
 }
 
-// The lesser of `least` and, where the test holds, `place`. Where it does not hold the place is put behind the block, by a sum,
-// so that the compiler does the same for every byte and takes many at once.
+// The lesser of `least` and, where the test holds, `place`. Where it does not hold the place is put behind the block, by
+// a sum, so that the compiler does the same for every byte and takes many at once.
 fn nearer(test: bool, place: u8, least: u8) -> u8
     requires { ⌜ (place ≤ 32) × (least ≤ 32) ⌝ }
     ensures { λ r. ⌜ r ≡ cond (test && ltb place least) place least ⌝ }
@@ -39,8 +40,8 @@ fn nearer(test: bool, place: u8, least: u8) -> u8
     if here < least { here } else { least }
 }
 
-// The place in a block at which the search ends, or the block's length. The places are counted in bytes, so that the compiler
-// takes many at once.
+// The place in a block at which the search ends, or the block's length. The places are counted in bytes, so that the
+// compiler takes many at once.
 fn first_of_block(block: &[u8], five: [u8; 5], unprintable: bool) -> usize
     requires { ⌜ length (now block) ≡ 32 ⌝ }
     ensures { λ r. ⌜ r ≡ first (stops unprintable five) (now (block .entry)) ⌝ }
@@ -70,7 +71,8 @@ fn first_of_few(bytes: &[u8], five: [u8; 5], unprintable: bool) -> usize
     bytes.len()
 }
 
-// The place of the first byte that is one of the five or, where `unprintable` says so, is not printable; the length where there is none.
+// The place of the first byte that is one of the five or, where `unprintable` says so, is not printable; the length
+// where there is none.
 pub fn first_stop(bytes: &[u8], five: [u8; 5], unprintable: bool) -> usize
     ensures { λ r. ⌜ r ≡ first (stops unprintable five) (now (bytes .entry)) ⌝ }
 {
@@ -86,7 +88,8 @@ pub fn first_stop(bytes: &[u8], five: [u8; 5], unprintable: bool) -> usize
     i + rest
 }
 
-// The place of the first byte that is one of the five, or the length where there is none. A byte may stand twice among the five, where fewer are looked for.
+// The place of the first byte that is one of the five, or the length where there is none. Where fewer are looked for, a
+// byte stands twice among the five.
 pub fn find_among(bytes: &[u8], five: [u8; 5]) -> usize
     ensures { λ r. ⌜ r ≡ first (among five) (now (bytes .entry)) ⌝ }
 {

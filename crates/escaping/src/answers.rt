@@ -1,4 +1,5 @@
-// What both directions of text tell: whether something fits, and the answer of a refusal, which has a number and a place and no length.
+// What both directions of text tell: whether something fits, and the answer of a refusal, which has a number and a place
+// and no length.
 use alphabet::Answer;
 use alphabet::Refusal;
 ghost use mathlib.Core.Path.{_≡_};
