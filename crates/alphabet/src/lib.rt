@@ -1,6 +1,5 @@
 // What every other crate shares: what a byte may be, the five delimiters, the refusals and the
 // answer that carries one, the limits, how bytes fall into parts at a separator, and how a buffer is filled.
-mod among;
 mod answers;
 mod bytes;
 mod delimiters;
@@ -9,9 +8,6 @@ mod hex;
 mod limits;
 mod parts;
 
-pub use among::find_among;
-pub use among::first_stop;
-pub use among::is_among;
 pub use answers::Answer;
 pub use answers::Check;
 pub use answers::Refusal;

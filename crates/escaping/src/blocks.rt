@@ -11,7 +11,7 @@ fn written_length(delimiters: Delimiters, b: u8) -> u8
     ensures { λ r. ⌜ r ≡ length (escapeByte (delimiters .bytes) b) ⌝ }
 {
     let five = delimiters.bytes;
-    let delimiter = alphabet::is_among(five, b);
+    let delimiter = search::is_among(five, b);
     let plain = alphabet::is_printable(b);
     if delimiter {
         return 3;

@@ -31,5 +31,5 @@ pub fn plain_run(delimiters: Delimiters, text: &[u8]) -> usize
     ensures { λ r. ⌜ r ≡ first (special (delimiters .bytes)) (now (text .entry)) ⌝ }
 {
     let five = delimiters.bytes;
-    alphabet::first_stop(text, five, true)
+    search::first_stop(text, five, true)
 }

@@ -6,10 +6,10 @@ use lib.Dec.{ltb}
 use native.Mathlib.Omega.{arith}
 use borrow.Author.Needs.{needs}
 use denote.Ref.{now}
 use Rattle.alphabet.specs.Bytes.{stops}
 use Rattle.alphabet.proofs.BlockLaws.{leastOf, least-begin, least-most, least-step, least-end}
-use Rattle.alphabet.proofs.among.first_of_block.Statement.{statement}
-use Rattle.alphabet.proofs.among.first_of_block.Tie as tie
+use Rattle.search.proofs.first_of_block.Statement.{statement}
+use Rattle.search.proofs.first_of_block.Tie as tie
 
 abbrev Inv-loop : tie.InvT-loop
 Inv-loop block five unprintable least₀ i₀ least i = (i ≤ 32) × (least ≤ 32) × (least ≡ leastOf (stops unprintable five) block i)

@@ -2,8 +2,8 @@
 use mathlib.Core.Path.{ap, ap₂}
 use mathlib.Core.Bool.{Bool, not, _&&_, _||_}
 use borrow.Author.Needs.{needs}
-use Rattle.alphabet.proofs.among.is_stop.Statement.{statement}
-use Rattle.alphabet.proofs.among.is_stop.Tie as tie
+use Rattle.search.proofs.is_stop.Statement.{statement}
+use Rattle.search.proofs.is_stop.Tie as tie
 
 returns : tie.Need-returns
 returns c =

@@ -1,9 +1,9 @@
 -- Rests on the laws of the lesser of two places: a place that is put behind the block is never the lesser.
 use mathlib.Core.Logic.{⊎-elim}
 use native.Mathlib.Omega.{arith}
 use Rattle.alphabet.proofs.BlockLaws.{nearer-here, nearer-behind, nearer-none}
-use Rattle.alphabet.proofs.among.nearer.Statement.{statement}
-use Rattle.alphabet.proofs.among.nearer.Tie as tie
+use Rattle.search.proofs.nearer.Statement.{statement}
+use Rattle.search.proofs.nearer.Tie as tie
 
 add-here : tie.Need-add-here
 add-here c =

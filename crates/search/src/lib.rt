@@ -1,15 +1,14 @@
 // Where one of five bytes first stands, told of 32 bytes together: the tests are free of branches and every byte of a
 // block is looked at, so that the compiler takes many bytes in one step. The same search ends, where it is told to, at
 // bytes that are not printable.
-use crate::bytes::BLOCK;
-use crate::bytes::is_printable;
+use alphabet::BLOCK;
 ghost use mathlib.Core.Path.{_≡_};
 ghost use mathlib.Core.Bool.{cond, _&&_};
 ghost use Prim.Native.Nat.{_≤_};
 ghost use lib.Dec.{ltb};
 ghost use lib.ListN.{length};
 ghost use Rattle.alphabet.specs.Lists.{first, among};
 ghost use Rattle.alphabet.specs.Bytes.{stops};
 
 // How many bytes a block has, as a byte.
 const BLOCK_BYTE: u8 = 32;
@@ -26,7 +25,7 @@ fn is_stop(five: [u8; 5], unprintable: bool, b: u8) -> bool
     ensures { λ r. ⌜ r ≡ stops unprintable five b ⌝ }
 {
     let one = is_among(five, b);
-    (unprintable & !is_printable(b)) | one
+    (unprintable & !alphabet::is_printable(b)) | one
 }
 
 // The lesser of `least` and, where the test holds, `place`. Where it does not hold the place is put behind the block,

@@ -5,11 +5,11 @@ use lib.ListN.{length}
 use native.Mathlib.Omega.{arith}
 use borrow.Author.Needs.{needs}
 use denote.Ref.{now}
 use Rattle.alphabet.specs.Lists.{first}
 use Rattle.alphabet.proofs.ListLaws.{first-le, first-reached, first-next}
 use Rattle.alphabet.specs.Bytes.{stops}
-use Rattle.alphabet.proofs.among.first_of_few.Statement.{statement}
-use Rattle.alphabet.proofs.among.first_of_few.Tie as tie
+use Rattle.search.proofs.first_of_few.Statement.{statement}
+use Rattle.search.proofs.first_of_few.Tie as tie
 
 abbrev Inv-loop : tie.InvT-loop
 Inv-loop bytes five unprintable i₀ i = (i ≤ length bytes) × (i ≤ first (stops unprintable five) bytes)

@@ -2,9 +2,9 @@
 use mathlib.Core.Path.{_≡_}
 use lib.ListN.{length}
 use borrow.Author.Needs.{needs}
 use Rattle.alphabet.proofs.BlockLaws.{among-is}
-use Rattle.alphabet.proofs.among.is_among.Statement.{statement}
-use Rattle.alphabet.proofs.among.is_among.Tie as tie
+use Rattle.search.proofs.is_among.Statement.{statement}
+use Rattle.search.proofs.is_among.Tie as tie
 
 returns : tie.Need-returns
 returns c =

@@ -5,12 +5,12 @@ use lib.ListN.{length, drop}
 use native.Mathlib.Omega.{arith}
 use borrow.Author.Needs.{needs}
 use denote.Ref.{now}
 use Rattle.alphabet.specs.Lists.{first}
 use Rattle.alphabet.proofs.ListLaws.{first-block, first-le, rest-of}
 use Rattle.alphabet.specs.Bytes.{stops}
 use Rattle.alphabet.proofs.BlockLaws.{block-size, first-from, first-inside}
-use Rattle.alphabet.proofs.among.first_stop.Statement.{statement}
-use Rattle.alphabet.proofs.among.first_stop.Tie as tie
+use Rattle.search.proofs.first_stop.Statement.{statement}
+use Rattle.search.proofs.first_stop.Tie as tie
 
 abbrev Inv-loop : tie.InvT-loop
 Inv-loop bytes five unprintable i₀ i = (i ≤ length bytes) × (i ≤ first (stops unprintable five) bytes)
