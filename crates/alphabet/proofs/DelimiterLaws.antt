@@ -12,7 +12,7 @@ use Rattle.alphabet.specs.Delimiters.{permitted, wrong, places, firstWro
 use Rattle.alphabet.proofs.BoolLaws.{or-neither}
 use Rattle.alphabet.proofs.ListLaws.{first-here, first-past, first-end, first-before, first-le, find-own}
 
-place-own : (i : ℕ) → i < 5 → getD places i 0 ≡ i
+pub place-own : (i : ℕ) → i < 5 → getD places i 0 ≡ i
 place-own zero h = refl
 place-own (suc zero) h = refl
 place-own (suc (suc zero)) h = refl

@@ -20,7 +20,7 @@ use Rattle.alphabet.specs.declared.answers.Refusal.{Refusal}
 use Rattle.alphabet.specs.declared.answers.Refusal.the-variants.{Length, Header, Delimiter, NotAllowed, NotEnded, SegmentName, SecondHeader, TooManySegments}
 use Rattle.alphabet.proofs.BoolLaws.{and-both, both-and, or-neither, false-true}
 use Rattle.alphabet.proofs.CheckLaws.{both-pass, fails-if, passes-if, passes-not}
-use Rattle.alphabet.proofs.DelimiterLaws.{wrong-most}
+use Rattle.alphabet.proofs.DelimiterLaws.{wrong-most, place-own}
 use Rattle.alphabet.proofs.ListLaws.{first-passes, first-before, find-is, first-least}
 use Rattle.reading.specs.Segments.{segments, delimitersOf, fieldSeparator, named, isHeader}
 use Rattle.reading.specs.Reading.{lengthCheck, headed, headerCheck, delimiterCheck, byteCheck, opening, endCheck, segmentCheck, segmentChecks, segmentsCheck, reading}
@@ -101,14 +101,6 @@ stands m (suc (suc zero)) h = refl
 stands m (suc (suc (suc zero))) h = refl
 stands m (suc (suc (suc (suc zero)))) h = refl
 stands m (suc (suc (suc (suc (suc i))))) h = absurd (omega arith)
-
-place-own : (i : ℕ) → i < 5 → getD places i 0 ≡ i
-place-own zero h = refl
-place-own (suc zero) h = refl
-place-own (suc (suc zero)) h = refl
-place-own (suc (suc (suc zero))) h = refl
-place-own (suc (suc (suc (suc zero)))) h = refl
-place-own (suc (suc (suc (suc (suc i))))) h = absurd (omega arith)
 
 wrong-at : (m : List ℕ) (i : ℕ) → i < 5 → wrong (delimitersOf m) i ≡ true → Wrong m (3 + i)
 wrong-at m i h e = at (or-cases (not (permitted (getD (delimitersOf m) i 0))) (ltb (find (getD (delimitersOf m) i 0) (delimitersOf m)) i) e)

@@ -41,7 +41,8 @@ use Rattle.text.specs.Unescape.{unescaping}
 use Rattle.laws.proofs.RoundTrip.{AreBytes, round-trip}
 use Rattle.element.specs.States.{stateOf, isPresent}
 use Rattle.element.specs.declared.states.State.{State}
-use Rattle.element.specs.declared.states.State.the-variants.{Absent, Empty, Null, Present}
+use Rattle.element.specs.declared.states.State.the-variants.{Present}
+use Rattle.laws.proofs.PresentLaws.{is-present, not-present}
 use Rattle.field_table.specs.Table.{rows}
 use Rattle.laws.proofs.FaultNumbers.{none-sound}
 use Rattle.laws.proofs.ControlId.{control-id}
@@ -196,12 +197,6 @@ module _ (m time id lent : List ℕ) (small : AreBytes id) {r : Answer} {x : Lis
             (ap₂ (λ (ds l : List ℕ). isPresent (stateOf ds l)) (sym (same-delimiters m (return-inside m (against .2)) (sound .0))) (sym same-id) ∙ d .0),
         (let n = leb-true (length (sent h 10)) idLimit (d .1) in let e = ap length same-id in omega arith),
       )
-    where
-      is-present : (x : State) → isPresent x ≡ true → x ≡ Present
-      is-present Absent e = absurd (false-true e)
-      is-present Empty e = absurd (false-true e)
-      is-present Null e = absurd (false-true e)
-      is-present Present e = refl
 
   -- the length that is told is that of what was written, and the buffer keeps its own length and what stands behind
   pub told : (length x ≡ length lent) × (r .length ≤ length lent) × (drop (r .length) x ≡ drop (r .length) lent)
@@ -280,13 +275,7 @@ module _ (m time id lent : List ℕ) (small : AreBytes id) {r : Answer} {x : Lis
 
   pub without-event : (stateOf (delimitersOf m) (typePart m 2) ≡ Present → ⊥) → rawBytes w (fieldAddress 9) ≡ ascii "ACK"
   unfolding typeSent
-  without-event none = stamped .2 ∙ ap (λ (t : Bool). ascii "ACK" ++ cond t (getD (delimitersOf m) 1 0 ∷ typePart m 2) []) (absent (stateOf (delimitersOf m) (typePart m 2)) none)
-    where
-      absent : (x : State) → (x ≡ Present → ⊥) → isPresent x ≡ false
-      absent Absent n = refl
-      absent Empty n = refl
-      absent Null n = refl
-      absent Present n = absurd (n refl)
+  without-event none = stamped .2 ∙ ap (λ (t : Bool). ascii "ACK" ++ cond t (getD (delimitersOf m) 1 0 ∷ typePart m 2) []) (not-present (stateOf (delimitersOf m) (typePart m 2)) none)
 
   -- its MSH-10 is the caller's ID, escaped
   pub own-id : rawBytes w (fieldAddress 10) ≡ escape (delimitersOf m) id

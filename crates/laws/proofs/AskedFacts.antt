@@ -12,13 +12,8 @@ use Rattle.value.specs.Asked.{numberFrom, timeFrom}
 use Rattle.element.specs.States.{isPresent}
 use Rattle.value.specs.declared.asked.NumberFound.{NumberFound}
 use Rattle.value.specs.declared.asked.TimeFound.{TimeFound}
+use Rattle.laws.proofs.PresentLaws.{not-present}
 use Rattle.value.proofs.AskedLaws.{number-present, number-other, time-present, time-other}
-
-not-present : (s : State) → (s ≡ Present → ⊥) → isPresent s ≡ false
-not-present Absent n = refl
-not-present Empty n = refl
-not-present Null n = refl
-not-present Present n = absurd (n refl)
 
 module _ (f : Found) where
   pub number-said : (r : ReadNumber) → f .element .state ≡ Present

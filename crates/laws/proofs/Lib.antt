@@ -23,6 +23,7 @@ pub mod LineLaws
 pub mod SenderLaws
 pub mod WrittenLaws
 pub mod Acknowledged
+pub mod PresentLaws
 pub mod AskedFacts
 pub mod TextRoom
 pub mod NameLists

@@ -21,7 +21,8 @@ use Rattle.alphabet.proofs.ListLaws.{first-least, find-is, same-is, same-own}
 use Rattle.reading.specs.Reading.{opening}
 use Rattle.reading.proofs.Accepted.{opening-if}
 use Rattle.element.specs.declared.states.State.{State}
-use Rattle.element.specs.declared.states.State.the-variants.{Absent, Empty, Null, Present}
+use Rattle.element.specs.declared.states.State.the-variants.{Present}
+use Rattle.laws.proofs.PresentLaws.{is-present}
 use Rattle.element.specs.States.{isPresent}
 use Rattle.times.specs.Times.{isTs}
 use Rattle.escaping.specs.Outcomes.{text, fault}
@@ -48,12 +49,6 @@ id-good : (id : List ℕ) → GoodId id → badId id ≡ false
 id-good id g = neither-or (ne-eqb (length id) 0 (λ e. let l = g .0 in omega arith)) (le-ltb idLimit (length id) (g .1))
 
 -- ---- the header
-
-is-present : (s : State) → isPresent s ≡ true → s ≡ Present
-is-present Absent e = absurd (false-true e)
-is-present Empty e = absurd (false-true e)
-is-present Null e = absurd (false-true e)
-is-present Present e = refl
 
 module _ (m : List ℕ) where
   fails : acknowledgeable m ≡ false → Unacknowledgeable m
