@@ -7,12 +7,12 @@ use native.Mathlib.Numerals.{add-one}
 use native.Mathlib.Decide.{decLt}
 use native.Mathlib.Omega.{arith}
 use lib.Dec.{eqb, leb}
-use Rattle.alphabet.proofs.BoolLaws.{and-both, false-true}
+use Rattle.alphabet.proofs.BoolLaws.{and-both, false-true, neither-or}
 use lib.ListN.{length, getD, take, drop, drop-of-length-le, length-drop}
 use lib.Seq.{drop-cons, take-all, take-nil, take-take, drop-drop, getD-take, getD-drop}
 use native.Mathlib.Nat.{sub-zero, zero-sub}
 use borrow.Author.Tests.{eqb-true, eq-eqb, ne-eqb, leb-true, le-leb, lt-leb}
-use Rattle.alphabet.specs.Lists.{first, find, same}
+use Rattle.alphabet.specs.Lists.{first, find, either, same}
 
 -- what stands from i on, by its first element
 pub drop-next : (l : List ℕ) (i : ℕ) → i < length l → drop i l ≡ getD l i 0 ∷ drop (i + 1) l
@@ -130,6 +130,19 @@ module _ (test : ℕ → Bool) where
           let p = first-passes l (omega arith) in
           let q = first-before (take n (drop i l)) j (omega arith) in
           absurd (false-true (sym q ∙ ap test (getD-take n (drop i l) j 0 (omega arith) ∙ getD-drop i l j 0 ∙ ap (λ (x : ℕ). getD l x 0) e) ∙ p))
+
+-- where neither of two bytes stands before n, the first of both does not
+pub first-either : (a b : ℕ) (l : List ℕ) (n : ℕ) → n ≤ find a l → n ≤ find b l → n ≤ first (either a b) l
+first-either a b l n h k = at (decLt (first (either a b) l) n)
+  where
+    at : Dec (first (either a b) l < n) → n ≤ first (either a b) l
+    at (no c) = omega arith
+    at (yes c) =
+        let j = first (either a b) l in
+        let m = first-le (eqb a) l in
+        let p = first-passes (either a b) l (omega arith) in
+        let q = neither-or (first-before (eqb a) l j (omega arith)) (first-before (eqb b) l j (omega arith)) in
+        absurd (false-true (sym q ∙ p))
 
 -- the byte that was looked for stands where it was found
 pub find-is : (b : ℕ) (l : List ℕ) → find b l < length l → getD l (find b l) 0 ≡ b

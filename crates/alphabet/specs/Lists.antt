@@ -1,7 +1,7 @@
 -- Where a byte first stands in a list of bytes, and whether two lists are the same.
 use Prim.Native.Nat.{ℕ, zero, suc}
 use mathlib.Core.List.{List, [], _∷_}
-use mathlib.Core.Bool.{Bool, true, false, cond, _&&_}
+use mathlib.Core.Bool.{Bool, true, false, cond, _&&_, _||_}
 use lib.Dec.{ltb, eqb}
 
 -- the place of the first byte that passes the test, or the length where none does
@@ -16,6 +16,10 @@ find b = first (eqb b)
 -- whether a byte is one of five
 abbrev pub among : List ℕ → ℕ → Bool
 among five b = ltb (find b five) 5
+
+-- whether a byte is one of two
+abbrev pub either : ℕ → ℕ → ℕ → Bool
+either one other b = eqb one b || eqb other b
 
 -- whether two lists are the same, byte for byte
 unfoldable pub same : List ℕ → List ℕ → Bool

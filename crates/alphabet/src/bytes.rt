@@ -81,7 +81,7 @@ pub fn is_null(bytes: &[u8]) -> bool
 
 // Whether b is none of the bytes. Every byte is looked at and nothing branches, so that the compiler takes many at
 // once.
-fn is_without(bytes: &[u8], b: u8) -> bool
+pub fn is_without(bytes: &[u8], b: u8) -> bool
     ensures { λ r. ⌜ r ≡ leb (length (now (bytes .entry))) (find b (now (bytes .entry))) ⌝ }
 {
     let mut without = true;

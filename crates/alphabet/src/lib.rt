@@ -28,6 +28,7 @@ pub use bytes::is_capital;
 pub use bytes::is_digit;
 pub use bytes::is_null;
 pub use bytes::is_printable;
+pub use bytes::is_without;
 pub use bytes::same;
 pub use delimiters::Delimiters;
 pub use delimiters::first_wrong_delimiter;
