@@ -1,0 +1,5 @@
+pub mod StepLaws
+pub mod FeedLaws
+pub mod RunLaws
+pub mod PassLaws
+pub mod KnownLaws

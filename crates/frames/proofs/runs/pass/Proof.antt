@@ -1,0 +1,94 @@
+-- Rests on the laws of each way through: what a run passes over, for a state that is known.
+use borrow.Author.Needs.{needs}
+use Prim.Native.Nat.{_≤_, _<_, _+_, _-_}
+use mathlib.Core.Path.{_≡_, sym, ap, _∙_}
+use mathlib.Core.Logic.{⊎-elim}
+use lib.ListN.{length, take}
+use lib.Seq.{length-take-le}
+use native.Mathlib.Omega.{arith}
+use denote.Ref.{now}
+use Rattle.alphabet.specs.Lists.{first}
+use Rattle.alphabet.proofs.ListLaws.{first-le}
+use Rattle.frames.specs.Passing.{framing}
+use Rattle.frames.proofs.PassLaws.{pass-count, pass-held, pass-room, pass-outside, pass-inside, pass-skipping, pass-none}
+use Rattle.frames.proofs.runs.pass.Statement.{statement}
+use Rattle.frames.proofs.runs.pass.Tie as tie
+
+counted-on-requires : tie.Need-counted-on-requires
+counted-on-requires c κs =
+    let z = c .before .before .before .before .before in
+    pass-count (z .args .limit) (z .args .state) (now (z .args .rest)) (now (z .args .buffer)) (z .pre .0) (z .pre .1)
+
+returns : tie.Need-returns
+returns c =
+    let z = c .before .before .before .before .before .before in
+    pass-outside (z .args .limit) (z .args .state) (now (z .args .rest)) (now (z .args .buffer)) (z .pre .0) (z .pre .1) (c .before .find-far .result) (c .counted-on .result) (c .before .before .if1 .taken) (c .before .find-far .ensures) (c .counted-on .ensures)
+
+held : (z : tie.Start) → z .args .state .held ≤ z .args .limit
+held z = pass-held (z .args .limit) (z .args .state) (now (z .args .rest)) (now (z .args .buffer)) (z .pre .0) (z .pre .1)
+
+sub-if3 : tie.Need-sub-if3
+sub-if3 c = held (c .before .before .before .before .before .before .before)
+
+sub-run : tie.Need-sub-run
+sub-run c = held (c .before .before .before .before .before .before .before .before)
+
+-- the run is within the bytes that are gathered, and within the limit
+bounds : (c : tie.Joined3)
+    → let z = c .before .before .before .before .before .before .before .before in
+    (c .if3 .run ≤ first framing (now (z .args .rest))) × (z .args .state .held + c .if3 .run ≤ z .args .limit)
+bounds c =
+    let z = c .before .before .before .before .before .before .before .before in
+    let h = held z in
+    let e = c .before .find-either .ensures in
+    ⊎-elim (λ w. (omega arith, omega arith)) (λ w. (omega arith, omega arith)) (c .if3 .came)
+
+within : (c : tie.Joined3) → c .if3 .run ≤ length (now (c .before .before .before .before .before .before .before .before .args .rest))
+within c = let b = bounds c .0 in let f = first-le framing (now (c .before .before .before .before .before .before .before .before .args .rest)) in omega arith
+
+slice-aggregate-put : tie.Need-slice-aggregate-put
+slice-aggregate-put c = sym (length-take-le _ _ (within (c .before .before)))
+
+add-t12 : tie.Need-add-t12
+add-t12 c =
+    let k = c .before .before .before .before .before .before in
+    let z = k .before .before .before .before .before .before .before .before in
+    let b = bounds k .1 in
+    let r = pass-room (z .args .limit) (z .args .state) (now (z .args .rest)) (now (z .args .buffer)) (z .pre .0) (z .pre .1) in
+    omega arith
+
+returns-2 : tie.Need-returns-2
+returns-2 c =
+    let k = c .before .before .before .before .before .before in
+    let z = k .before .before .before .before .before .before .before .before in
+    let b = bounds k in
+    pass-inside (z .args .limit) (z .args .state) (now (z .args .rest)) (now (z .args .buffer)) (z .pre .0) (z .pre .1) (k .if3 .run) _ (k .before .before .if2 .taken) (b .0) (b .1) (c .before .before .before .put .ensures .1)
+
+returns-3 : tie.Need-returns-3
+returns-3 c =
+    let z = c .before .before .before .before .before .before .before .before .before in
+    pass-skipping (z .args .limit) (z .args .state) (now (z .args .rest)) (now (z .args .buffer)) (z .pre .0) (z .pre .1) (c .find-either2 .result) (c .before .if4 .taken) (c .find-either2 .ensures)
+
+returns-4 : tie.Need-returns-4
+returns-4 c =
+    let z = c .before .before .before .before .before .before .before .before in
+    pass-none (z .args .limit) (z .args .state) (now (z .args .rest)) (now (z .args .buffer)) (z .pre .0) (z .pre .1)
+
+pub pass-spec : {M : Type 1} → statement M
+pass-spec =
+    tie.close
+    (tie.spec
+    (λ c κs. search needs)
+    counted-on-requires
+    returns
+    (λ c κs. search needs)
+    sub-if3
+    sub-run
+    slice-aggregate-put
+    (λ c κs. search needs)
+    add-t12
+    (λ c. search needs)
+    returns-2
+    (λ c κs. search needs)
+    returns-3
+    returns-4)

@@ -1,0 +1,74 @@
+// Runs of bytes that do the same: dropped outside a frame, gathered, or skipped. They are passed over at once.
+use crate::state::CLOSES;
+use crate::state::FrameState;
+use crate::state::OPENS;
+use crate::state::most_dropped;
+ghost use mathlib.Core.Path.{_≡_};
+ghost use mathlib.Core.Bool.{true};
+ghost use Prim.Native.Nat.{_≤_};
+ghost use lib.ListN.{length};
+ghost use Rattle.frames.specs.Wire.{mostDropped, frameLimit};
+ghost use Rattle.frames.specs.Feeding.{known};
+ghost use Rattle.frames.specs.Passing.{countedOn, Passes};
+
+// How many bytes were passed over, and the state behind them.
+pub struct Passed {
+    pub run: usize,
+    pub state: FrameState,
+}
+
+// So many bytes more, to the most that is counted.
+fn counted_on(count: u64, run: usize) -> u64
+    requires { ⌜ count ≤ mostDropped ⌝ }
+    ensures { λ r. ⌜ r ≡ countedOn count run ⌝ }
+{
+    let most = most_dropped();
+    if run as u64 <= most - count {
+        return count + run as u64;
+    }
+    most
+}
+
+// Passes over the run at the front of what is left of a piece, and gathers it where the mode is to gather.
+pub fn pass(limit: usize, state: FrameState, rest: &[u8], buffer: &mut [u8]) -> Passed
+    requires { ⌜ (limit ≡ frameLimit (length (now buffer))) × (known (length (now buffer)) state ≡ true) ⌝ }
+    ensures { λ r. ⌜ Passes limit state (now (rest .entry)) (now (buffer .entry)) r (now (buffer .exit)) ⌝ }
+{
+    if state.mode == 0 {
+        let dropped = alphabet::find_far(rest, OPENS);
+        return Passed {
+            run: dropped,
+            state: FrameState {
+                mode: 0,
+                held: 0,
+                count: counted_on(state.count, dropped),
+            },
+        };
+    }
+    if state.mode == 1 {
+        let held = state.held;
+        let mut run = search::find_either(rest, OPENS, CLOSES);
+        if limit - held < run {
+            run = limit - held;
+        }
+        let place = alphabet::put(buffer, held, &rest[..run]);
+        return Passed {
+            run: run,
+            state: FrameState {
+                mode: 1,
+                held: held + run,
+                count: state.count,
+            },
+        };
+    }
+    if state.mode == 3 {
+        return Passed {
+            run: search::find_either(rest, OPENS, CLOSES),
+            state: state,
+        };
+    }
+    Passed {
+        run: 0,
+        state: state,
+    }
+}

@@ -1,0 +1,59 @@
+// The reader's state, which goes in with each piece and comes back, and which of them can be.
+ghost use mathlib.Core.Path.{_≡_};
+ghost use Rattle.frames.specs.Wire.{mostDropped, frameLimit};
+ghost use Rattle.frames.specs.Feeding.{known};
+ghost use Rattle.frames.specs.Runs.{start};
+
+// What begins a frame, and what ends its message.
+pub const OPENS: u8 = 11;
+
+pub const CLOSES: u8 = 28;
+
+// The mode, a number that the caller could have made up: 0 outside a frame, 1 inside, 2 inside behind 0x1C, 3 skipping a frame
+// that is too long, 4 skipping behind 0x1C. With it the bytes held in the buffer, and the count of the bytes dropped outside.
+pub struct FrameState {
+    pub mode: u64,
+    pub held: usize,
+    pub count: u64,
+}
+
+impl FrameState {
+    // The state at the beginning of a line.
+    pub fn start() -> FrameState
+        ensures { λ r. ⌜ r ≡ start ⌝ }
+    {
+        FrameState {
+            mode: 0,
+            held: 0,
+            count: 0,
+        }
+    }
+}
+
+const MOST_DROPPED: u64 = 4294967295;
+
+// The most that is counted.
+pub fn most_dropped() -> u64
+    ensures { λ r. ⌜ r ≡ mostDropped ⌝ }
+{
+    MOST_DROPPED
+}
+
+// The most bytes of a frame, over a buffer with so much room.
+pub fn limit_of(room: usize) -> usize
+    ensures { λ r. ⌜ r ≡ frameLimit room ⌝ }
+{
+    let most = alphabet::message_limit();
+    if most <= room { most } else { room }
+}
+
+// Whether a run over a buffer with so much room could have ended in the state.
+pub fn is_known(state: FrameState, room: usize) -> bool
+    ensures { λ r. ⌜ r ≡ known room state ⌝ }
+{
+    let most = most_dropped();
+    let limit = limit_of(room);
+    (state.count <= most)
+        & ((((state.mode == 1) | (state.mode == 2)) & (state.held <= limit))
+            | (((state.mode == 0) | ((state.mode == 3) | (state.mode == 4))) & (state.held == 0)))
+}
