@@ -31,3 +31,9 @@ pub mod Among
 pub mod TextNumbers
 pub mod EntryNumbers
 pub mod Chosen
+pub mod FrameLines
+pub mod FrameCuts
+pub mod FramePlaces
+pub mod FrameStates
+pub mod FrameGrammar
+pub mod FrameSamples
