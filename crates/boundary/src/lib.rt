@@ -1,8 +1,9 @@
 // The library as C calls it: numbers and slices in, one struct of numbers out. Each function calls one function of the
-// library and says the same as it does; nothing is written but the buffer that is lent for text. Any lengths and any
-// numbers may be handed in.
+// library and says the same as it does; nothing is written but the buffer that is lent. Any lengths and any numbers may
+// be handed in.
 mod answers;
 mod elements;
+mod framing;
 mod judges;
 mod texts;
 
@@ -13,6 +14,8 @@ pub use elements::CElement;
 pub use elements::CNumber;
 pub use elements::COffset;
 pub use elements::CTime;
+pub use framing::CFed;
+pub use framing::CFrameState;
 pub use judges::CStructure;
 pub use judges::CVerdict;
 pub use texts::turrethog_acknowledge;
