@@ -4,6 +4,7 @@
 use crate::acknowledgement;
 use crate::element::{self, Address, State};
 use crate::fields;
+use crate::frames::{self, Event, Fed, FrameState, Stop};
 use crate::hex;
 use crate::numbers::{self, Numeric};
 use crate::reading::{self, Refusal};
@@ -47,6 +48,8 @@ fn answer_question(line: &[u8]) -> Option<String> {
         b"structure" => answer_structure(words),
         b"verdict" => answer_verdict(words),
         b"ack" => answer_acknowledgement(words),
+        b"frame" => answer_frame(words),
+        b"frames" => answer_frames(words),
         _ => None,
     }
 }
@@ -161,6 +164,58 @@ fn answer_acknowledgement(words: &[&[u8]]) -> Option<String> {
     let (message, time, id) = (bytes(message)?, bytes(time)?, bytes(id)?);
     let room = room_lent(room)?;
     Some(written_words(acknowledgement::acknowledge(&message, &time, &id, room), room))
+}
+
+/// `frame MODE HELD COUNT PIECE ROOM` is answered `NUMBER USED STOP LENGTH MODE HELD COUNT BUFFER`. "The
+/// buffer is ROOM bytes of A5, also those that HELD says were gathered."
+fn answer_frame(words: &[&[u8]]) -> Option<String> {
+    let [mode, held, count, piece, room] = words else { return None };
+    let state = FrameState { mode: number(mode)?, held: number(held)?, count: number(count)? };
+    let piece = bytes(piece)?;
+    let mut buffer = vec![UNWRITTEN; room_lent(room)?];
+    let Fed { stop, used, state } = frames::feed(state, &piece, &mut buffer);
+    let (number, stop, length) = match stop {
+        Stop::More => (0, "more", 0),
+        Stop::Frame(length) => (0, "frame", length),
+        Stop::Drop(number) => (number, "drop", 0),
+        Stop::Refused => (14, "-", 0),
+    };
+    let state = frame_state_words(state);
+    Some(format!("{number} {used} {stop} {length} {state} {}", bytes_word(&buffer)))
+}
+
+/// `frames ROOM PIECE ...`, "one piece or more", is answered `EVENTS MODE HELD COUNT BUFFER`.
+fn answer_frames(words: &[&[u8]]) -> Option<String> {
+    let (room, pieces) = words.split_first()?;
+    if pieces.is_empty() {
+        return None;
+    }
+    let pieces = pieces.iter().map(|piece| bytes(piece)).collect::<Option<Vec<_>>>()?;
+    let mut buffer = vec![UNWRITTEN; room_lent(room)?];
+    let (events, state) = frames::feed_all(&pieces, &mut buffer);
+    let state = frame_state_words(state);
+    Some(format!("{} {state} {}", events_word(&events), bytes_word(&buffer)))
+}
+
+fn frame_state_words(state: FrameState) -> String {
+    format!("{} {} {}", state.mode, state.held, state.count)
+}
+
+/// "EVENTS are joined by commas: `f` and the frame's bytes in hex (`f-` for an empty frame), `40`,
+/// `41`; `-` where there was none."
+fn events_word(events: &[Event]) -> String {
+    if events.is_empty() {
+        return "-".to_string();
+    }
+    let words: Vec<String> = events.iter().map(event_word).collect();
+    words.join(",")
+}
+
+fn event_word(event: &Event) -> String {
+    match event {
+        Event::Frame(message) => format!("f{}", bytes_word(message)),
+        Event::Drop(number) => number.to_string(),
+    }
 }
 
 /// "END is `yes` or `no`; NAMES joined by commas, `-` where none."

@@ -1,5 +1,6 @@
-//! The model: an independent implementation of document 01, written from the documents alone, that
-//! makes and checks the test vectors of the program `ask`. It shares no code and no table with it.
+//! The model: an independent implementation of document 01, and of what document 02 adds to it, that
+//! is written from the documents alone, and that makes and checks the test vectors of the program
+//! `ask`. It shares no code and no table with it.
 //!
 //!     model stored              prints the questions of the stored vectors, always the same
 //!     model wide                prints all questions of some small worlds, too many to be stored, and
@@ -13,6 +14,7 @@ mod ask;
 mod chance;
 mod element;
 mod fields;
+mod frames;
 mod hex;
 mod numbers;
 mod questions;

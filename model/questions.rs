@@ -7,6 +7,9 @@ mod ack_stored;
 mod ack_wide;
 mod filled;
 mod find_stored;
+mod frame_fresh;
+mod frame_stored;
+mod frame_wide;
 mod lifelike;
 mod lookup_fresh;
 mod lookup_stored;
@@ -43,6 +46,9 @@ const LOOKUPS: [&str; 6] = ["find", "nm", "si", "dt", "tm", "ts"];
 /// The verbs that write a text into a buffer, by the same words.
 const TEXTS: [&str; 2] = ["escape", "unescape"];
 
+/// The verbs that read frames: one call, and all calls for some pieces.
+const FRAMES: [&str; 2] = ["frame", "frames"];
+
 /// The delimiters that most senders use.
 const USUAL_DELIMITERS: Delimiters = *br"|^~\&";
 
@@ -62,6 +68,7 @@ pub fn stored() -> Vec<Bytes> {
         structure_stored::stored(),
         verdict_stored::stored(),
         ack_stored::stored(),
+        frame_stored::stored(),
     ];
     // Two sets may hold the same question: once is enough.
     lines.extend(once_each(others.concat()));
@@ -77,6 +84,7 @@ pub fn wide() -> Vec<Bytes> {
         structure_wide::wide(),
         verdict_wide::wide(),
         ack_wide::wide(),
+        frame_wide::wide(),
         limits(),
     ];
     once_each(sets.concat())
@@ -91,6 +99,7 @@ pub fn limits() -> Vec<Bytes> {
         structure_wide::limits(),
         verdict_wide::limits(),
         ack_wide::limits(),
+        frame_wide::limits(),
     ];
     once_each(sets.concat())
 }
@@ -104,13 +113,16 @@ pub fn fresh(chance: &mut Chance) -> Bytes {
 }
 
 fn fresh_question(chance: &mut Chance) -> Bytes {
-    let verbs = [&["read", "structure", "verdict", "ack"], &LOOKUPS[..], &TEXTS[..]].concat();
+    let others = ["read", "structure", "verdict", "ack"];
+    let verbs = [&others, &LOOKUPS[..], &TEXTS[..], &FRAMES[..]].concat();
     match chance.pick(&verbs) {
         "read" => read_fresh::fresh(chance),
         "structure" => structure_fresh::fresh(chance),
         "verdict" => verdict_fresh::fresh(chance),
         "ack" => ack_fresh::fresh(chance),
         verb @ ("escape" | "unescape") => text_fresh::fresh(chance, verb),
+        "frame" => frame_fresh::one_call(chance),
+        "frames" => frame_fresh::all_pieces(chance),
         verb => lookup_fresh::fresh(chance, verb),
     }
 }
@@ -155,6 +167,17 @@ fn ack_question(message: &[u8], time: &[u8], id: &[u8], room: usize) -> Bytes {
     format!("ack {message} {time} {id} {room}").into_bytes()
 }
 
+/// A state is handed over by its three numbers: mode, bytes held, count.
+fn frame_question(state: [u64; 3], piece: &[u8], room: usize) -> Bytes {
+    let [mode, held, count] = state;
+    format!("frame {mode} {held} {count} {} {room}", bytes_word(piece)).into_bytes()
+}
+
+fn frames_question(room: usize, pieces: &[&[u8]]) -> Bytes {
+    let words: Vec<String> = pieces.iter().map(|piece| bytes_word(piece)).collect();
+    format!("frames {room} {}", words.join(" ")).into_bytes()
+}
+
 /// A message of this type, MSH-9 as it stands, with these segments behind its header.
 fn message_of_type(message_type: &str, segments: &[&str]) -> Bytes {
     let header = format!(r"MSH|^~\&|||||||{message_type}");
@@ -189,6 +212,18 @@ fn latin(text: &str) -> Bytes {
 /// A message of these segments, each ended with CR.
 fn message(segments: &[&str]) -> Bytes {
     segments.iter().flat_map(|segment| latin(&format!("{segment}\r"))).collect()
+}
+
+/// Every text of this length over these bytes.
+fn texts(bytes: &[u8], length: usize) -> Vec<Bytes> {
+    let mut texts = vec![Vec::new()];
+    for _ in 0..length {
+        texts = texts
+            .iter()
+            .flat_map(|text| bytes.iter().map(|&byte| [&text[..], &[byte]].concat()))
+            .collect();
+    }
+    texts
 }
 
 /// The message with `byte` at `place`.

@@ -28,6 +28,8 @@ pub fn stored() -> Vec<Bytes> {
     }
     lines.extend(words_of_lookups());
     lines.extend(numbers_of_addresses());
+    lines.extend(words_of_a_frame());
+    lines.extend(words_of_frames());
     lines
 }
 
@@ -80,9 +82,7 @@ fn numbers_of_addresses() -> Vec<Bytes> {
     let mut lines = Vec::new();
     for place in 2..words.len() {
         for number in &telling {
-            let mut words = words.clone();
-            words[place] = number;
-            lines.push(words.join(" ").into_bytes());
+            lines.push(with_word(&words, place, number).into_bytes());
         }
     }
     for verb in LOOKUPS {
@@ -92,6 +92,60 @@ fn numbers_of_addresses() -> Vec<Bytes> {
         }
     }
     lines
+}
+
+/// A `frame` with each count of words, and with each of its words damaged or written otherwise. A
+/// number of the state may be any up to 2^64-1; a mode of 2^64 + 1 is none, and not mode 1.
+fn words_of_a_frame() -> Vec<Bytes> {
+    let whole = "frame 1 1 1 0d0b 2";
+    let words: Vec<&str> = whole.split(' ').collect();
+    let mut lines = Vec::new();
+    for count in 1..words.len() {
+        lines.push(words[..count].join(" "));
+    }
+    for behind in [" ", " 0", " -", "\r", "\0"] {
+        lines.push(format!("{whole}{behind}"));
+    }
+    for place in 1..words.len() {
+        for word in ["", "-", "-1", "+1", "x", "1.0", "18446744073709551617"] {
+            lines.push(with_word(&words, place, word));
+        }
+    }
+    let telling_numbers =
+        ["01", "18446744073709551615", "18446744073709551616", "00000000000000000000001"];
+    for place in 1..=3 {
+        lines.extend(telling_numbers.iter().map(|number| with_word(&words, place, number)));
+    }
+    for piece in ["0D0B", "0d0B", "0", "0d0", "0d0g", "--", "-0d", "0d-"] {
+        lines.push(with_word(&words, 4, piece));
+    }
+    for room in ["02", "65537", "65538", "131074", "4294967298", "18446744073709551618"] {
+        lines.push(with_word(&words, 5, room));
+    }
+    lines.extend(["FRAME 1 1 1 0d0b 2", " frame 1 1 1 0d0b 2"].map(str::to_string));
+    lines.into_iter().map(String::into_bytes).collect()
+}
+
+fn with_word(words: &[&str], place: usize, word: &str) -> String {
+    let mut words = words.to_vec();
+    words[place] = word;
+    words.join(" ")
+}
+
+/// Lines that come near a `frames`: one bad piece, the last too, makes the line no question.
+fn words_of_frames() -> Vec<Bytes> {
+    let near = [
+        "", " ", " 2", " 2 ", " -", "  -", " 2  -", " 2 - ", " 2 -  -", " - -", " 0b 2", " 0b41 2",
+        " a -", " -1 -", " +2 -", " 2x -", " 65537 -", " 65538 0b41", " 4294967298 -",
+        " 18446744073709551615 -", " 18446744073709551618 -", " 2 4", " 2 4g", " 2 0b41 4",
+        " 2 0b41 4g", " 2 4 0b41", " 2 0b4 11c0d", " 2 0b 41 1c 0d 0", " 2 0b41 --", " 2 -- 0b41",
+        " 2 0b41 -1", " 2 0b,41", " 2 0b41,1c0d", " 2 0b41 1c0d\r", " 2 0b41\t1c0d", " 2\t0b41",
+        " 0 0 0 0b41 2", " 02 0B41 1C0d", " 0 00 00 0b41 02", " 00 -", " 2 -", " 2 - -",
+        " 2 - - - -", "s 2 -", "2 -", "\t2 -", "-2 -",
+    ];
+    let mut lines: Vec<String> = near.iter().map(|rest| format!("frames{rest}")).collect();
+    lines.extend(["FRAMES 2 -", " frames 2 -", "frame 2 -", "fram 2 -"].map(str::to_string));
+    lines.into_iter().map(String::into_bytes).collect()
 }
 
 fn text(line: Bytes) -> String {

@@ -1,7 +1,7 @@
 //! The wide set of the verbs `escape` and `unescape`: every short text over bytes that tell rules
 //! apart, every byte at each of the five delimiters, and the largest buffer.
 
-use super::{changed, text_question, Bytes, TEXTS, USUAL_DELIMITERS};
+use super::{changed, text_question, texts, Bytes, TEXTS, USUAL_DELIMITERS};
 use crate::ask::{LONGEST_LINE, MOST_ROOM};
 
 /// The delimiters, digits and letters of sequences and their neighbours, and the edges of what is
@@ -19,18 +19,6 @@ pub fn wide() -> Vec<Bytes> {
 /// What is as large as a limit.
 pub fn limits() -> Vec<Bytes> {
     largest_buffer()
-}
-
-/// Every text of this length over these bytes.
-fn texts(bytes: &[u8], length: usize) -> Vec<Bytes> {
-    let mut texts = vec![Vec::new()];
-    for _ in 0..length {
-        texts = texts
-            .iter()
-            .flat_map(|text| bytes.iter().map(|&byte| [&text[..], &[byte]].concat()))
-            .collect();
-    }
-    texts
 }
 
 fn by_both_verbs(texts: &[Bytes], room: usize) -> Vec<Bytes> {
