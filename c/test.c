@@ -11,6 +11,8 @@
 
 #define MOST 16000000
 #define LARGEST_ROOM 65536
+/* A longer line is none of the program's questions. */
+#define LONGEST_LINE 300000
 
 typedef struct {
     const char *at;
@@ -18,10 +20,11 @@ typedef struct {
 } text;
 
 static char questions[MOST], answers[MOST];
-static char said[3 * LARGEST_ROOM];
+/* The longest answer shows a buffer, behind up to one and a half characters for each of the question: `40,` for each `0b` of the frames. */
+static char said[3 * LARGEST_ROOM + 3 * LONGEST_LINE / 2];
 static size_t said_length;
 static uint8_t bytes[3][200000];
-static uint8_t buffer[LARGEST_ROOM];
+static uint8_t buffer[LARGEST_ROOM], unwritten[LARGEST_ROOM];
 
 /* ---- the lines and their words */
 
@@ -46,16 +49,24 @@ static text next_line(const char *from, size_t length, size_t *place)
     return line;
 }
 
+/* The word at the place, which is behind its space afterwards: past the line's end behind the last word. */
+static text next_word(text line, size_t *place)
+{
+    text word = {line.at + *place, 0};
+    const char *end = memchr(word.at, ' ', line.length - *place);
+    word.length = end == NULL ? line.length - *place : (size_t)(end - word.at);
+    *place += word.length + 1;
+    return word;
+}
+
+/* How many words there are, or one more than the most where there are more than that. */
 static size_t words_of(text line, text *words, size_t most)
 {
-    size_t count = 0, start = 0;
-    for (size_t i = 0; i <= line.length; i++) {
-        if (i < line.length && line.at[i] != ' ')
-            continue;
-        if (count == most)
-            return 0;
-        words[count++] = (text){line.at + start, i - start};
-        start = i + 1;
+    size_t count = 0;
+    for (size_t place = 0; place <= line.length && count <= most; count++) {
+        text word = next_word(line, &place);
+        if (count < most)
+            words[count] = word;
     }
     return count;
 }
@@ -134,13 +145,35 @@ static void say_names(const uint8_t *message, size_t length, size_t count)
         SAY(" and a name past the last");
 }
 
+static void say_bytes(size_t length)
+{
+    for (size_t i = 0; i < length; i++) {
+        said[said_length++] = "0123456789abcdef"[buffer[i] >> 4];
+        said[said_length++] = "0123456789abcdef"[buffer[i] & 15];
+    }
+    if (length == 0)
+        SAY("-");
+}
+
+/* The buffer lent. Behind it nothing may have been written. */
+static void say_buffer(size_t room)
+{
+    SAY(" ");
+    say_bytes(room);
+    if (memcmp(buffer + room, unwritten, sizeof buffer - room) != 0)
+        SAY(" and a byte behind the buffer");
+}
+
 static void say_written(turrethog_answer answer, size_t room)
 {
-    SAY("%u %zu %zu ", (unsigned)answer.number, answer.place, answer.length);
-    for (size_t i = 0; i < room; i++)
-        SAY("%02x", buffer[i]);
-    if (room == 0)
-        SAY("-");
+    SAY("%u %zu %zu", (unsigned)answer.number, answer.place, answer.length);
+    say_buffer(room);
+}
+
+static void say_frame_state(turrethog_frame_state state, size_t room)
+{
+    SAY(" %lu %zu %lu", (unsigned long)state.mode, state.held, (unsigned long)state.count);
+    say_buffer(room);
 }
 
 /* ---- the questions */
@@ -151,9 +184,13 @@ typedef struct {
     size_t called;
 } function;
 
+/* Three words or more. */
+#define ANY_NUMBER 0
+
 static function functions[] = {
     {"read", 2, 0}, {"find", 7, 0}, {"nm", 7, 0},       {"si", 7, 0},        {"dt", 7, 0},      {"tm", 7, 0},
     {"ts", 7, 0},   {"escape", 4, 0}, {"unescape", 4, 0}, {"structure", 2, 0}, {"verdict", 2, 0}, {"ack", 5, 0},
+    {"frame", 6, 0}, {"frames", ANY_NUMBER, 0},
 };
 
 static void look_up(text verb, const uint8_t *m, size_t n, const text *words)
@@ -211,22 +248,101 @@ static void judge(text verb, const uint8_t *m, size_t n)
     }
 }
 
+static bool same_state(turrethog_frame_state a, turrethog_frame_state b)
+{
+    return a.mode == b.mode && a.held == b.held && a.count == b.count;
+}
+
+/* What the header says of every answer of turrethog_feed: a frame or a drop has used a byte of the piece, else it is used up; what is no frame
+ * has no length; 14 has used and changed nothing. Empty where it is so. */
+static const char *fault_in(turrethog_fed fed, turrethog_frame_state before, size_t length, size_t room)
+{
+    uint32_t n = fed.number;
+    switch (fed.stop) {
+    case TURRETHOG_MORE: return n == 0 && fed.used == length && fed.length == 0 ? "" : " and more is wrong";
+    case TURRETHOG_FRAME: return n == 0 && 0 < fed.used && fed.used <= length && fed.length <= room ? "" : " and the frame is wrong";
+    case TURRETHOG_DROP:
+        return (n == TURRETHOG_BROKEN_FRAME || n == TURRETHOG_FRAME_TOO_LONG) && 0 < fed.used && fed.used <= length && fed.length == 0
+                   ? ""
+                   : " and the drop is wrong";
+    case TURRETHOG_REFUSED:
+        return n == TURRETHOG_NO_ROOM && fed.used == 0 && fed.length == 0 && same_state(fed.state, before) ? "" : " and the refusal is wrong";
+    default: return " and there is no such stop";
+    }
+}
+
+static void take_piece(const text *words)
+{
+    static const char *const stops[] = {"more", "frame", "drop", "-"};
+    turrethog_frame_state state = {number_of(words[1]), number_of(words[2]), number_of(words[3])};
+    size_t length = hex_of(words[4], bytes[0]), room = number_of(words[5]);
+    memset(buffer, 0xa5, sizeof buffer);
+    turrethog_fed fed = turrethog_feed(state, bytes[0], length, buffer, room);
+    SAY("%u %zu %s %zu", (unsigned)fed.number, fed.used, fed.stop < 4 ? stops[fed.stop] : "?", fed.length);
+    say_frame_state(fed.state, room);
+    SAY("%s", fault_in(fed, state, length, room));
+}
+
+static void say_event(turrethog_fed fed, bool first)
+{
+    SAY("%s", first ? "" : ",");
+    if (fed.stop == TURRETHOG_DROP) {
+        SAY("%u", (unsigned)fed.number);
+    } else {
+        SAY("f");
+        say_bytes(fed.length);
+    }
+}
+
+/* Takes all pieces of a line, each until it is used up. */
+static void take_line(text line)
+{
+    size_t place = 0, events = 0;
+    next_word(line, &place);
+    size_t room = number_of(next_word(line, &place));
+    turrethog_frame_state state = {0, 0, 0};
+    memset(buffer, 0xa5, sizeof buffer);
+    while (place <= line.length) {
+        size_t length = hex_of(next_word(line, &place), bytes[0]), used = 0;
+        for (bool more = true; more;) {
+            turrethog_fed fed = turrethog_feed(state, bytes[0] + used, length - used, buffer, room);
+            const char *fault = fault_in(fed, state, length - used, room);
+            if (*fault != '\0' || fed.stop == TURRETHOG_REFUSED) {
+                SAY("%s behind %zu events", fault, events);
+                return;
+            }
+            state = fed.state;
+            used += fed.used;
+            more = fed.stop != TURRETHOG_MORE;
+            if (more)
+                say_event(fed, events++ == 0);
+        }
+    }
+    if (events == 0)
+        SAY("-");
+    say_frame_state(state, room);
+}
+
 static bool ask(text line)
 {
-    text words[8];
-    size_t count = words_of(line, words, 8);
+    text words[7];
+    size_t count = words_of(line, words, 7);
     said_length = 0;
-    for (size_t f = 0; f < sizeof functions / sizeof *functions; f++) {
-        if (count != functions[f].words || !is(words[0], functions[f].verb))
+    for (size_t f = 0; f < sizeof functions / sizeof *functions && line.length <= LONGEST_LINE; f++) {
+        bool fits = functions[f].words == ANY_NUMBER ? count >= 3 : count == functions[f].words;
+        if (!fits || !is(words[0], functions[f].verb))
             continue;
-        size_t n = hex_of(words[1], bytes[0]);
         functions[f].called++;
-        if (count == 7)
-            look_up(words[0], bytes[0], n, words);
+        if (functions[f].words == ANY_NUMBER)
+            take_line(line);
+        else if (count == 6)
+            take_piece(words);
+        else if (count == 7)
+            look_up(words[0], bytes[0], hex_of(words[1], bytes[0]), words);
         else if (count == 2)
-            judge(words[0], bytes[0], n);
+            judge(words[0], bytes[0], hex_of(words[1], bytes[0]));
         else
-            write_text(words[0], bytes[0], n, words);
+            write_text(words[0], bytes[0], hex_of(words[1], bytes[0]), words);
         return true;
     }
     return false;
@@ -256,6 +372,7 @@ int main(int count, char **names)
 {
     if (count < 3 || count % 2 == 0)
         return 2;
+    memset(unwritten, 0xa5, sizeof unwritten);
     for (int i = 1; i < count; i += 2)
         if (!agree(names[i], names[i + 1]))
             return 1;

@@ -1,8 +1,10 @@
-/* Turrethog: reads, judges and acknowledges HL7 v2.4 messages, and escapes and unescapes their text.
+/* Turrethog: takes the frames of HL7 v2.4 messages off the line, reads, judges and acknowledges the messages, and escapes and unescapes their
+ * text.
  *
  * Any bytes may be handed in. Every function ends, answers or refuses by a number of the table below, keeps no state, and may be called from
- * any thread. Nothing is written but the buffer that is lent to the three functions that write, and after a refusal that buffer holds the
- * bytes that it held before.
+ * any thread. Nothing is written but the buffer that is lent to the four functions that write, and after a refusal that buffer holds the
+ * bytes that it held before; but for 40 and 41 of turrethog_feed, after which each place of it holds the byte last gathered there, or what it
+ * held at first.
  *
  * What the caller owes: each pointer is not NULL, also where its length is 0, and leads to as many bytes as the length says; a buffer that is
  * lent for writing overlaps none of the other arguments. The library does not and cannot check this.
@@ -38,7 +40,7 @@ enum {
     TURRETHOG_SEPARATOR = 11,                /* a delimiter that stands as itself */
     TURRETHOG_UNKNOWN_ESCAPE = 12,           /* an escape that is not in the table */
     TURRETHOG_UNCLOSED_ESCAPE = 13,          /* an escape that never ends */
-    TURRETHOG_NO_ROOM = 14,                  /* the result is longer than the buffer; place 0 */
+    TURRETHOG_NO_ROOM = 14,                  /* the result is longer than the buffer; place 0. In framing: see there */
     TURRETHOG_TEXT_TOO_LONG = 14,            /* the same, by its older name */
     TURRETHOG_NULL_TEXT = 15,                /* two quotes are null, and no text; place 0 */
     /* acknowledging: place 0 */
@@ -57,7 +59,10 @@ enum {
     TURRETHOG_REQUIRED_NULL = 34,            /* a required field is null */
     TURRETHOG_VALUE_WITHOUT_TYPE = 35,       /* a value in OBX-5, and no type in OBX-2 */
     TURRETHOG_REPEATED = 36,                 /* a field that may not repeat does */
-    TURRETHOG_VALUE_TOO_LONG = 37            /* over 20 bytes, or well formed and over 18 digits */
+    TURRETHOG_VALUE_TOO_LONG = 37,           /* over 20 bytes, or well formed and over 18 digits */
+    /* framing: no place is given. 14 is there a state that no run with that buffer's length could have reached */
+    TURRETHOG_BROKEN_FRAME = 40,             /* a frame has 0B in it, or behind its 1C another byte than 0D */
+    TURRETHOG_FRAME_TOO_LONG = 41            /* a frame has over 32,768 bytes, or more than the buffer */
 };
 
 /* The four states of an element. An empty box is not a zero, and null is neither. */
@@ -78,7 +83,30 @@ enum {
     TURRETHOG_MINUS = 2
 };
 
+/* What turrethog_feed stopped at. */
+enum {
+    TURRETHOG_MORE = 0,   /* the piece is used up: it goes on with the next */
+    TURRETHOG_FRAME = 1,  /* a frame, at the front of the buffer */
+    TURRETHOG_DROP = 2,   /* a dropped frame: 40 or 41 */
+    TURRETHOG_REFUSED = 3 /* the state handed in: 14 */
+};
+
 /* ---- What comes back */
+
+/* Where a line stands between two pieces. All zeros is the start. */
+typedef struct {
+    uint64_t mode;  /* 0 outside a frame, 1 in one, 2 in one behind its 1C, 3 skipping one that was too long, 4 skipping behind its 1C */
+    size_t held;    /* the bytes gathered of the frame; 0 in modes 0, 3 and 4 */
+    uint64_t count; /* the bytes dropped outside frames since the start; it stays at 2^32-1 */
+} turrethog_frame_state;
+
+typedef struct {
+    uint32_t number;
+    uint32_t stop;
+    size_t used;                 /* bytes of the piece, with the one that it stopped at; 0 after 14 */
+    size_t length;               /* of the frame; 0 where it did not stop at one */
+    turrethog_frame_state state; /* for the next call; after 14 as it was handed in */
+} turrethog_fed;
 
 typedef struct {
     uint32_t number;
@@ -146,6 +174,22 @@ typedef struct {
     size_t repetition; /* 0 but for 31 to 37 */
     size_t names;
 } turrethog_verdict_answer;
+
+/* ---- Framing. On a line of MLLP each message stands in a frame: 0B, the message, 1C, 0D. It comes in pieces of any size. */
+
+/* Takes a piece of the line up to the end of the next frame, or to where one is dropped, and gathers the frame's bytes at the front of the
+ * buffer: 0, 14, 40, 41. The frames, the drops and the state at the end are the same however the line was cut.
+ *
+ * The state is the caller's: all zeros when the line opens, and from then on what the last call handed back. While a frame is gathered the
+ * same buffer has to come back untouched; between frames it may be used as one likes. After a frame or a drop call again with the rest, at
+ * piece + used: each has used one byte at least, and the piece is done where it stops at TURRETHOG_MORE.
+ *
+ * Bytes outside frames are dropped and counted. 0B in a frame drops what was gathered (40) and begins the next; so does 1C with 0B behind
+ * it. 1C with any other byte than 0D behind it drops the frame and that byte (40). The limit is 32,768 or room, the smaller: a frame over it
+ * is dropped at its first byte over (41, once), and skipped to the next 0B, which begins a frame, or through 1C and another byte than 0B.
+ *
+ * A frame that is open when the line closes is not reported. It is seen in the state: mode 1 or 2, or 3 or 4 where its 41 was given. */
+turrethog_fed turrethog_feed(turrethog_frame_state state, const uint8_t *piece, size_t length, uint8_t *buffer, size_t room);
 
 /* ---- Reading */
 

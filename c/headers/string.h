@@ -7,4 +7,5 @@ int memcmp(const void *a, const void *b, size_t n);
 void *memset(void *to, int byte, size_t n);
 void *memchr(const void *in, int byte, size_t n);
 int strcmp(const char *a, const char *b);
+char *strerror(int error);
 #endif
