@@ -55,7 +55,7 @@ told-stop Frame h n t = refl
 told-stop Broken h n t = refl
 told-stop Long h n t = refl
 
-told-used : (e : Event) (h n : ℕ) (t : FrameState) → told e h n t .used ≡ n
+pub told-used : (e : Event) (h n : ℕ) (t : FrameState) → told e h n t .used ≡ n
 unfolding told
 told-used Quiet h n t = refl
 told-used Frame h n t = refl

@@ -144,3 +144,21 @@ unreached-refused s p d u = at (known (length d) s) refl
 
 pub reached-taken : (s : FrameState) (p d : List ℕ) → Reached (length d) s → fed s p d .said .answer .kind ≡ N.NoRoom → ⊥
 reached-taken s p d r = never-refused s p d (reached-known (length d) s r)
+
+pub taken-reached : (s : FrameState) (p d : List ℕ) → (fed s p d .said .answer .kind ≡ N.NoRoom → ⊥) → Reached (length d) s
+unfolding foreign
+taken-reached s p d taken = at (known (length d) s) refl
+  where
+    at : (t : Bool) → known (length d) s ≡ t → Reached (length d) s
+    at true e = known-reached (length d) s e
+    at false e = absurd (taken (rw (fed-foreign s p d e)))
+
+-- 14 changes nothing
+pub refused-leaves : (s : FrameState) (p d : List ℕ) → fed s p d .said .answer .kind ≡ N.NoRoom
+    → (fed s p d .said .state ≡ s) × (fed s p d .left ≡ d) × (fed s p d .said .used ≡ 0)
+unfolding foreign
+refused-leaves s p d r = at (known (length d) s) refl
+  where
+    at : (t : Bool) → known (length d) s ≡ t → (fed s p d .said .state ≡ s) × (fed s p d .left ≡ d) × (fed s p d .said .used ≡ 0)
+    at true e = absurd (never-refused s p d e r)
+    at false e = let f = fed-foreign s p d e in (rw f, rw f, rw f)

@@ -36,4 +36,5 @@ pub mod FrameCuts
 pub mod FramePlaces
 pub mod FrameStates
 pub mod FrameGrammar
+pub mod FrameNumbers
 pub mod FrameSamples

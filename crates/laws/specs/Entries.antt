@@ -37,3 +37,7 @@ ofVerdict = 31 ∷ 32 ∷ 33 ∷ 34 ∷ 35 ∷ 36 ∷ 37 ∷ ofStructure
 -- "Acknowledging: 16, 17, 9, 10."
 abbrev pub ofAcknowledging : List ℕ
 ofAcknowledging = 0 ∷ 16 ∷ 17 ∷ 9 ∷ 10 ∷ []
+
+-- document 02, W1: "New numbers 40 (broken frame) and 41 (frame too long)", and 14 for a state that cannot be
+abbrev pub ofFraming : List ℕ
+ofFraming = 0 ∷ 14 ∷ 40 ∷ 41 ∷ []

@@ -3,3 +3,4 @@ pub mod Elements
 pub mod Held
 pub mod Entries
 pub mod Types
+pub mod Framed

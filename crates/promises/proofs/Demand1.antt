@@ -1,18 +1,23 @@
 -- Demand 1: "Any bytes may arrive. Every entry point takes any input, ends, and answers or refuses by the number in the table. After a refusal every
--- buffer lent holds the bytes it held before." That every function takes any input, ends and stays in bounds is what the checker says of each, since none has a
--- `requires`; these are the numbers and the buffers, of what the contracts cite, for all inputs. Reading.antt says when the reader gives which number, and where.
--- Assumes nothing.
+-- buffer lent holds the bytes it held before." Of the frame reader alone, whose frames are gathered over several calls, document 02, W1 says in place of the last
+-- sentence: "each place of the lent buffer holds the byte last gathered there, or what it held at first"; its 14 leaves the buffer as every other refusal does.
+-- That every function takes any input, ends and stays in bounds is what the checker says of each, since none has a `requires`; these are the numbers and the
+-- buffers, of what the contracts cite, for all inputs. Reading.antt says when the reader gives which number, and where. Assumes nothing.
 use mathlib.Core.Path.{_≡_, refl}
 use mathlib.Core.List.{List}
 use Prim.Native.Nat.{ℕ}
-use lib.ListN.{length}
+use lib.ListN.{length, getD, take}
 use Rattle.alphabet.specs.Answers.{numberOf, answered}
 use Rattle.alphabet.specs.declared.answers.Answer.{Answer}
-use Rattle.alphabet.specs.declared.answers.Refusal.the-variants.{None}
+use Rattle.alphabet.specs.declared.answers.Refusal.the-variants.{None, NoRoom}
 use Rattle.reading.specs.Reading.{reading}
 use Rattle.element.specs.Finding.{found}
 use Rattle.element.specs.declared.address.Address.{Address}
 use Rattle.value.specs.Asked.{nmFound, siFound, dtFound, tmFound, tsFound}
+use Rattle.frames.specs.declared.state.FrameState.{FrameState}
+use Rattle.frames.specs.Wire.{frameLimit}
+use Rattle.frames.specs.Feeding.{fed}
+use Rattle.frames.specs.Gathered.{gathered, lastAt}
 use Rattle.escaping.specs.Outcomes.{Outcome, text, fault}
 use Rattle.escaping.specs.Outcomes.{escaping, answer, filled}
 use Rattle.text.specs.Unescape.{unescaping}
@@ -22,8 +27,11 @@ use Rattle.fault.specs.declared.FaultRecord.{FaultRecord}
 use Rattle.verdict.specs.Verdicts.{Verdicts}
 use Rattle.acknowledgement.specs.Acknowledgement.{Acknowledges}
 use Rattle.acknowledgement.proofs.AnswerLaws.{refusal-leaves}
-use Rattle.laws.specs.Entries.{ofReading, ofFinding, ofNm, ofForm, ofEscaping, ofUnescaping, ofStructure, ofVerdict, ofAcknowledging}
+use Rattle.laws.specs.Entries.{ofReading, ofFinding, ofNm, ofForm, ofEscaping, ofUnescaping, ofStructure, ofVerdict, ofAcknowledging, ofFraming}
 use Rattle.laws.proofs.EntryNumbers as Entries
+use Rattle.laws.proofs.FrameNumbers as Frames
+use Rattle.laws.proofs.FramePlaces.{call-holds, call-size}
+use Rattle.laws.proofs.FrameStates.{refused-leaves}
 
 -- ---- "answers or refuses by the number in the table"
 
@@ -64,6 +72,9 @@ escape-numbers = Entries.escape-numbers
 pub unescape-numbers : (ds s : List ℕ) (room : ℕ) → In (numberOf (answer (unescaping ds s room) .kind)) ofUnescaping
 unescape-numbers = Entries.unescape-numbers
 
+pub feed-numbers : (s : FrameState) (piece lent : List ℕ) → In (numberOf (fed s piece lent .said .answer .kind)) ofFraming
+feed-numbers = Frames.feed-numbers
+
 -- ---- "After a refusal every buffer lent holds the bytes it held before."
 
 pub escape-leaves : (ds t lent : List ℕ) → (answer (escaping ds t (length lent)) .kind ≡ None → ⊥) → filled (escaping ds t (length lent)) lent ≡ lent
@@ -80,3 +91,18 @@ pub refused-length : (o : Outcome) → (answer o .kind ≡ None → ⊥) → ans
 unfolding answer
 refused-length (text t) some = absurd (some refl)
 refused-length (fault kind place) some = refl
+
+-- ---- of the frame reader: "each place of the lent buffer holds the byte last gathered there, or what it held at first"
+
+-- behind each call, from any state, of the bytes that it used; there are as many places as before
+pub feed-holds : (s : FrameState) (piece lent : List ℕ) (i : ℕ)
+    → getD (fed s piece lent .left) i 0 ≡ lastAt i (gathered (frameLimit (length lent)) s (take (fed s piece lent .said .used) piece)) (getD lent i 0)
+feed-holds = call-holds
+
+pub feed-size : (s : FrameState) (piece lent : List ℕ) → length (fed s piece lent .left) ≡ length lent
+feed-size = call-size
+
+-- 14 leaves the state and the buffer, and uses nothing
+pub feed-leaves : (s : FrameState) (piece lent : List ℕ) → fed s piece lent .said .answer .kind ≡ NoRoom
+    → (fed s piece lent .said .state ≡ s) × (fed s piece lent .left ≡ lent) × (fed s piece lent .said .used ≡ 0)
+feed-leaves = refused-leaves

@@ -9,7 +9,7 @@ use lib.Dec.{ltb}
 use lib.ListN.{length, getD, take, replicate}
 use Rattle.alphabet.specs.Answers.{numberOf}
 use Rattle.alphabet.specs.declared.answers.Check.the-variants.{Passes}
-use Rattle.alphabet.specs.declared.answers.Refusal.the-variants.{None, SegmentMisplaced, EndedEarly}
+use Rattle.alphabet.specs.declared.answers.Refusal.the-variants.{None, NoRoom, SegmentMisplaced, EndedEarly}
 use Rattle.reading.specs.Reading.{reading}
 use Rattle.escaping.specs.Outcomes.{escaping, answer, filled}
 use Rattle.text.specs.Unescape.{unescaping}
@@ -25,16 +25,23 @@ use Rattle.structure.proofs.OnlyOne.{only-one}
 use Rattle.verdict.specs.Verdicts.{Accepts}
 use Rattle.alphabet.proofs.CheckLaws.{number-none}
 use Rattle.verdict.proofs.VerdictLaws.{accepts-exactly as verdict-accepts}
+use Rattle.frames.specs.declared.state.FrameState.{FrameState}
+use Rattle.frames.specs.declared.feeding.Fed.{Fed}
+use Rattle.frames.specs.Feeding.{fed}
+use Rattle.boundary.specs.Framing.{handedIn, handedBack, fedSeen}
+use Rattle.boundary.specs.declared.framing.CFrameState.{CFrameState}
 use Rattle.boundary.specs.Seen.{seen, structureSeen, StructureSeen, VerdictSeen, NameSeen, AcknowledgeSeen}
 use Rattle.boundary.specs.declared.answers.CAnswer.{CAnswer}
 use Rattle.boundary.specs.declared.judges.CStructure.{CStructure}
 use Rattle.boundary.specs.declared.judges.CVerdict.{CVerdict}
 use Rattle.laws.proofs.NameLists.{in-at, at-in, front-at, behind-at, once-each}
 use Rattle.laws.proofs.RoundTrip.{AreBytes}
+use Rattle.laws.specs.Framed.{Framed, used-up, a-frame, broken-frame, long-frame, foreign-state}
+use Rattle.laws.proofs.FrameNumbers.{feed-framed}
 use Rattle.promises.specs.Acknowledgements.{Carries}
 use Rattle.promises.specs.ForC.{NamesOneByOne}
 use Rattle.promises.specs.Structures.{Exactly, accepted, refused, RefusedExactly}
-use Rattle.promises.proofs.Demand1.{escape-leaves, unescape-leaves, acknowledge-leaves}
+use Rattle.promises.proofs.Demand1.{escape-leaves, unescape-leaves, acknowledge-leaves, feed-leaves}
 use Rattle.promises.proofs.Demand2.{acknowledgement-carries}
 use Rattle.promises.proofs.Demand3.{structure-exactly, accepts-exactly}
 
@@ -131,3 +138,22 @@ c-verdict-exactly m v =
     let e = verdict-accepts m (v .answers) in
     let seen-number = ap (λ (c : CVerdict). c .number) (v .seen-as) in
     (λ z. e .0 (number-none (v .fault .kind) (sym seen-number ∙ z)), λ a. seen-number ∙ ap numberOf (e .1 a))
+
+-- ---- the frame reader: the state that C gets is the one that the library gave, and handed in again it is that one
+
+pub c-state-comes-back : (f : Fed) → handedIn (fedSeen f .state) ≡ f .state
+c-state-comes-back f = refl
+
+-- 14 leaves the state and the buffer
+pub c-feed-leaves : (s : CFrameState) (piece lent : List ℕ) → fedSeen (fed (handedIn s) piece lent .said) .number ≡ 14
+    → (fedSeen (fed (handedIn s) piece lent .said) .state ≡ s) × (fed (handedIn s) piece lent .left ≡ lent)
+c-feed-leaves s piece lent e =
+    let l = feed-leaves (handedIn s) piece lent (by (feed-framed (handedIn s) piece lent) e) in
+    (ap handedBack (l .0), l .1)
+  where
+    by : {f : Fed} → Framed f → numberOf (f .answer .kind) ≡ 14 → f .answer .kind ≡ NoRoom
+    by (used-up n t) q = absurd (omega arith)
+    by (a-frame size n t) q = absurd (omega arith)
+    by (broken-frame n t) q = absurd (omega arith)
+    by (long-frame n t) q = absurd (omega arith)
+    by (foreign-state t) q = refl

@@ -8,3 +8,4 @@ pub mod Values
 pub mod ForC
 pub mod Texts
 pub mod Refusals
+pub mod Frames
