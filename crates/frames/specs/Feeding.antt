@@ -45,7 +45,8 @@ stopping Long = true
 -- reader stopped at, and the state
 unfoldable pub told : Event → ℕ → ℕ → FrameState → Fed
 told Quiet h n t = record { answer = answered Passes; used = n; stop = S.More; state = t }
-told Frame h n t = record { answer = record { kind = None; place = 0; length = h }; used = n; stop = S.Frame; state = t }
+told Frame h n t =
+    record { answer = record { kind = None; place = 0; length = h }; used = n; stop = S.Frame; state = t }
 told Broken h n t = record { answer = answered (Fails BrokenFrame 0); used = n; stop = S.Drop; state = t }
 told Long h n t = record { answer = answered (Fails FrameTooLong 0); used = n; stop = S.Drop; state = t }
 

@@ -1,6 +1,6 @@
--- What is gathered in the buffer. Document 02, W1: "each place of the lent buffer holds the byte last gathered there, or
--- what it held at first". Said twice: of the bytes that the reader gathers one by one from any state, and of the bodies
--- that the grammar finds in a line (specs/Wired.antt).
+-- What is gathered in the buffer. Document 02, W1: "each place of the lent buffer holds the byte last gathered there,
+-- or what it held at first". Said twice: of the bytes that the reader gathers one by one from any state, and of the
+-- bodies that the grammar finds in a line (specs/Wired.antt).
 use Prim.Native.Nat.{ℕ}
 use mathlib.Core.List.{List, [], _∷_}
 use mathlib.Core.Bool.{cond}
@@ -18,7 +18,8 @@ pub record Gathered : Type 0 where
 unfoldable pub gathered : ℕ → FrameState → List ℕ → List Gathered
 gathered limit s [] = []
 gathered limit s (b ∷ bytes) =
-    cond (stepped limit s b .gathers) (record { place = s .held; byte = b } ∷ gathered limit (stepped limit s b .after) bytes)
+    cond (stepped limit s b .gathers)
+    (record { place = s .held; byte = b } ∷ gathered limit (stepped limit s b .after) bytes)
     (gathered limit (stepped limit s b .after) bytes)
 
 -- the byte last gathered at a place, or what it held at first

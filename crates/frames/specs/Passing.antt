@@ -1,4 +1,5 @@
--- For the private functions alone that pass over bytes of one kind at once: they do nothing that single bytes would not.
+-- For the private functions alone that pass over bytes of one kind at once: they do nothing that single bytes would
+-- not.
 use Prim.Native.Nat.{ℕ, _+_, _-_, _≤_}
 use mathlib.Core.Path.{_≡_}
 use mathlib.Core.List.{List}

@@ -1,6 +1,6 @@
 -- What a caller does with a line that comes in pieces: each piece is handed in with the state and the buffer that came
--- back before, and after a stop what is left of the piece is handed in again. Nothing of the piece's cut, no `used` and no
--- place, is part of what a run gives.
+-- back before, and after a stop what is left of the piece is handed in again. Nothing of the piece's cut, no `used` and
+-- no place, is part of what a run gives.
 use Prim.Native.Nat.{ℕ}
 use mathlib.Core.Path.{_≡_}
 use mathlib.Core.List.{List, [], _∷_, _++_}
@@ -16,8 +16,8 @@ pub data Happening : Type 0 where
   frame : List ℕ → Happening
   dropped : Refusal → Happening
 
--- `Runs s d ps es t x`: the pieces ps, handed in from the state s over the buffer d, give the happenings es, the end state
--- t and the buffer x
+-- `Runs s d ps es t x`: the pieces ps, handed in from the state s over the buffer d, give the happenings es, the end
+-- state t and the buffer x
 pub data Runs : FrameState → List ℕ → List (List ℕ) → List Happening → FrameState → List ℕ → Type 0 where
   done : {s : FrameState} {d : List ℕ} → Runs s d [] [] s d
   -- the piece is used up: the next one

@@ -30,8 +30,8 @@ pub data Place : Type 0 where
   out : Place
   opened : Place
 
--- `Wired limit p n l es cs t`: from p, with n bytes dropped before, the line l gives the happenings es, the bodies cs are
--- gathered, each up to the limit, and it ends in t
+-- `Wired limit p n l es cs t`: from p, with n bytes dropped before, the line l gives the happenings es, the bodies cs
+-- are gathered, each up to the limit, and it ends in t
 pub data Wired (limit : ℕ) : Place → ℕ → List ℕ → List Happening → List (List ℕ) → FrameState → Type 0 where
   -- "Bytes outside a frame are dropped and counted"
   ended : {n : ℕ} → Wired limit out n [] [] [] (outside n)

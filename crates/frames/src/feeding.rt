@@ -1,5 +1,5 @@
-// A piece of the line: runs of bytes that do the same, and the byte behind each, to the first frame or dropped frame, or
-// to the piece's end.
+// A piece of the line: runs of bytes that do the same, and the byte behind each, to the first frame or dropped frame,
+// or to the piece's end.
 use crate::runs::pass;
 use crate::state::FrameState;
 use crate::state::is_known;
@@ -117,6 +117,8 @@ impl FrameState {
             if i == piece.len() {
                 return told(Event::Quiet, 0, i, self);
             }
+            // The loop is right whatever a run passes over. A run takes every byte that is gathered, so the store is
+            // what the step asks for, and is not reached.
             let b = piece[i];
             let held = self.held;
             let step = step_by(limit, self, b);

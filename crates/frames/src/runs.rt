@@ -1,7 +1,10 @@
 // Runs of bytes that do the same: dropped outside a frame, gathered, or skipped. They are passed over at once.
 use crate::state::CLOSES;
 use crate::state::FrameState;
+use crate::state::INSIDE;
 use crate::state::OPENS;
+use crate::state::OUTSIDE;
+use crate::state::SKIPPING;
 use crate::state::most_dropped;
 ghost use mathlib.Core.Path.{_≡_};
 ghost use mathlib.Core.Bool.{true};
@@ -34,18 +37,18 @@ pub fn pass(limit: usize, state: FrameState, rest: &[u8], buffer: &mut [u8]) -> 
     requires { ⌜ (limit ≡ frameLimit (length (now buffer))) × (known (length (now buffer)) state ≡ true) ⌝ }
     ensures { λ r. ⌜ Passes limit state (now (rest .entry)) (now (buffer .entry)) r (now (buffer .exit)) ⌝ }
 {
-    if state.mode == 0 {
+    if state.mode == OUTSIDE {
         let dropped = alphabet::find_far(rest, OPENS);
         return Passed {
             run: dropped,
             state: FrameState {
-                mode: 0,
+                mode: OUTSIDE,
                 held: 0,
                 count: counted_on(state.count, dropped),
             },
         };
     }
-    if state.mode == 1 {
+    if state.mode == INSIDE {
         let held = state.held;
         let mut run = search::find_either(rest, OPENS, CLOSES);
         if limit - held < run {
@@ -55,13 +58,13 @@ pub fn pass(limit: usize, state: FrameState, rest: &[u8], buffer: &mut [u8]) -> 
         return Passed {
             run: run,
             state: FrameState {
-                mode: 1,
+                mode: INSIDE,
                 held: held + run,
                 count: state.count,
             },
         };
     }
-    if state.mode == 3 {
+    if state.mode == SKIPPING {
         return Passed {
             run: search::find_either(rest, OPENS, CLOSES),
             state: state,

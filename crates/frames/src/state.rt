@@ -1,4 +1,4 @@
-// The reader's state, which goes in with each piece and comes back, and which of them can be.
+// The reader's state, which goes in with each piece and comes back, and which states can be.
 ghost use mathlib.Core.Path.{_≡_};
 ghost use Rattle.frames.specs.Wire.{mostDropped, frameLimit};
 ghost use Rattle.frames.specs.Feeding.{known};
@@ -9,8 +9,19 @@ pub const OPENS: u8 = 11;
 
 pub const CLOSES: u8 = 28;
 
-// The mode, a number that the caller could have made up: 0 outside a frame, 1 inside, 2 inside behind 0x1C, 3 skipping a frame
-// that is too long, 4 skipping behind 0x1C. With it the bytes held in the buffer, and the count of the bytes dropped outside.
+// The modes: outside a frame, inside, inside behind 0x1C, skipping a frame that is too long, skipping behind 0x1C.
+pub const OUTSIDE: u64 = 0;
+
+pub const INSIDE: u64 = 1;
+
+pub const ENDING: u64 = 2;
+
+pub const SKIPPING: u64 = 3;
+
+pub const SKIPPING_END: u64 = 4;
+
+// The mode, the bytes held in the buffer, and the count of the bytes dropped outside frames. They are numbers, and the
+// mode no enum, since the caller keeps them between two pieces: any three may come back, and are judged (14).
 pub struct FrameState {
     pub mode: u64,
     pub held: usize,
@@ -23,7 +34,7 @@ impl FrameState {
         ensures { λ r. ⌜ r ≡ start ⌝ }
     {
         FrameState {
-            mode: 0,
+            mode: OUTSIDE,
             held: 0,
             count: 0,
         }
@@ -54,6 +65,7 @@ pub fn is_known(state: FrameState, room: usize) -> bool
     let most = most_dropped();
     let limit = limit_of(room);
     (state.count <= most)
-        & ((((state.mode == 1) | (state.mode == 2)) & (state.held <= limit))
-            | (((state.mode == 0) | ((state.mode == 3) | (state.mode == 4))) & (state.held == 0)))
+        & ((((state.mode == INSIDE) | (state.mode == ENDING)) & (state.held <= limit))
+            | (((state.mode == OUTSIDE) | ((state.mode == SKIPPING) | (state.mode == SKIPPING_END)))
+                & (state.held == 0)))
 }

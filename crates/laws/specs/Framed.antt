@@ -10,7 +10,8 @@ use Rattle.frames.specs.declared.feeding.Stop.{Stop}
 use Rattle.frames.specs.declared.feeding.Stop.the-variants as S
 
 abbrev pub given : Refusal → ℕ → ℕ → Stop → FrameState → Fed
-given kind size used stop state = record { answer = record { kind = kind; place = 0; length = size }; used = used; stop = stop; state = state }
+given kind size used stop state =
+    record { answer = record { kind = kind; place = 0; length = size }; used = used; stop = stop; state = state }
 
 pub data Framed : Fed → Type 0 where
   used-up : (n : ℕ) (t : FrameState) → Framed (given None 0 n S.More t)

@@ -1,5 +1,5 @@
-// Where one of two bytes first stands, for bytes that stand far off: blocks without both are passed over whole, wide ones
-// first, and only in the block where the search ends the bytes are looked at one by one.
+// Where one of two bytes first stands, for bytes that stand far off: blocks without both are passed over whole, wide
+// ones first, and only in the block where the search ends the bytes are looked at one by one.
 use alphabet::BLOCK;
 ghost use mathlib.Core.Path.{_≡_};
 ghost use Prim.Native.Nat.{_≤_};
@@ -33,8 +33,8 @@ fn before_either(bytes: &[u8], one: u8, other: u8, block: usize) -> usize
     i
 }
 
-// Whether the bytes from i on, fewer than a wide block, are none of both: told of the last wide block, some of whose bytes
-// were looked at before.
+// Whether the bytes from i on, fewer than a wide block, are none of both: told of the last wide block, some of whose
+// bytes were looked at before.
 fn is_without_behind(bytes: &[u8], one: u8, other: u8, i: usize) -> bool
     ensures { λ r. ⌜ Without r i (either one other) (now (bytes .entry)) ⌝ }
 {
