@@ -1,9 +1,11 @@
 //! Measures the library beside the baseline on the same bytes. Both give the same answers first.
 //!
-//!     harness once SIDE ENTRY SIZE     calls one function once, for a counter of instructions
+//!     harness once SIDE ENTRY SIZE     calls one function once, for a counter of instructions, or
+//!                                      once for each piece of a line
 //!     harness rows                     the names of all that is measured, a line for each
 //!     harness table [COUNTS]           times all in turns and prints the table; COUNTS is a file of
-//!                                      lines SIDE ENTRY SIZE INSTRUCTIONS
+//!                                      lines SIDE ENTRY SIZE INSTRUCTIONS, where SIDE-memcpy has
+//!                                      those of libc's memcpy among them
 
 mod reports;
 
@@ -33,7 +35,32 @@ mod library {
         pub names: usize,
     }
 
+    #[repr(C)]
+    #[derive(Clone, Copy, Default, PartialEq)]
+    pub struct FrameState {
+        pub mode: u64,
+        pub held: usize,
+        pub count: u64,
+    }
+
+    #[repr(C)]
+    #[derive(Clone, Copy, Default, PartialEq)]
+    pub struct Fed {
+        pub number: u32,
+        pub stop: u32,
+        pub used: usize,
+        pub length: usize,
+        pub state: FrameState,
+    }
+
     unsafe extern "C" {
+        pub fn turrethog_feed(
+            state: FrameState,
+            piece: *const u8,
+            length: usize,
+            buffer: *mut u8,
+            room: usize,
+        ) -> Fed;
         pub fn turrethog_read(message: *const u8, length: usize) -> Answer;
         pub fn turrethog_verdict(message: *const u8, length: usize) -> Verdict;
         pub fn turrethog_acknowledge(
@@ -71,7 +98,7 @@ mod library {
     }
 }
 
-use library::{Answer, Verdict};
+use library::{Answer, Fed, FrameState, Verdict};
 
 // The baseline behind names of its own, so that a counter finds it and no call is taken out.
 
@@ -110,12 +137,24 @@ fn baseline_unescape(delimiters: &[u8; 5], text: &[u8], buffer: &mut [u8]) -> ba
     baseline::unescape(delimiters, text, buffer)
 }
 
+#[no_mangle]
+#[inline(never)]
+fn baseline_feed(state: baseline::FrameState, piece: &[u8], buffer: &mut [u8]) -> baseline::Fed {
+    baseline::feed(state, piece, buffer)
+}
+
 const DELIMITERS: [u8; 5] = *br"|^~\&";
 const TIME: &[u8] = b"20240229093001+0000";
 const ID: &[u8] = b"ACK0001";
 
 /// Every result fits: a text that is escaped has at most five bytes for each.
 const ROOM: usize = 5 * 32_768;
+
+/// A frame has as much room as the longest needs.
+const FRAME: usize = 32_768;
+
+/// What a packet of Ethernet carries of a line.
+const PACKET: usize = 1_460;
 
 #[derive(Clone, Copy, PartialEq)]
 enum Side {
@@ -130,6 +169,8 @@ enum Entry {
     Acknowledge,
     Escape,
     Unescape,
+    /// A line of one frame, handed over in pieces of so many bytes at most.
+    Feed(usize),
 }
 
 /// What is measured: an entry point on some bytes.
@@ -144,6 +185,7 @@ struct Job {
 enum Told {
     Answer(Answer),
     Verdict(Verdict),
+    Fed(Fed),
 }
 
 impl Job {
@@ -154,6 +196,23 @@ impl Job {
             Entry::Acknowledge => "acknowledge",
             Entry::Escape => "escape",
             Entry::Unescape => "unescape",
+            Entry::Feed(_) => "feed",
+        }
+    }
+
+    /// The name in the table.
+    fn title(&self) -> &'static str {
+        match self.entry {
+            Entry::Feed(PACKET) => "feed, by 1,460",
+            _ => self.name(),
+        }
+    }
+
+    /// The bytes of the message, text or frame: what stands about a frame is none of it.
+    fn length(&self) -> usize {
+        match self.entry {
+            Entry::Feed(_) => self.bytes.len() - 3,
+            _ => self.bytes.len(),
         }
     }
 
@@ -192,6 +251,7 @@ impl Job {
                 Entry::Unescape => Told::Answer(library::turrethog_unescape(
                     field, component, repetition, escape, subcomponent, at, length, to, room,
                 )),
+                Entry::Feed(most) => Told::Fed(serve(bytes, most, buffer, feed_library, |_, _| ())),
             }
         }
     }
@@ -220,8 +280,51 @@ impl Job {
             Entry::Acknowledge => told(baseline_acknowledge(bytes, TIME, ID, buffer)),
             Entry::Escape => told(baseline_escape(&DELIMITERS, bytes, buffer)),
             Entry::Unescape => told(baseline_unescape(&DELIMITERS, bytes, buffer)),
+            Entry::Feed(most) => Told::Fed(serve(bytes, most, buffer, feed_baseline, |_, _| ())),
         }
     }
+}
+
+/// Hands a line over in pieces, as one who serves it does, and gives what came back last. `each` is
+/// told what came back of each call, and shown the buffer.
+#[inline(always)]
+fn serve(
+    line: &[u8],
+    most: usize,
+    buffer: &mut [u8],
+    feed: impl Fn(FrameState, &[u8], &mut [u8]) -> Fed,
+    mut each: impl FnMut(Fed, &[u8]),
+) -> Fed {
+    let mut fed = Fed::default();
+    for piece in line.chunks(most) {
+        let mut rest = piece;
+        while !rest.is_empty() {
+            fed = feed(fed.state, rest, &mut buffer[..FRAME]);
+            each(fed, buffer);
+            // A call that uses nothing would go on for ever.
+            if fed.used == 0 {
+                return fed;
+            }
+            rest = &rest[fed.used..];
+        }
+    }
+    fed
+}
+
+#[inline(always)]
+fn feed_library(state: FrameState, piece: &[u8], buffer: &mut [u8]) -> Fed {
+    let (at, length) = (piece.as_ptr(), piece.len());
+    // Both pointers lead to as many bytes as their lengths say.
+    unsafe { library::turrethog_feed(state, at, length, buffer.as_mut_ptr(), buffer.len()) }
+}
+
+#[inline(always)]
+fn feed_baseline(state: FrameState, piece: &[u8], buffer: &mut [u8]) -> Fed {
+    let FrameState { mode, held, count } = state;
+    let fed = baseline_feed(baseline::FrameState { mode, held, count }, piece, buffer);
+    let baseline::Fed { number, stop, used, length, state } = fed;
+    let baseline::FrameState { mode, held, count } = state;
+    Fed { number, stop: stop as u32, used, length, state: FrameState { mode, held, count } }
 }
 
 /// All that is measured, in the order of the table.
@@ -240,7 +343,18 @@ fn jobs() -> Vec<Job> {
     let text = reports::text(32_768);
     jobs.push(Job { entry: Entry::Escape, size: "text", bytes: text });
     jobs.push(Job { entry: Entry::Unescape, size: "text", bytes: written_text(32_768) });
+    for (size, message) in &sizes {
+        let bytes = framed(message);
+        jobs.push(Job { entry: Entry::Feed(bytes.len()), size, bytes });
+    }
+    let bytes = framed(&sizes[2].1);
+    jobs.push(Job { entry: Entry::Feed(PACKET), size: "packets", bytes });
     jobs
+}
+
+/// A message as it stands on a line.
+fn framed(message: &[u8]) -> Vec<u8> {
+    [b"\x0B", message, b"\x1C\r"].concat()
 }
 
 /// The longest text that is at most so long when it is written, written.
@@ -311,13 +425,34 @@ fn counted(lines: &str) -> HashMap<String, u64> {
 
 /// Nothing is timed that both sides do not answer alike, to the last byte that they write.
 fn agree(job: &Job) -> bool {
+    if let Entry::Feed(most) = job.entry {
+        return agree_on_line(&job.bytes, most);
+    }
     let (mut ours, mut theirs) = (vec![0xA5; ROOM], vec![0xA5; ROOM]);
     let told = job.call(Side::Library, &mut ours);
     let accepted = match &told {
         Told::Answer(answer) => answer.number == 0,
         Told::Verdict(verdict) => verdict.number == 0,
+        Told::Fed(fed) => fed.number == 0,
     };
     accepted && told == job.call(Side::Baseline, &mut theirs) && ours == theirs
+}
+
+/// Each call of a line is answered alike and leaves the same buffer, and at the end there is a frame,
+/// which is the message.
+fn agree_on_line(line: &[u8], most: usize) -> bool {
+    let (mut ours, mut theirs) = (Vec::new(), Vec::new());
+    let mut buffer = vec![0xA5; ROOM];
+    let last = serve(line, most, &mut buffer, feed_library, |fed, buffer| {
+        ours.push((fed, buffer.to_vec()));
+    });
+    let message = &line[1..line.len() - 2];
+    let whole = last.length == message.len() && buffer.starts_with(message);
+    buffer.fill(0xA5);
+    serve(line, most, &mut buffer, feed_baseline, |fed, buffer| {
+        theirs.push((fed, buffer.to_vec()));
+    });
+    whole && ours == theirs
 }
 
 fn table(jobs: &[Job], counts: &HashMap<String, u64>) -> ExitCode {
@@ -330,7 +465,7 @@ fn table(jobs: &[Job], counts: &HashMap<String, u64>) -> ExitCode {
     println!("| Entry point | Bytes | Instructions | per byte | baseline | ratio | µs | baseline | ratio |");
     println!("|---|---|---|---|---|---|---|---|---|");
     for job in jobs {
-        let bytes = job.bytes.len();
+        let bytes = job.length();
         let count =
             |side: &str| counts.get(&format!("{side} {} {}", job.name(), job.size)).copied();
         let instructions = match (count("library"), count("baseline")) {
@@ -345,22 +480,35 @@ fn table(jobs: &[Job], counts: &HashMap<String, u64>) -> ExitCode {
         let (ratio, ours, theirs) = (ours / theirs, ours / 1000.0, theirs / 1000.0);
         println!(
             "| {} | {bytes} | {instructions} | {ours:.2} | {theirs:.2} | {ratio:.2} |",
-            job.name()
+            job.title()
         );
     }
     println!();
-    for entry in ["read", "verdict", "acknowledge"] {
+    for entry in ["read", "verdict", "acknowledge", "feed"] {
         let each = |side: &str, size: &str| {
             let count = *counts.get(&format!("{side} {entry} {size}"))?;
             let job = jobs.iter().find(|job| job.name() == entry && job.size == size)?;
-            Some(count as f64 / job.bytes.len() as f64)
+            Some(count as f64 / job.length() as f64)
         };
         let growth = |side| Some(each(side, "largest")? / each(side, "small")?);
         if let (Some(ours), Some(theirs)) = (growth("library"), growth("baseline")) {
             println!("{entry}: per byte, the largest report takes {ours:.2} times the instructions of the small one (baseline: {theirs:.2})");
         }
     }
+    tell_without_memcpy(jobs, counts);
     ExitCode::SUCCESS
+}
+
+/// A frame is copied, and of a long copy one instruction of memcpy is counted once for each byte.
+fn tell_without_memcpy(jobs: &[Job], counts: &HashMap<String, u64>) {
+    for job in jobs.iter().filter(|job| job.name() == "feed") {
+        let count = |side: &str| counts.get(&format!("{side} feed {}", job.size));
+        let rest = |side: &str| Some(count(side)? - count(&format!("{side}-memcpy"))?);
+        if let (Some(ours), Some(theirs)) = (rest("library"), rest("baseline")) {
+            let (title, bytes) = (job.title(), job.length());
+            println!("{title}, {bytes} bytes: {ours} instructions without those of memcpy (baseline: {theirs})");
+        }
+    }
 }
 
 /// Nanoseconds of one call of each side, the median of many samples that are taken in turns, so that

@@ -1,7 +1,9 @@
 //! Answers questions to the baseline in the form of the program `ask`, one line for each: those that
-//! read, judge, acknowledge, escape and unescape. bench/check compares the answers with the model's.
+//! read, judge, acknowledge, escape, unescape and take frames off a line. bench/check compares the
+//! answers with the model's.
 
-use baseline::{acknowledge, escape, read, unescape, verdict, Answer};
+use baseline::{acknowledge, escape, feed, read, unescape, verdict};
+use baseline::{Answer, FrameState, Stop};
 use std::io::{self, BufRead, BufWriter, Write};
 
 const LONGEST_LINE: usize = 300_000;
@@ -39,6 +41,15 @@ fn answer(line: &[u8]) -> Option<String> {
             let answer = acknowledge(&message, &time, &id, &mut buffer);
             Some(written_words(answer, &buffer))
         }
+        ["frame", mode, held, count, piece, room] => {
+            let (mode, held, count) = (number(mode)?, number(held)? as usize, number(count)?);
+            let state = FrameState { mode, held, count };
+            Some(frame_words(state, &bytes(piece)?, &mut buffer_of(room)?))
+        }
+        ["frames", room, _, ..] => {
+            let pieces = words[2..].iter().map(|piece| bytes(piece)).collect::<Option<Vec<_>>>()?;
+            Some(line_words(&pieces, &mut buffer_of(room)?))
+        }
         _ => None,
     }
 }
@@ -67,15 +78,65 @@ fn text_words(text: &str, delimiters: &str, room: &str, write: Writer) -> Option
 }
 
 fn written_words(answer: Answer, buffer: &[u8]) -> String {
-    let hex: String = buffer.iter().map(|byte| format!("{byte:02x}")).collect();
-    let hex = if hex.is_empty() { "-" } else { &hex };
-    format!("{} {} {} {hex}", answer.number, answer.place, answer.length)
+    format!("{} {} {} {}", answer.number, answer.place, answer.length, hex(buffer))
+}
+
+/// One call of the frame reader.
+fn frame_words(state: FrameState, piece: &[u8], buffer: &mut [u8]) -> String {
+    let fed = feed(state, piece, buffer);
+    let stop = match fed.stop {
+        Stop::More => "more",
+        Stop::Frame => "frame",
+        Stop::Drop => "drop",
+        Stop::Refused => "-",
+    };
+    let (state, buffer) = (state_words(fed.state), hex(buffer));
+    format!("{} {} {stop} {} {state} {buffer}", fed.number, fed.used, fed.length)
+}
+
+/// A line from its start, in pieces: every frame and dropped frame, and what is left at the end.
+fn line_words(pieces: &[Vec<u8>], buffer: &mut [u8]) -> String {
+    let mut state = FrameState::default();
+    let mut events = Vec::new();
+    for piece in pieces {
+        let mut rest = &piece[..];
+        while !rest.is_empty() {
+            let fed = feed(state, rest, buffer);
+            match fed.stop {
+                Stop::More => {}
+                Stop::Frame => events.push(format!("f{}", hex(&buffer[..fed.length]))),
+                Stop::Drop => events.push(fed.number.to_string()),
+                // No line is answered so: the reader refused a state of its own, and would for ever.
+                Stop::Refused => return fed.number.to_string(),
+            }
+            state = fed.state;
+            rest = &rest[fed.used..];
+        }
+    }
+    let events = if events.is_empty() { "-".to_string() } else { events.join(",") };
+    format!("{events} {} {}", state_words(state), hex(buffer))
+}
+
+fn state_words(state: FrameState) -> String {
+    format!("{} {} {}", state.mode, state.held, state.count)
+}
+
+fn hex(bytes: &[u8]) -> String {
+    if bytes.is_empty() {
+        return "-".to_string();
+    }
+    bytes.iter().map(|byte| format!("{byte:02x}")).collect()
 }
 
 fn buffer_of(room: &str) -> Option<Vec<u8>> {
-    let digits = !room.is_empty() && room.bytes().all(|byte| byte.is_ascii_digit());
-    let room: usize = room.parse().ok()?;
-    (digits && room <= MOST_ROOM).then(|| vec![UNWRITTEN; room])
+    let room = number(room)? as usize;
+    (room <= MOST_ROOM).then(|| vec![UNWRITTEN; room])
+}
+
+/// Digits alone, since `parse` takes a sign too.
+fn number(word: &str) -> Option<u64> {
+    let digits = word.bytes().all(|byte| byte.is_ascii_digit());
+    digits.then(|| word.parse().ok())?
 }
 
 fn bytes(word: &str) -> Option<Vec<u8>> {

@@ -1,5 +1,5 @@
-//! The baseline: reading, judging, acknowledging, escaping and unescaping as one would write them in
-//! Rust for speed, with std alone and no unsafe code. It stands beside the proved library to be
+//! The baseline: framing, reading, judging, acknowledging, escaping and unescaping as one would write
+//! them in Rust for speed, with std alone and no unsafe code. It stands beside the proved library to be
 //! measured, and it answers as the model does: bench/check holds it to that.
 
 #![forbid(unsafe_code)]
@@ -7,12 +7,14 @@
 mod acknowledging;
 mod bytes;
 mod fields;
+mod frames;
 mod reading;
 mod structure;
 mod text;
 mod values;
 
 pub use acknowledging::acknowledge;
+pub use frames::{feed, Fed, FrameState, Stop};
 pub use structure::Names;
 pub use text::{escape, unescape};
 

@@ -18,7 +18,7 @@ use Rattle.frames.specs.Wire.{mostDropped, frameLimit}
 use Rattle.frames.specs.Steps.{stepped}
 
 -- "A state that no run with that buffer's length could have reached is 14": where bytes are gathered there are at most
--- as many as the limit, and elsewhere there are none. That exactly these are reached is a theorem (`known-exactly`)
+-- as many as the limit, and elsewhere there are none. That exactly these are reached is a theorem (`taken-exactly`)
 abbrev pub gathering : ℕ → Bool
 gathering m = eqb m 1 || eqb m 2
 
