@@ -11,14 +11,19 @@ pub const GET: u8 = 3;
 
 pub const ACKNOWLEDGE: u8 = 4;
 
-pub const HELP: u8 = 5;
+pub const FRAMES: u8 = 5;
 
-pub const VERSION: u8 = 6;
+pub const HELP: u8 = 6;
+
+pub const VERSION: u8 = 7;
 
 // The command that a word says, or 0.
 fn command_of(word: &[u8]) -> u8 {
     if alphabet::same(word, b"check") {
         return CHECK;
+    }
+    if alphabet::same(word, b"frames") {
+        return FRAMES;
     }
     if alphabet::same(word, b"show") {
         return SHOW;
@@ -38,13 +43,18 @@ fn command_of(word: &[u8]) -> u8 {
     0
 }
 
+// Whether a command takes any number of files.
+pub fn takes_files(command: u8) -> bool {
+    (command == CHECK) | (command == FRAMES)
+}
+
 // The command where it stands at an index and as many words stand behind it as it takes, and else 0: a file or more to
-// check, one to show, one to get from with two to five words behind its name, one to acknowledge with two, and none to
-// tell of itself.
+// check or to take frames from, one to show, one to get from with two to five words behind its name, one to acknowledge
+// with two, and none to tell of itself.
 fn with_its_words(command: u8, index: usize, count: usize) -> u8
     requires { ⌜ index ≤ 9 ⌝ }
 {
-    let is_checked = (command == CHECK) & (index + 2 <= count);
+    let is_checked = takes_files(command) & (index + 2 <= count);
     let is_shown = (command == SHOW) & (count == index + 2);
     let is_got = (command == GET) & ((index + 4 <= count) & (count <= index + 7));
     let is_acknowledged = (command == ACKNOWLEDGE) & (count == index + 4);

@@ -74,14 +74,19 @@ fn print_reason(out: Output, error: i32) -> Output {
 
 // Says of a file by its name that it cannot be read, and why. Where that cannot be written either, the status is the
 // same.
-fn fail(name: &[u8]) -> Content
-    ensures { λ r. ⌜ r .length ≡ 0 ⌝ }
-{
+pub fn tell_unread(name: &[u8]) {
     let error = os::errno();
     let out = terminal::print(terminal::standard_error(), b"turrethog: ");
     let out = terminal::print(out, name);
     let out = terminal::print(out, b": ");
     print_reason(out, error);
+}
+
+// A file that cannot be read, which is said of it.
+fn fail(name: &[u8]) -> Content
+    ensures { λ r. ⌜ r .length ≡ 0 ⌝ }
+{
+    tell_unread(name);
     Content {
         is_read: false,
         length: 0,

@@ -6,14 +6,17 @@ mod numbers;
 
 pub use commands::ACKNOWLEDGE;
 pub use commands::CHECK;
+pub use commands::FRAMES;
 pub use commands::GET;
 pub use commands::HELP;
 pub use commands::SHOW;
 pub use commands::VERSION;
 pub use commands::command_at;
+pub use commands::takes_files;
 use element::Address;
 pub use files::File;
 pub use files::read_file;
+pub use files::tell_unread;
 use numbers::Number;
 use numbers::number_at;
 use numbers::number_of;

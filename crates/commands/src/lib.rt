@@ -1,10 +1,11 @@
-// The four commands on the message that a file holds: `check`, `show`, `get` and `ack`. What they find is printed to
-// the output that they are handed. Why there is nothing to find is said on standard error, as `check` says it where
-// there is no message.
+// The four commands on the message that a file holds, `check`, `show`, `get` and `ack`, and the one on the frames of a
+// file, `frames`. What they find is printed to the output that they are handed. Why there is nothing to find is said on
+// standard error, as `check` says it where there is no message.
 ghost use Prim.Native.Nat.{_≤_};
 use alphabet::Refusal;
 use arguments::Asked;
 use arguments::CHECK;
+use arguments::FRAMES;
 use arguments::GET;
 use arguments::SHOW;
 use element::Address;
@@ -13,7 +14,7 @@ use terminal::Output;
 // Every message was accepted, or what was asked for was found.
 pub const DONE: u8 = 0;
 
-// Some message was refused.
+// Some message was refused, a frame was dropped or left open, or there was none.
 pub const REFUSED: u8 = 1;
 
 // The command was not understood, a file could not be read, or what was to be printed could not be written.
@@ -147,6 +148,29 @@ fn answer(
     acknowledge(out, name, message, first, room)
 }
 
+// `frames`: each frame of a file that the argument at an index names. Its pieces and its messages are read to the front
+// of two buffers.
+fn take_frames(
+    out: Output,
+    index: usize,
+    name: &mut [u8],
+    message: &mut [u8],
+    piece: &mut [u8],
+) -> Outcome {
+    let told = framing::tell_file(out, index, name, piece, message);
+    let printed = told.out;
+    if !told.is_read {
+        return Outcome {
+            out: printed,
+            status: TROUBLE,
+        };
+    }
+    Outcome {
+        out: printed,
+        status: if told.is_clean { DONE } else { REFUSED },
+    }
+}
+
 // Does what a command asks of the file that the argument at an index names.
 pub fn answer_file(
     command: u8,
@@ -159,6 +183,9 @@ pub fn answer_file(
 ) -> Outcome
     requires { ⌜ first ≤ 9 ⌝ }
 {
+    if command == FRAMES {
+        return take_frames(out, index, name, message, room);
+    }
     let file = arguments::read_file(index, name, message);
     let called = file.name;
     let length = file.length;

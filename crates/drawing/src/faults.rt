@@ -1,5 +1,8 @@
 // Where a fault of a message stands, drawn: the byte, the segment, the field or the repetition that is meant, and for a
 // segment that cannot stand where it stands what could have stood there.
+use crate::naming::last_of;
+use crate::naming::meant;
+use crate::naming::name_place;
 use alphabet::Part;
 use element::Address;
 use element::State;
@@ -29,9 +32,6 @@ fn explain_line_feed(out: Output, message: &[u8], place: usize) -> Output {
 // Draws the byte at a place of the file, in its segment.
 fn draw_byte(out: Output, message: &[u8], place: usize) -> Output {
     let segment = places::segment_around(message, place);
-    let out = terminal::print_counted(out, b"  byte ", place, b", in segment ");
-    let out = terminal::print_counted(out, b"", segment.number, b":");
-    let out = terminal::end_line(out);
     let bytes = places::piece(message, segment.start, segment.end);
     let out = marks::draw_byte(out, bytes, behind(segment.start, place));
     explain_line_feed(out, message, place)
@@ -45,30 +45,6 @@ fn print_length(out: Output, message: &[u8]) -> Output {
     let limit = alphabet::message_limit();
     let out = terminal::print_counted(out, b"  this file has more than ", limit, b"");
     terminal::end_line(out)
-}
-
-// Prints the number of a segment and its name.
-fn print_segment(out: Output, before: &[u8], number: usize, segment: &[u8]) -> Output {
-    let out = terminal::print_counted(out, before, number, b", ");
-    let out = terminal::print(out, places::piece(segment, 0, 3));
-    terminal::print_line(out, b":")
-}
-
-// Draws a segment that cannot stand where it stands.
-fn draw_segment(out: Output, message: &[u8], number: usize) -> Output {
-    let segment = places::segment_bytes(message, number);
-    let out = print_segment(out, b"  segment ", number, segment);
-    marks::draw(out, segment, 0, 3)
-}
-
-// Draws the last segment of a message of so many segments, with the mark where the next one would begin.
-fn draw_end(out: Output, message: &[u8], count: usize) -> Output {
-    if count == 0 {
-        return out;
-    }
-    let segment = places::segment_bytes(message, count - 1);
-    let out = print_segment(out, b"  behind segment ", count - 1, segment);
-    marks::draw_byte(out, segment, segment.len())
 }
 
 // Draws an element of a message. One that is absent would stand at the end of its segment.
@@ -92,74 +68,37 @@ fn draw_element(out: Output, message: &[u8], address: Address) -> Output {
     }
 }
 
-// The address as it is told: in a field that has the fault in its first repetition, the field.
-fn told(address: Address) -> Address {
-    if address.repetition == 1 {
-        return Address {
-            segment: address.segment,
-            field: address.field,
-            repetition: 0,
-            component: 0,
-            subcomponent: 0,
-        };
-    }
-    address
-}
-
-// Draws a field, or one of its repetitions, and says its address.
-fn draw_field(
-    out: Output,
-    message: &[u8],
-    number: usize,
-    field: usize,
-    repetition: usize,
-) -> Output {
-    let address = Address {
-        segment: number,
-        field: field,
-        repetition: repetition,
-        component: 0,
-        subcomponent: 0,
-    };
-    let segment = places::segment_bytes(message, number);
-    let out = terminal::print(out, b"  ");
-    let out = places::print_address(out, segment, told(address), 0);
-    let out = terminal::print_counted(out, b", in segment ", number, b":");
-    let out = terminal::end_line(out);
-    draw_element(out, message, address)
-}
-
-// Draws the place of a fault of structure, and says what could have stood there.
+// Draws the place of a fault of structure, a segment's name or where the next one would begin, and says what could have
+// stood there.
 fn draw_structure(out: Output, message: &[u8], fault: FaultRecord) -> Output {
     let kind = fault.kind;
     let names = fault.names;
     if alphabet::number(kind) == 21 {
-        let out = draw_segment(out, message, fault.place);
+        let segment = places::segment_bytes(message, fault.place);
+        let out = marks::draw(out, segment, 0, 3);
         return wording::print_could_stand(out, names, fault.could_end);
     }
-    let out = draw_end(out, message, fault.place);
+    let segment = places::segment_bytes(message, last_of(fault.place));
+    let out = marks::draw_byte(out, segment, segment.len());
     wording::print_could_stand(out, names, fault.could_end)
 }
 
-// Draws the place of a fault by what it is for that number: a byte, a segment, or a field and its repetition. Where a
-// field has too many repetitions the whole of it is meant.
+// Names the place of a fault, and draws it by what it is for that number: a byte, a segment, or a field and its
+// repetition.
 pub fn draw(out: Output, message: &[u8], fault: FaultRecord) -> Output {
     let kind = fault.kind;
     let number = alphabet::number(kind);
     if number == 1 {
         return print_length(out, message);
     }
+    let out = terminal::print(out, b"  ");
+    let out = name_place(out, message, fault);
+    let out = terminal::print_line(out, b":");
     if number < 20 {
         return draw_byte(out, message, fault.place);
     }
-    if number == 20 {
-        return draw_field(out, message, 0, 9, 0);
-    }
-    if number < 30 {
+    if (number == 21) | (number == 22) {
         return draw_structure(out, message, fault);
     }
-    if number == 36 {
-        return draw_field(out, message, fault.place, fault.field, 0);
-    }
-    draw_field(out, message, fault.place, fault.field, fault.repetition)
+    draw_element(out, message, meant(fault))
 }

@@ -8,3 +8,6 @@ mod steps;
 pub use feeding::Fed;
 pub use feeding::Stop;
 pub use state::FrameState;
+pub use state::OUTSIDE;
+pub use state::SKIPPING;
+pub use state::most_dropped;

@@ -14,6 +14,9 @@ ghost use Rattle.frames.specs.Wire.{mostDropped, frameLimit};
 ghost use Rattle.frames.specs.Feeding.{known};
 ghost use Rattle.frames.specs.Passing.{countedOn, Passes};
 
+// A mask to which 0x0B and 0x1C are nearer than CR and all that is printable, so that a message is searched fast.
+const MASK: u8 = 27;
+
 // How many bytes were passed over, and the state behind them.
 pub struct Passed {
     pub run: usize,
@@ -50,7 +53,7 @@ pub fn pass(limit: usize, state: FrameState, rest: &[u8], buffer: &mut [u8]) -> 
     }
     if state.mode == INSIDE {
         let held = state.held;
-        let mut run = search::find_either(rest, OPENS, CLOSES);
+        let mut run = search::find_either(rest, OPENS, CLOSES, MASK);
         if limit - held < run {
             run = limit - held;
         }
@@ -66,7 +69,7 @@ pub fn pass(limit: usize, state: FrameState, rest: &[u8], buffer: &mut [u8]) -> 
     }
     if state.mode == SKIPPING {
         return Passed {
-            run: search::find_either(rest, OPENS, CLOSES),
+            run: search::find_either(rest, OPENS, CLOSES, MASK),
             state: state,
         };
     }

@@ -1,1 +1,1 @@
-pub mod Without
+pub mod Two

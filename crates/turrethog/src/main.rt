@@ -1,9 +1,8 @@
 // `turrethog` is the command of the person on the bench: it tells whether a file holds a message that is accepted,
-// shows what it says, gets an element out of it, and acknowledges it. This file is the frame: it reads the arguments
-// and the files, and hands the messages on.
+// shows what it says, gets an element out of it, acknowledges it, and tells of each frame that was taken off a link.
+// This file holds it together: it reads the arguments, lends the buffers, and hands the files on.
 mod status;
 
-use arguments::CHECK;
 use arguments::HELP;
 use arguments::VERSION;
 use arguments::command_at;
@@ -63,7 +62,7 @@ fn run(index: usize, name: &mut [u8], message: &mut [u8], room: &mut [u8]) -> u8
     if (command == 0) | (HELP <= command) {
         return tell_itself(command);
     }
-    let until = if command == CHECK {
+    let until = if arguments::takes_files(command) {
         os::arg_count()
     } else {
         index + 2

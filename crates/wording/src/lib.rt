@@ -6,6 +6,7 @@ mod states;
 mod usage;
 
 pub use names::print_could_stand;
+pub use refusals::print_numbered;
 pub use refusals::print_refused;
 pub use refusals::print_words;
 pub use states::print_behind;

@@ -1,5 +1,5 @@
-// The refusals in words, each with its number of document 01. Where a place is drawn under them, `this` is what is
-// marked there.
+// The refusals in words, each with its number of document 01 or 02. Where a place is drawn under them, `this` is what
+// is marked there.
 use alphabet::Refusal;
 use terminal::Output;
 
@@ -109,6 +109,17 @@ fn print_judging(out: Output, kind: Refusal) -> Output {
     print_field(out, kind)
 }
 
+// The words for 40 and 41: why a frame of the line was dropped.
+fn print_framing(out: Output, kind: Refusal) -> Output {
+    match kind {
+        Refusal::BrokenFrame => terminal::print(
+            out,
+            b"this frame is broken: 0B stands inside it, or 1C without 0D behind it",
+        ),
+        _ => terminal::print(out, b"this frame has more bytes than a message may have"),
+    }
+}
+
 // The words for a refusal.
 pub fn print_words(out: Output, kind: Refusal) -> Output {
     let number = alphabet::number(kind);
@@ -124,14 +135,23 @@ pub fn print_words(out: Output, kind: Refusal) -> Output {
     if number < 20 {
         return print_asking(out, kind);
     }
-    print_judging(out, kind)
+    if number < 40 {
+        return print_judging(out, kind);
+    }
+    print_framing(out, kind)
+}
+
+// A number and its words, behind a word that says what became of what is meant: refused, or dropped.
+pub fn print_numbered(out: Output, word: &[u8], kind: Refusal) -> Output {
+    let out = terminal::print(out, word);
+    let number = alphabet::number(kind) as usize;
+    let out = terminal::print_counted(out, b" (", number, b"): ");
+    print_words(out, kind)
 }
 
 // A line that says of a file that it is refused: the number, and the words.
 pub fn print_refused(out: Output, name: &[u8], kind: Refusal) -> Output {
     let out = terminal::print(out, name);
-    let number = alphabet::number(kind) as usize;
-    let out = terminal::print_counted(out, b": refused (", number, b"): ");
-    let out = print_words(out, kind);
+    let out = print_numbered(out, b": refused", kind);
     terminal::end_line(out)
 }

@@ -27,6 +27,12 @@ fn print_asking(out: Output) -> Output {
       Accepted, or the first fault: its number, what it is in words, and where it stands.
       ./turrethog check examples/*.hl7
 
+  ./turrethog frames FILE..
+      Bytes that were taken off a link, in frames of 0B, message, 1C, 0D. A file may have any length.
+      Each frame with its verdict, each that was dropped with its number, how many bytes stand outside
+      frames, and one that is open at the end. Status 1 also where one is dropped or open, or there is none.
+      ./turrethog frames examples/link.mllp
+
   ./turrethog show FILE
       Every segment and its parts: each with its address, its state and its text.
       ./turrethog show examples/blood-count.hl7

@@ -13,10 +13,10 @@ use Rattle.search.proofs.two.before_either.Statement.{statement}
 use Rattle.search.proofs.two.before_either.Tie as tie
 
 abbrev Inv-loop : tie.InvT-loop
-Inv-loop bytes one other block i₀ i = (i ≤ length bytes) × (i ≤ first (either one other) bytes)
+Inv-loop bytes one other i₀ i = (i ≤ length bytes) × (i ≤ first (either one other) bytes)
 
 abbrev μ-loop : tie.MeasureT-loop
-μ-loop bytes one other block i₀ i = length bytes - i
+μ-loop bytes one other i₀ i = length bytes - i
 
 loop-again : tie.Need-loop-again Inv-loop μ-loop
 loop-again c =
@@ -24,7 +24,7 @@ loop-again c =
     let a = l .before .before .args in
     let s = now (a .bytes) in
     let i = l .loop .i in
-    let n = i + a .block - i in
+    let n = i + 32 - i in
     let d = length-drop i s in
     let k = length-take-le n (drop i s) (omega arith) in
     let w = c .before .is-without-either .ensures (not-false _ (c .if1 .left)) (omega arith) in
