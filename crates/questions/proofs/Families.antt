@@ -4,7 +4,7 @@ use mathlib.Core.Path.{_≡_, sym, subst, _∙_}
 use mathlib.Core.List.{List}
 use Rattle.questions.specs.Verbs.{Verb}
 use Rattle.questions.specs.declared.Family.{Family}
-use Rattle.questions.specs.declared.Family.the-variants.{Read, Element, Judgement, Text, Acknowledgement, Unknown}
+use Rattle.questions.specs.declared.Family.the-variants.{Read, Element, Judgement, Text, Acknowledgement, Frame, Unknown}
 
 -- a word that means something to a family whose verbs are verbs
 pub of-family : {X M Own : Type 0} {word : List ℕ} {meaning unknown : M} → (Own → Verb word) → ((Own → ⊥) → meaning ≡ unknown) → (meaning ≡ unknown → ⊥) → (Verb word → ⊥) → X
@@ -17,6 +17,7 @@ Known (Element lookup) = Unit {0}
 Known (Judgement judge) = Unit {0}
 Known (Text writing) = Unit {0}
 Known Acknowledgement = Unit {0}
+Known (Frame asked) = Unit {0}
 Known Unknown = ⊥
 
 -- a line whose first word has a family

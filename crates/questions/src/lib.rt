@@ -12,6 +12,7 @@ ghost use Rattle.questions.specs.declared.Family.the-variants.{Unknown};
 use answering::answers;
 use asking::words;
 use element_questions::Lookup;
+use frame_questions::Asked;
 use judge_questions::Judge;
 use text_questions::Writing;
 
@@ -22,6 +23,7 @@ enum Family {
     Judgement(Judge),
     Text(Writing),
     Acknowledgement,
+    Frame(Asked),
     Unknown,
 }
 
@@ -47,6 +49,10 @@ fn family_of(verb: &[u8]) -> Family
     if let text_questions::Meaning::Asks(writing) = text {
         return Family::Text(writing);
     }
+    let frame = frame_questions::meaning_of(verb);
+    if let frame_questions::Meaning::Asks(asked) = frame {
+        return Family::Frame(asked);
+    }
     Family::Unknown
 }
 
@@ -64,6 +70,7 @@ pub fn answer(line: &[u8], said: &mut [u8], answer: &mut [u8]) -> usize
         Family::Judgement(judge) => judge_questions::answer(judge, line, said, answer),
         Family::Text(writing) => text_questions::answer(writing, line, said, answer),
         Family::Acknowledgement => acknowledgement_questions::answer(line, said, answer),
+        Family::Frame(asked) => frame_questions::answer(asked, line, said, answer),
         Family::Unknown => answers::no_question(answer),
     }
 }

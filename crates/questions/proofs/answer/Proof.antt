@@ -30,11 +30,18 @@ returns-5 c =
     let f = c .before .before .before .before .before .before .before in
     (counts _ _ (c .before .before .before .before .answer8 .ensures), asks (f .before .before .before .word .ensures) (f .before .before .family-of .ensures) (f .enum-told2 .given .1) tt)
 
+returns-6 : tie.Need-returns-6
+returns-6 c =
+    let f = c .before .before .before .before .before .before .before .before in
+    (counts _ _ (c .before .before .before .before .answer10 .ensures), asks (f .before .before .before .word .ensures) (f .before .before .family-of .ensures) (f .family4 .given .1) tt)
+
 pub answer-spec : {M : Type 1} → statement M
 answer-spec =
     tie.close
     (tie.spec
     (λ c κs. search needs)
+    (λ c κs. search needs)
+    (λ c. search needs)
     (λ c κs. search needs)
     (λ c. search needs)
     (λ c κs. search needs)
@@ -63,5 +70,8 @@ answer-spec =
     (λ c. search needs)
     (λ c. search needs)
     returns-5
+    (λ c. search needs)
+    (λ c. search needs)
+    returns-6
     (λ c. search needs)
     (λ c. search needs))

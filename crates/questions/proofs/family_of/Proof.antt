@@ -3,7 +3,7 @@ use Prim.Native.Nat.{ℕ}
 use mathlib.Core.Path.{_≡_}
 use native.Mathlib.Omega.{arith}
 use Rattle.asking.proofs.Verbs.{same-verb}
-use Rattle.questions.specs.Verbs.{Verb, read, ack, of-element, of-judgement, of-text}
+use Rattle.questions.specs.Verbs.{Verb, read, ack, of-element, of-judgement, of-text, of-frame}
 use Rattle.questions.proofs.Families.{of-family}
 use borrow.Author.Needs.{needs}
 use Rattle.questions.proofs.family_of.Statement.{statement}
@@ -30,6 +30,11 @@ returns-5 c =
     let g = c .before .text .given .1 in
     of-family of-text (c .before .before .before .meaning-of3 .ensures) (λ e. let z : _≡_ {A = ℕ} 0 1 = cc in omega arith)
 
+returns-6 : tie.Need-returns-6
+returns-6 c =
+    let g = c .before .frame .given .1 in
+    of-family of-frame (c .before .before .before .meaning-of4 .ensures) (λ e. let z : _≡_ {A = ℕ} 0 1 = cc in omega arith)
+
 pub family-of-spec : {M : Type 1} → statement M
 family-of-spec =
     tie.close
@@ -51,5 +56,9 @@ family-of-spec =
     (λ c κs. search needs)
     (λ c. search needs)
     returns-5
+    (λ c. search needs)
+    (λ c κs. search needs)
+    (λ c. search needs)
+    returns-6
     (λ c. search needs)
     (λ c. search needs))
