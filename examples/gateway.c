@@ -5,6 +5,7 @@
  *     c/link examples/gateway.c gateway && ./gateway 20261115103000+1000 0001 < examples/blood-count.hl7
  */
 #include "turrethog.h"
+#include "words.h"
 
 #include <stdio.h>
 #include <string.h>
@@ -12,35 +13,6 @@
 /* One byte more than a message may have, so that a longer one is seen. */
 static uint8_t message[32769];
 static uint8_t acknowledgement[32768];
-
-static const char *in_words(uint32_t number)
-{
-    switch (number) {
-    case TURRETHOG_LENGTH: return "it is empty or over 32,768 bytes";
-    case TURRETHOG_HEADER: return "it does not begin with MSH and its delimiters";
-    case TURRETHOG_DELIMITER: return "a delimiter is not permitted or stands twice";
-    case TURRETHOG_NOT_ALLOWED: return "a byte is not allowed (segments end with CR alone, not LF)";
-    case TURRETHOG_NOT_ENDED: return "the last segment does not end with CR";
-    case TURRETHOG_SEGMENT_NAME: return "a segment does not begin with its name";
-    case TURRETHOG_SECOND_HEADER: return "there is a second MSH";
-    case TURRETHOG_TOO_MANY_SEGMENTS: return "there are over 256 segments";
-    case TURRETHOG_NOT_ACKNOWLEDGEABLE: return "it cannot be acknowledged: no sound header, an acknowledgement, or no control ID";
-    case TURRETHOG_ACKNOWLEDGEMENT_TOO_LONG: return "its acknowledgement would be too long";
-    case TURRETHOG_CALLERS_TIME: return "our own time is no TS";
-    case TURRETHOG_CALLERS_ID: return "our own ID has not 1 to 20 bytes";
-    case TURRETHOG_NO_STRUCTURE: return "its type is not listed";
-    case TURRETHOG_SEGMENT_MISPLACED: return "a segment cannot stand where it stands";
-    case TURRETHOG_ENDED_EARLY: return "segments are missing at its end";
-    case TURRETHOG_REQUIRED_MISSING: return "a required field is missing";
-    case TURRETHOG_BREAKS_FORM: return "a field breaks its type's form";
-    case TURRETHOG_NOT_LISTED: return "a value is not in its list";
-    case TURRETHOG_REQUIRED_NULL: return "a required field is null";
-    case TURRETHOG_VALUE_WITHOUT_TYPE: return "OBX-5 has a value and OBX-2 no type";
-    case TURRETHOG_REPEATED: return "a field is repeated that may not be";
-    case TURRETHOG_VALUE_TOO_LONG: return "a value is too long";
-    default: return "";
-    }
-}
 
 static void print_names(size_t length, size_t count)
 {

@@ -14,6 +14,7 @@
 #define _POSIX_C_SOURCE 200809L
 
 #include "turrethog.h"
+#include "words.h"
 
 #include <errno.h>
 #include <signal.h>
@@ -37,37 +38,6 @@ static const char *given_time, *given_id;
 
 static unsigned long messages;
 static bool trouble;
-
-static const char *in_words(uint32_t number)
-{
-    switch (number) {
-    case TURRETHOG_LENGTH: return "it is empty or over 32,768 bytes";
-    case TURRETHOG_HEADER: return "it does not begin with MSH and its delimiters";
-    case TURRETHOG_DELIMITER: return "a delimiter is not permitted or stands twice";
-    case TURRETHOG_NOT_ALLOWED: return "a byte is not allowed (segments end with CR alone, not LF)";
-    case TURRETHOG_NOT_ENDED: return "the last segment does not end with CR";
-    case TURRETHOG_SEGMENT_NAME: return "a segment does not begin with its name";
-    case TURRETHOG_SECOND_HEADER: return "there is a second MSH";
-    case TURRETHOG_TOO_MANY_SEGMENTS: return "there are over 256 segments";
-    case TURRETHOG_NOT_ACKNOWLEDGEABLE: return "no sound header, an acknowledgement, or no control ID";
-    case TURRETHOG_ACKNOWLEDGEMENT_TOO_LONG: return "the acknowledgement would be too long";
-    case TURRETHOG_CALLERS_TIME: return "our own time is no TS";
-    case TURRETHOG_CALLERS_ID: return "our own ID has not 1 to 20 bytes";
-    case TURRETHOG_NO_STRUCTURE: return "its type is not listed";
-    case TURRETHOG_SEGMENT_MISPLACED: return "a segment cannot stand where it stands";
-    case TURRETHOG_ENDED_EARLY: return "segments are missing at its end";
-    case TURRETHOG_REQUIRED_MISSING: return "a required field is missing";
-    case TURRETHOG_BREAKS_FORM: return "a field breaks its type's form";
-    case TURRETHOG_NOT_LISTED: return "a value is not in its list";
-    case TURRETHOG_REQUIRED_NULL: return "a required field is null";
-    case TURRETHOG_VALUE_WITHOUT_TYPE: return "OBX-5 has a value and OBX-2 no type";
-    case TURRETHOG_REPEATED: return "a field is repeated that may not be";
-    case TURRETHOG_VALUE_TOO_LONG: return "a value is too long";
-    case TURRETHOG_BROKEN_FRAME: return "it has 0B in it, or 1C without 0D";
-    case TURRETHOG_FRAME_TOO_LONG: return "it is over 32,768 bytes";
-    default: return "";
-    }
-}
 
 /* ---- what is said on standard error. The processes of several lines may share it, so each line of it is printed by one call. */
 
