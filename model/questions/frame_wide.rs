@@ -23,6 +23,7 @@ pub fn wide() -> Vec<Bytes> {
         other_runs(),
         pairs_behind_runs(),
         cut_blocks(),
+        runs_of_wide_blocks(),
         frames_at_the_limit(),
         long_lines(),
     ];
@@ -34,11 +35,10 @@ pub fn limits() -> Vec<Bytes> {
     [whole_frames_at_the_limit(), states_at_the_limit()].concat()
 }
 
-/// With no room the first byte of a frame is over already, which six bytes are enough to show; with
-/// a room of 3 six are what a frame of 3 has.
+/// With a room of 3 six bytes are enough: they are what a frame of 3 has.
 fn streams() -> Vec<Bytes> {
     let mut lines = Vec::new();
-    for (length, rooms) in [(5, 0..=3), (6, 0..=3), (7, 1..=2)] {
+    for (length, rooms) in [(5, 0..=3), (6, 0..=3), (7, 0..=2)] {
         let streams = texts(&TELLING, length);
         for room in rooms {
             lines.extend(streams.iter().map(|stream| frames_question(room, &[stream])));
@@ -207,6 +207,31 @@ fn cut_blocks() -> Vec<Bytes> {
         let pieces: Vec<&[u8]> = stream.chunks(length).collect();
         lines.push(frames_question(130, &pieces));
         lines.push(frames_question(129, &pieces));
+    }
+    lines
+}
+
+/// Runs about as long as one, two and three wide blocks, plain and with a byte near the telling ones at
+/// the front, in the middle or at the end, gathered, skipped, and broken off by each telling byte.
+fn runs_of_wide_blocks() -> Vec<Bytes> {
+    let mut lines = Vec::new();
+    for length in (254..=258).chain(286..=290).chain(510..=514).chain(542..=546).chain(766..=770) {
+        let mut runs = vec![plain(length)];
+        for place in [0, length / 2, length - 1] {
+            let mut run = plain(length);
+            run[place] = NEAR[(length + place) % NEAR.len()];
+            runs.push(run);
+        }
+        for run in runs {
+            lines.push(frame_question([OUTSIDE, 0, 0], &frame_of(&run), length));
+            lines.push(frame_question([INSIDE, 0, 0], &run, length));
+            lines.push(frame_question(
+                [INSIDE, 0, 0],
+                &[&run[..], &[BEGIN, END]].concat(),
+                length + 1,
+            ));
+            lines.push(frame_question([SKIPPING, 0, 0], &[&run[..], b"\x1Cxx"].concat(), 0));
+        }
     }
     lines
 }
