@@ -44,11 +44,14 @@ static bool trouble;
 static void put_place(char *to, size_t room, turrethog_verdict_answer verdict)
 {
     to[0] = '\0';
+    /* 1 and 2 are of the message as a whole, 20 of its type. */
+    if (verdict.number < TURRETHOG_DELIMITER || verdict.number == TURRETHOG_NO_STRUCTURE)
+        return;
     if (verdict.number < TURRETHOG_NO_STRUCTURE)
         snprintf(to, room, ", at byte %zu", verdict.place);
     else if (verdict.field != 0)
         snprintf(to, room, ", in segment %zu, field %zu, repetition %zu", verdict.place, verdict.field, verdict.repetition);
-    else if (verdict.number != TURRETHOG_NO_STRUCTURE)
+    else
         snprintf(to, room, ", at segment %zu", verdict.place);
 }
 

@@ -16,7 +16,7 @@ use Rattle.frames.specs.declared.runs.Passed.{Passed}
 use Rattle.frames.specs.Wire.{mostDropped, frameLimit}
 use Rattle.frames.specs.Steps.{frameState, inside, outside, skipping}
 use Rattle.frames.specs.Feeding.{feeding, known}
-use Rattle.frames.specs.Passing.{framing, countedOn, Passes}
+use Rattle.frames.specs.Passing.{framing, countedOn, PassesOver}
 use Rattle.frames.proofs.FeedLaws.{frame-limit-le}
 use Rattle.frames.proofs.KnownLaws.{Known, is-outside, is-inside, is-ending, is-skipping, is-skipping-end, known-case, known-test}
 use Rattle.frames.proofs.RunLaws.{counted-on-within, outside-run, inside-run, skipping-run}
@@ -28,12 +28,12 @@ case-count (is-ending h n m k) = m
 case-count (is-skipping n m) = m
 case-count (is-skipping-end n m) = m
 
-case-held : {limit : ℕ} {s : FrameState} → Known limit s → s .held ≤ limit
-case-held (is-outside n m) = omega arith
-case-held (is-inside h n m k) = k
-case-held (is-ending h n m k) = k
-case-held (is-skipping n m) = omega arith
-case-held (is-skipping-end n m) = omega arith
+pub known-held : {limit : ℕ} {s : FrameState} → Known limit s → s .held ≤ limit
+known-held (is-outside n m) = omega arith
+known-held (is-inside h n m k) = k
+known-held (is-ending h n m k) = k
+known-held (is-skipping n m) = omega arith
+known-held (is-skipping-end n m) = omega arith
 
 -- where nothing is held
 case-none : {limit : ℕ} {s : FrameState} → Known limit s → (s .mode ≡ 1 → ⊥) → (s .mode ≡ 2 → ⊥) → s .held ≡ 0
@@ -54,7 +54,7 @@ module _ (limit : ℕ) (s : FrameState) (l d : List ℕ) (e : limit ≡ frameLim
   pass-count = case-count fits-case
 
   pub pass-held : s .held ≤ limit
-  pass-held = case-held fits-case
+  pass-held = known-held fits-case
 
   pub pass-room : limit ≤ length d
   pass-room = omega (arith, frame-limit-le (length d))
@@ -65,7 +65,7 @@ module _ (limit : ℕ) (s : FrameState) (l d : List ℕ) (e : limit ≡ frameLim
   is-none : (m : ℕ) → s .mode ≡ m → (m ≡ 1 → ⊥) → (m ≡ 2 → ⊥) → s ≡ frameState m 0 (s .count)
   is-none m q a b = is-mode m q ∙ ap (λ (j : ℕ). frameState m j (s .count)) (case-none fits-case (λ (z : s .mode ≡ 1). a (sym q ∙ z)) (λ (z : s .mode ≡ 2). b (sym q ∙ z)))
 
-  pub pass-outside : (run n : ℕ) → s .mode ≡ 0 → run ≡ find 11 l → n ≡ countedOn (s .count) run → Passes limit s l d (record { run = run; state = outside n }) d
+  pub pass-outside : (run n : ℕ) → s .mode ≡ 0 → run ≡ find 11 l → n ≡ countedOn (s .count) run → PassesOver limit s l d (record { run = run; state = outside n }) d
   pass-outside run n q r c =
       let o = is-none 0 q (λ (z : 0 ≡ 1). omega arith) (λ (z : 0 ≡ 2). omega arith) in
       record {
@@ -77,7 +77,7 @@ module _ (limit : ℕ) (s : FrameState) (l d : List ℕ) (e : limit ≡ frameLim
       }
 
   pub pass-inside : (run : ℕ) (x : List ℕ) → s .mode ≡ 1 → run ≤ first framing l → s .held + run ≤ limit → x ≡ putAt d (s .held) (take run l)
-      → Passes limit s l d (record { run = run; state = inside (s .held + run) (s .count) }) x
+      → PassesOver limit s l d (record { run = run; state = inside (s .held + run) (s .count) }) x
   pass-inside run x q r h p =
       let f = first-le framing l in
       let n = length-take-le run l (omega arith) in
@@ -91,7 +91,7 @@ module _ (limit : ℕ) (s : FrameState) (l d : List ℕ) (e : limit ≡ frameLim
             ∙ ap (λ (j : List ℕ). feeding limit (inside (s .held + run) (s .count)) j (used + run) (drop run l)) (sym y);
       }
 
-  pub pass-skipping : (run : ℕ) → s .mode ≡ 3 → run ≡ first framing l → Passes limit s l d (record { run = run; state = s }) d
+  pub pass-skipping : (run : ℕ) → s .mode ≡ 3 → run ≡ first framing l → PassesOver limit s l d (record { run = run; state = s }) d
   pass-skipping run q r =
       let o = is-none 3 q (λ (z : 3 ≡ 1). omega arith) (λ (z : 3 ≡ 2). omega arith) in
       record {
@@ -102,7 +102,7 @@ module _ (limit : ℕ) (s : FrameState) (l d : List ℕ) (e : limit ≡ frameLim
             ∙ ap (λ (t : FrameState). feeding limit t d (used + run) (drop run l)) (sym o);
       }
 
-  pub pass-none : Passes limit s l d (record { run = 0; state = s }) d
+  pub pass-none : PassesOver limit s l d (record { run = 0; state = s }) d
   pass-none =
       record {
         within = omega arith;

@@ -10,9 +10,9 @@ use Rattle.frames.specs.declared.steps.Event.{Event}
 use Rattle.frames.specs.declared.steps.Event.the-variants.{Quiet, Frame, Broken, Long}
 use Rattle.frames.specs.declared.steps.Step.{Step}
 use Rattle.frames.specs.declared.feeding.Fed.{Fed}
-use Rattle.alphabet.specs.Answers.{answered}
-use Rattle.alphabet.specs.declared.answers.Check.the-variants.{Passes, Fails}
+use Rattle.alphabet.specs.declared.answers.Refusal.{Refusal}
 use Rattle.alphabet.specs.declared.answers.Refusal.the-variants.{None, NoRoom, BrokenFrame, FrameTooLong}
+use Rattle.frames.specs.declared.feeding.Stop.{Stop}
 use Rattle.frames.specs.declared.feeding.Stop.the-variants as S
 use Rattle.frames.specs.Wire.{mostDropped, frameLimit}
 use Rattle.frames.specs.Steps.{stepped}
@@ -41,14 +41,17 @@ stopping Frame = true
 stopping Broken = true
 stopping Long = true
 
--- what goes back of an event behind so many bytes: number, place 0 and the frame's length, the bytes used, what the
--- reader stopped at, and the state
+-- what goes back: number, place 0 and the frame's length, the bytes used, what the reader stopped at, and the state
+abbrev pub given : Refusal → ℕ → ℕ → Stop → FrameState → Fed
+given kind size used stop state =
+    record { answer = record { kind = kind; place = 0; length = size }; used = used; stop = stop; state = state }
+
+-- of an event behind so many bytes: only a frame has a length
 unfoldable pub told : Event → ℕ → ℕ → FrameState → Fed
-told Quiet h n t = record { answer = answered Passes; used = n; stop = S.More; state = t }
-told Frame h n t =
-    record { answer = record { kind = None; place = 0; length = h }; used = n; stop = S.Frame; state = t }
-told Broken h n t = record { answer = answered (Fails BrokenFrame 0); used = n; stop = S.Drop; state = t }
-told Long h n t = record { answer = answered (Fails FrameTooLong 0); used = n; stop = S.Drop; state = t }
+told Quiet h n t = given None 0 n S.More t
+told Frame h n t = given None h n S.Frame t
+told Broken h n t = given BrokenFrame 0 n S.Drop t
+told Long h n t = given FrameTooLong 0 n S.Drop t
 
 pub record Feeding : Type 0 where
   pub said : Fed
@@ -67,8 +70,7 @@ feeding limit s d used (b ∷ piece) =
 
 -- 14 changes nothing: the state and the buffer come back as they were, and no byte of the piece is used
 unfoldable pub foreign : FrameState → List ℕ → Feeding
-foreign s d =
-    record { said = record { answer = answered (Fails NoRoom 0); used = 0; stop = S.Refused; state = s }; left = d }
+foreign s d = record { said = given NoRoom 0 0 S.Refused s; left = d }
 
 -- the contract of `feed`: what is said, and what is left in the buffer
 unfoldable pub fed : FrameState → List ℕ → List ℕ → Feeding

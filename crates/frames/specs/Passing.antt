@@ -21,7 +21,7 @@ unfoldable pub countedOn : ℕ → ℕ → ℕ
 countedOn n k = cond (leb k (mostDropped - n)) (n + k) mostDropped
 
 -- the state and the buffer behind a run of bytes at the front of l
-pub record Passes (limit : ℕ) (s : FrameState) (l d : List ℕ) (r : Passed) (x : List ℕ) : Type 0 where
+pub record PassesOver (limit : ℕ) (s : FrameState) (l d : List ℕ) (r : Passed) (x : List ℕ) : Type 0 where
   pub within : r .run ≤ length l
   pub size : length x ≡ length d
   pub can : known (length d) (r .state) ≡ true

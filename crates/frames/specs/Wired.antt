@@ -1,5 +1,6 @@
--- What a line says, as a grammar over its bytes: nothing of a machine, of a buffer or of pieces. That the reader's runs
--- give this and nothing else is shown both ways (crates/laws/proofs/FrameGrammar.antt).
+-- What a line says, as a grammar over its bytes: nothing of a machine, of a buffer or of pieces, but for the states in
+-- which a line ends and the count. That the reader's runs give this and nothing else is shown both ways
+-- (crates/laws/proofs/FrameGrammar.antt).
 use Prim.Native.Nat.{ℕ, _≤_, _<_}
 use mathlib.Core.Path.{_≡_}
 use mathlib.Core.List.{List, [], _∷_, _++_}

@@ -9,7 +9,7 @@ use crate::steps::step_by;
 use alphabet::Answer;
 use alphabet::Refusal;
 ghost use mathlib.Core.Path.{_≡_};
-ghost use Rattle.frames.specs.Feeding.{stopping, told, foreign, fed};
+ghost use Rattle.frames.specs.Feeding.{stopping, given, told, fed};
 
 // What the reader stopped at: the piece's end, a frame, a dropped frame; or nothing, where it refused the state.
 pub enum Stop {
@@ -40,51 +40,31 @@ fn stopping(event: Event) -> bool
     }
 }
 
+// What goes back, with place 0.
+fn given(kind: Refusal, length: usize, used: usize, stop: Stop, state: FrameState) -> Fed
+    ensures { λ r. ⌜ r ≡ given kind length used stop state ⌝ }
+{
+    Fed {
+        answer: Answer {
+            kind: kind,
+            place: 0,
+            length: length,
+        },
+        used: used,
+        stop: stop,
+        state: state,
+    }
+}
+
 // What goes back of an event, behind so many bytes.
 fn told(event: Event, held: usize, used: usize, state: FrameState) -> Fed
     ensures { λ r. ⌜ r ≡ told event held used state ⌝ }
 {
     match event {
-        Event::Quiet => Fed {
-            answer: Answer {
-                kind: Refusal::None,
-                place: 0,
-                length: 0,
-            },
-            used: used,
-            stop: Stop::More,
-            state: state,
-        },
-        Event::Frame => Fed {
-            answer: Answer {
-                kind: Refusal::None,
-                place: 0,
-                length: held,
-            },
-            used: used,
-            stop: Stop::Frame,
-            state: state,
-        },
-        Event::Broken => Fed {
-            answer: Answer {
-                kind: Refusal::BrokenFrame,
-                place: 0,
-                length: 0,
-            },
-            used: used,
-            stop: Stop::Drop,
-            state: state,
-        },
-        Event::Long => Fed {
-            answer: Answer {
-                kind: Refusal::FrameTooLong,
-                place: 0,
-                length: 0,
-            },
-            used: used,
-            stop: Stop::Drop,
-            state: state,
-        },
+        Event::Quiet => given(Refusal::None, 0, used, Stop::More, state),
+        Event::Frame => given(Refusal::None, held, used, Stop::Frame, state),
+        Event::Broken => given(Refusal::BrokenFrame, 0, used, Stop::Drop, state),
+        Event::Long => given(Refusal::FrameTooLong, 0, used, Stop::Drop, state),
     }
 }
 
@@ -95,16 +75,7 @@ impl FrameState {
         ensures { λ _. ⌜ now (buffer .exit) ≡ fed self (now (piece .entry)) (now (buffer .entry)) .left ⌝ }
     {
         if !is_known(self, buffer.len()) {
-            return Fed {
-                answer: Answer {
-                    kind: Refusal::NoRoom,
-                    place: 0,
-                    length: 0,
-                },
-                used: 0,
-                stop: Stop::Refused,
-                state: self,
-            };
+            return given(Refusal::NoRoom, 0, 0, Stop::Refused, self);
         }
         let limit = limit_of(buffer.len());
         let mut i = 0;

@@ -12,7 +12,7 @@ ghost use Prim.Native.Nat.{_≤_};
 ghost use lib.ListN.{length};
 ghost use Rattle.frames.specs.Wire.{mostDropped, frameLimit};
 ghost use Rattle.frames.specs.Feeding.{known};
-ghost use Rattle.frames.specs.Passing.{countedOn, Passes};
+ghost use Rattle.frames.specs.Passing.{countedOn, PassesOver};
 
 // A mask to which 0x0B and 0x1C are nearer than CR and all that is printable, so that a message is searched fast.
 const MASK: u8 = 27;
@@ -35,20 +35,16 @@ fn counted_on(count: u64, run: usize) -> u64
     most
 }
 
-// Passes over the run at the front of what is left of a piece, and gathers it where the mode is to gather.
+// PassesOver over the run at the front of what is left of a piece, and gathers it where the mode is to gather.
 pub fn pass(limit: usize, state: FrameState, rest: &[u8], buffer: &mut [u8]) -> Passed
     requires { ⌜ (limit ≡ frameLimit (length (now buffer))) × (known (length (now buffer)) state ≡ true) ⌝ }
-    ensures { λ r. ⌜ Passes limit state (now (rest .entry)) (now (buffer .entry)) r (now (buffer .exit)) ⌝ }
+    ensures { λ r. ⌜ PassesOver limit state (now (rest .entry)) (now (buffer .entry)) r (now (buffer .exit)) ⌝ }
 {
     if state.mode == OUTSIDE {
         let dropped = alphabet::find_far(rest, OPENS);
         return Passed {
             run: dropped,
-            state: FrameState {
-                mode: OUTSIDE,
-                held: 0,
-                count: counted_on(state.count, dropped),
-            },
+            state: FrameState::of(OUTSIDE, 0, counted_on(state.count, dropped)),
         };
     }
     if state.mode == INSIDE {
@@ -60,11 +56,7 @@ pub fn pass(limit: usize, state: FrameState, rest: &[u8], buffer: &mut [u8]) -> 
         let place = alphabet::put(buffer, held, &rest[..run]);
         return Passed {
             run: run,
-            state: FrameState {
-                mode: INSIDE,
-                held: held + run,
-                count: state.count,
-            },
+            state: FrameState::of(INSIDE, held + run, state.count),
         };
     }
     if state.mode == SKIPPING {

@@ -1,6 +1,7 @@
 // The reader's state, which goes in with each piece and comes back, and which states can be.
 ghost use mathlib.Core.Path.{_≡_};
 ghost use Rattle.frames.specs.Wire.{mostDropped, frameLimit};
+ghost use Rattle.frames.specs.Steps.{frameState};
 ghost use Rattle.frames.specs.Feeding.{known};
 ghost use Rattle.frames.specs.Runs.{start};
 
@@ -29,6 +30,17 @@ pub struct FrameState {
 }
 
 impl FrameState {
+    // A state of these three numbers.
+    pub fn of(mode: u64, held: usize, count: u64) -> FrameState
+        ensures { λ r. ⌜ r ≡ frameState mode held count ⌝ }
+    {
+        FrameState {
+            mode: mode,
+            held: held,
+            count: count,
+        }
+    }
+
     // The state at the beginning of a line.
     pub fn start() -> FrameState
         ensures { λ r. ⌜ r ≡ start ⌝ }

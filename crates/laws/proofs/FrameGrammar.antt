@@ -10,6 +10,7 @@ use lib.Dec.{eqb, leb}
 use lib.ListN.{length, take, drop, set, length-set, length-append}
 use Rattle.alphabet.specs.Filling.{over}
 use Rattle.frames.specs.Gathered.{laid}
+use Rattle.laws.specs.Framed.{Said}
 use lib.Seq.{sets, sets-eq, length-sets, take-at, take-all, length-take-le}
 use borrow.Author.Tests.{eqb-true, eqb-false, le-leb, lt-leb}
 use Rattle.frames.specs.declared.state.FrameState.{FrameState}
@@ -345,12 +346,6 @@ shorter limit (suc m) out n l k = from-out limit m n l (shorter limit m) k
 shorter limit (suc m) opened n l k = behind-open limit m n (cut-line l) (shorter limit m) k
 
 -- ---- both ways
-
--- the line is wired so, and the buffer x is d with its bodies laid over it
-pub record Said (limit n : ℕ) (l : List ℕ) (es : List Happening) (t : FrameState) (d x : List ℕ) : Type 0 where
-  pub bodies : List (List ℕ)
-  pub derivation : Wired limit out n l es bodies t
-  pub holds : x ≡ laid bodies d
 
 out-fits : (d : List ℕ) (n : ℕ) → n ≤ mostDropped → Fit (length d) (outside n) d
 out-fits d n k = record { size = refl; can = known-test (length d) (is-outside n k) }

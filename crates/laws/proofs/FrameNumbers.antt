@@ -1,8 +1,9 @@
--- What the frame reader gives back is of one of five forms, and so are its numbers. Assumes nothing.
+-- What the frame reader gives back is of one of five forms, so are its numbers, and no frame is longer than its limit. Assumes nothing.
 use mathlib.Core.Path.{_≡_, refl, sym, subst}
 use mathlib.Core.Bool.{Bool, true, false, cond}
 use mathlib.Core.List.{List, [], _∷_}
-use Prim.Native.Nat.{ℕ, _+_}
+use Prim.Native.Nat.{ℕ, _+_, _≤_}
+use native.Mathlib.Omega.{arith}
 use lib.ListN.{length}
 use Rattle.alphabet.specs.Answers.{numberOf}
 use Rattle.structure.specs.Listed.{In}
@@ -13,6 +14,9 @@ use Rattle.frames.specs.declared.feeding.Fed.{Fed}
 use Rattle.frames.specs.Wire.{frameLimit}
 use Rattle.frames.specs.Steps.{stepped}
 use Rattle.frames.specs.Feeding.{Feeding, stored, stopping, told, feeding, foreign, known, fed}
+use Rattle.frames.proofs.FeedLaws.{frame-limit-le}
+use Rattle.frames.proofs.KnownLaws.{Known, known-case, known-step}
+use Rattle.frames.proofs.PassLaws.{known-held}
 use Rattle.laws.specs.Entries.{ofFraming}
 use Rattle.laws.specs.Framed.{Framed, used-up, a-frame, broken-frame, long-frame, foreign-state}
 use Rattle.laws.proofs.Among.{among}
@@ -58,3 +62,42 @@ framed-number (foreign-state t) = among ofFraming 14 refl
 
 pub feed-numbers : (s : FrameState) (p d : List ℕ) → In (numberOf (fed s p d .said .answer .kind)) ofFraming
 feed-numbers s p d = framed-number (feed-framed s p d)
+
+-- ---- a frame's length
+
+told-length : (e : Event) (h n : ℕ) (t : FrameState) → told e h n t .answer .length ≤ h
+unfolding told
+told-length Quiet h n t = omega arith
+told-length Frame h n t = omega arith
+told-length Broken h n t = omega arith
+told-length Long h n t = omega arith
+
+feeding-fits : (limit : ℕ) (s : FrameState) (d : List ℕ) (used : ℕ) (p : List ℕ) → Known limit s → feeding limit s d used p .said .answer .length ≤ limit
+unfolding feeding
+feeding-fits limit s d used [] k = omega (arith, told-length Quiet 0 used s)
+feeding-fits limit s d used (b ∷ p) k =
+    at (stopping (stepped limit s b .event))
+    (feeding-fits limit (stepped limit s b .after) (stored d (s .held) b (stepped limit s b .gathers)) (used + 1) p (known-step limit b k))
+  where
+    at : (t : Bool) → feeding limit (stepped limit s b .after) (stored d (s .held) b (stepped limit s b .gathers)) (used + 1) p .said .answer .length ≤ limit
+        → cond t
+        (record {
+          said = told (stepped limit s b .event) (s .held) (used + 1) (stepped limit s b .after);
+          left = stored d (s .held) b (stepped limit s b .gathers);
+        })
+        (feeding limit (stepped limit s b .after) (stored d (s .held) b (stepped limit s b .gathers)) (used + 1) p) .said .answer .length
+        ≤ limit
+    at true ih = omega (arith, told-length (stepped limit s b .event) (s .held) (used + 1) (stepped limit s b .after), known-held k)
+    at false ih = ih
+
+-- a frame has no more bytes than the limit, and so fits the buffer
+pub frame-fits : (s : FrameState) (p d : List ℕ) → fed s p d .said .answer .length ≤ frameLimit (length d)
+unfolding fed foreign
+frame-fits s p d = at (known (length d) s) refl
+  where
+    at : (t : Bool) → known (length d) s ≡ t → cond t (feeding (frameLimit (length d)) s d 0 p) (foreign s d) .said .answer .length ≤ frameLimit (length d)
+    at true e = feeding-fits (frameLimit (length d)) s d 0 p (known-case (length d) s e)
+    at false e = omega arith
+
+pub frame-in-buffer : (s : FrameState) (p d : List ℕ) → fed s p d .said .answer .length ≤ length d
+frame-in-buffer s p d = omega (arith, frame-fits s p d, frame-limit-le (length d))

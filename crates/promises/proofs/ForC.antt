@@ -3,7 +3,7 @@ use mathlib.Core.Path.{_≡_, refl, sym, ap, subst, _∙_}
 use mathlib.Core.Logic.{_↔_}
 use mathlib.Core.Bool.{Bool, true, false, cond}
 use mathlib.Core.List.{List, _++_}
-use Prim.Native.Nat.{ℕ, _-_, _<_}
+use Prim.Native.Nat.{ℕ, _-_, _≤_, _<_}
 use native.Mathlib.Omega.{arith}
 use lib.Dec.{ltb}
 use lib.ListN.{length, getD, take, replicate}
@@ -37,7 +37,7 @@ use Rattle.boundary.specs.declared.judges.CVerdict.{CVerdict}
 use Rattle.laws.proofs.NameLists.{in-at, at-in, front-at, behind-at, once-each}
 use Rattle.laws.proofs.RoundTrip.{AreBytes}
 use Rattle.laws.specs.Framed.{Framed, used-up, a-frame, broken-frame, long-frame, foreign-state}
-use Rattle.laws.proofs.FrameNumbers.{feed-framed}
+use Rattle.laws.proofs.FrameNumbers.{feed-framed, frame-in-buffer}
 use Rattle.promises.specs.Acknowledgements.{Carries}
 use Rattle.promises.specs.ForC.{NamesOneByOne}
 use Rattle.promises.specs.Structures.{Exactly, accepted, refused, RefusedExactly}
@@ -144,16 +144,22 @@ c-verdict-exactly m v =
 pub c-state-comes-back : (f : Fed) → handedIn (fedSeen f .state) ≡ f .state
 c-state-comes-back f = refl
 
--- 14 leaves the state and the buffer
+-- 14 leaves the state and the buffer; no byte is used, and there is no frame
 pub c-feed-leaves : (s : CFrameState) (piece lent : List ℕ) → fedSeen (fed (handedIn s) piece lent .said) .number ≡ 14
     → (fedSeen (fed (handedIn s) piece lent .said) .state ≡ s) × (fed (handedIn s) piece lent .left ≡ lent)
+    × (fedSeen (fed (handedIn s) piece lent .said) .used ≡ 0) × (fedSeen (fed (handedIn s) piece lent .said) .length ≡ 0)
 c-feed-leaves s piece lent e =
-    let l = feed-leaves (handedIn s) piece lent (by (feed-framed (handedIn s) piece lent) e) in
-    (ap handedBack (l .0), l .1)
+    let f = by (feed-framed (handedIn s) piece lent) e in
+    let l = feed-leaves (handedIn s) piece lent (f .0) in
+    (ap handedBack (l .0), l .1, l .2, f .1)
   where
-    by : {f : Fed} → Framed f → numberOf (f .answer .kind) ≡ 14 → f .answer .kind ≡ NoRoom
+    by : {f : Fed} → Framed f → numberOf (f .answer .kind) ≡ 14 → (f .answer .kind ≡ NoRoom) × (f .answer .length ≡ 0)
     by (used-up n t) q = absurd (omega arith)
     by (a-frame size n t) q = absurd (omega arith)
     by (broken-frame n t) q = absurd (omega arith)
     by (long-frame n t) q = absurd (omega arith)
-    by (foreign-state t) q = refl
+    by (foreign-state t) q = (refl, refl)
+
+-- as many bytes as C is told of a frame stand in the buffer
+pub c-frame-fits : (s : CFrameState) (piece lent : List ℕ) → fedSeen (fed (handedIn s) piece lent .said) .length ≤ length lent
+c-frame-fits s piece lent = frame-in-buffer (handedIn s) piece lent

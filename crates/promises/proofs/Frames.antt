@@ -14,13 +14,12 @@ use Rattle.frames.specs.Steps.{outside}
 use Rattle.frames.specs.Feeding.{fed}
 use Rattle.frames.specs.Runs.{Happening, Runs, Run, Reached, line}
 use Rattle.frames.specs.Gathered.{gathered, lastAt, laid, lastOf}
-use Rattle.laws.specs.Framed.{Framed}
+use Rattle.laws.specs.Framed.{Framed, Said}
 use Rattle.laws.proofs.FrameCuts as Cuts
 use Rattle.laws.proofs.FrameStates.{known-reached, reached-known, unreached-refused, reached-taken, taken-reached}
 use Rattle.laws.proofs.FramePlaces as Places
 use Rattle.laws.proofs.FrameGrammar as Grammar
-use Rattle.laws.proofs.FrameGrammar.{Said}
-use Rattle.laws.proofs.FrameNumbers.{feed-framed}
+use Rattle.laws.proofs.FrameNumbers as Numbers
 
 -- ---- "The frames, drops and end state must be the same however the bytes were cut, provided the same buffer comes back untouched each time."
 
@@ -52,8 +51,8 @@ wired-exactly d ps n k es t x =
 -- ---- the buffer behind a line: each place, from any state that is reached; and by the bodies
 
 pub place-holds : {s t : FrameState} {d x : List ℕ} {ps : List (List ℕ)} {es : List Happening} → Reached (length d) s → Runs s d ps es t x
-    → (i : ℕ) → getD x i 0 ≡ lastAt i (gathered (frameLimit (length d)) s (line ps)) (getD d i 0)
-place-holds {s} {t} {d} reached = Places.place-holds (reached-known (length d) s reached)
+    → (length x ≡ length d) × ((i : ℕ) → getD x i 0 ≡ lastAt i (gathered (frameLimit (length d)) s (line ps)) (getD d i 0))
+place-holds {s} {t} {d} reached r = let k = reached-known (length d) s reached in (Places.places-stay k r, Places.place-holds k r)
 
 pub bodies-hold : (cs : List (List ℕ)) (d : List ℕ) (i : ℕ) → getD (laid cs d) i 0 ≡ lastOf i cs (getD d i 0)
 bodies-hold = Places.laid-holds
@@ -62,7 +61,11 @@ bodies-hold = Places.laid-holds
 
 -- number and stop agree, the place is 0, and only a frame has a length
 pub feed-answers : (s : FrameState) (p d : List ℕ) → Framed (fed s p d .said)
-feed-answers = feed-framed
+feed-answers = Numbers.feed-framed
+
+-- from any state: a frame has no more bytes than the limit, and fits the buffer
+pub frame-fits : (s : FrameState) (p d : List ℕ) → (fed s p d .said .answer .length ≤ frameLimit (length d)) × (fed s p d .said .answer .length ≤ length d)
+frame-fits s p d = (Numbers.frame-fits s p d, Numbers.frame-in-buffer s p d)
 
 module _ (s : FrameState) (p d : List ℕ) (reached : Reached (length d) s) where
   -- a stop has used a byte, so whoever calls again comes to an end

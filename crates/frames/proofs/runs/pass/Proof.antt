@@ -1,7 +1,7 @@
 -- Rests on the laws of each way through: what a run passes over, for a state that is known.
 use borrow.Author.Needs.{needs}
 use Prim.Native.Nat.{_≤_, _<_, _+_, _-_}
-use mathlib.Core.Path.{_≡_, sym, ap, _∙_}
+use mathlib.Core.Path.{_≡_, sym, ap, subst, _∙_}
 use mathlib.Core.Logic.{⊎-elim}
 use lib.ListN.{length, take}
 use lib.Seq.{length-take-le}
@@ -9,7 +9,8 @@ use native.Mathlib.Omega.{arith}
 use denote.Ref.{now}
 use Rattle.alphabet.specs.Lists.{first}
 use Rattle.alphabet.proofs.ListLaws.{first-le}
-use Rattle.frames.specs.Passing.{framing}
+use Rattle.frames.specs.declared.state.FrameState.{FrameState}
+use Rattle.frames.specs.Passing.{framing, PassesOver}
 use Rattle.frames.proofs.PassLaws.{pass-count, pass-held, pass-room, pass-outside, pass-inside, pass-skipping, pass-none}
 use Rattle.frames.proofs.runs.pass.Statement.{statement}
 use Rattle.frames.proofs.runs.pass.Tie as tie
@@ -21,8 +22,12 @@ counted-on-requires c κs =
 
 returns : tie.Need-returns
 returns c =
-    let z = c .before .before .before .before .before .before in
-    pass-outside (z .args .limit) (z .args .state) (now (z .args .rest)) (now (z .args .buffer)) (z .pre .0) (z .pre .1) (c .before .find-far .result) (c .counted-on .result) (c .before .before .if1 .taken) (c .before .find-far .ensures) (c .counted-on .ensures)
+    let k = c .before in
+    let z = k .before .before .before .before .before .before in
+    let l = now (z .args .rest) in
+    let d = now (z .args .buffer) in
+    subst (λ (t : FrameState). PassesOver (z .args .limit) (z .args .state) l d (record { run = k .before .find-far .result; state = t }) d) (sym (c .of .ensures))
+    (pass-outside (z .args .limit) (z .args .state) l d (z .pre .0) (z .pre .1) (k .before .find-far .result) (k .counted-on .result) (k .before .before .if1 .taken) (k .before .find-far .ensures) (k .counted-on .ensures))
 
 held : (z : tie.Start) → z .args .state .held ≤ z .args .limit
 held z = pass-held (z .args .limit) (z .args .state) (now (z .args .rest)) (now (z .args .buffer)) (z .pre .0) (z .pre .1)
@@ -49,8 +54,8 @@ within c = let b = bounds c .0 in let f = first-le framing (now (c .before .befo
 slice-aggregate-put : tie.Need-slice-aggregate-put
 slice-aggregate-put c = sym (length-take-le _ _ (within (c .before .before)))
 
-add-t12 : tie.Need-add-t12
-add-t12 c =
+add-of : tie.Need-add-of
+add-of c =
     let k = c .before .before .before .before .before .before in
     let z = k .before .before .before .before .before .before .before .before in
     let b = bounds k .1 in
@@ -59,10 +64,14 @@ add-t12 c =
 
 returns-2 : tie.Need-returns-2
 returns-2 c =
-    let k = c .before .before .before .before .before .before in
+    let k = c .before .before .before .before .before .before .before in
     let z = k .before .before .before .before .before .before .before .before in
     let b = bounds k in
-    pass-inside (z .args .limit) (z .args .state) (now (z .args .rest)) (now (z .args .buffer)) (z .pre .0) (z .pre .1) (k .if3 .run) _ (k .before .before .if2 .taken) (b .0) (b .1) (c .before .before .before .put .ensures .1)
+    let l = now (z .args .rest) in
+    let d = now (z .args .buffer) in
+    let x = c .before .before .before .before .put .last .0 in
+    subst (λ (t : FrameState). PassesOver (z .args .limit) (z .args .state) l d (record { run = k .if3 .run; state = t }) x) (sym (c .of2 .ensures))
+    (pass-inside (z .args .limit) (z .args .state) l d (z .pre .0) (z .pre .1) (k .if3 .run) x (k .before .before .if2 .taken) (b .0) (b .1) (c .before .before .before .before .put .ensures .1))
 
 returns-3 : tie.Need-returns-3
 returns-3 c =
@@ -80,13 +89,15 @@ pass-spec =
     (tie.spec
     (λ c κs. search needs)
     counted-on-requires
+    (λ c κs. search needs)
     returns
     (λ c κs. search needs)
     sub-if3
     sub-run
     slice-aggregate-put
     (λ c κs. search needs)
-    add-t12
+    add-of
+    (λ c κs. search needs)
     (λ c. search needs)
     returns-2
     (λ c κs. search needs)

@@ -42,9 +42,10 @@ whole c =
 returns : tie.Need-returns Inv-loop μ-loop
 unfolding foreign
 returns c =
-    let a = c .before .before .before .before .args in
-    let e = fed-foreign (a .self) (now (a .piece)) (now (a .buffer)) (sym (c .before .is-known .ensures) ∙ not-true _ (c .if1 .taken)) in
-    (ap (λ (f : Feeding). f .said) (sym e), ap (λ (f : Feeding). f .left) (sym e))
+    let k = c .before in
+    let a = k .before .before .before .before .args in
+    let e = fed-foreign (a .self) (now (a .piece)) (now (a .buffer)) (sym (k .before .is-known .ensures) ∙ not-true _ (k .if1 .taken)) in
+    (c .given .ensures ∙ ap (λ (f : Feeding). f .said) (sym e), ap (λ (f : Feeding). f .left) (sym e))
 
 loop-holds : tie.Need-loop-holds Inv-loop μ-loop
 loop-holds c = (omega arith, refl, can c, refl)
@@ -210,6 +211,7 @@ feed-spec =
     (tie.spec
     Inv-loop
     μ-loop
+    (λ c κs. search needs)
     (λ c κs. search needs)
     returns
     (λ c κs. search needs)
