@@ -20,8 +20,8 @@ pub data Framed : Fed → Type 0 where
   long-frame : (n : ℕ) (t : FrameState) → Framed (given FrameTooLong 0 n S.Drop t)
   foreign-state : (t : FrameState) → Framed (given NoRoom 0 0 S.Refused t)
 
--- what the grammar says of a line, from outside a frame with n bytes dropped before: it is wired so, and the buffer x is d
--- with the line's bodies laid over it
+-- what the grammar says of a line, from outside a frame with n bytes dropped before: it is wired so, and the buffer x is
+-- d with the line's bodies laid over it
 pub record Said (limit n : ℕ) (l : List ℕ) (es : List Happening) (t : FrameState) (d x : List ℕ) : Type 0 where
   pub bodies : List (List ℕ)
   pub derivation : Wired limit out n l es bodies t
