@@ -1,6 +1,6 @@
-/* What the network side of a gateway does with one message, here from standard input: the verdict in words on standard error, and the
- * acknowledgement on standard output. It ends with 0 where the message was accepted, 1 where it was refused and the sender was told so, and 2
- * where nothing could be sent back.
+/* What the network side of a gateway does with one message, here from standard input: the verdict in words and the letters of the answer (AA,
+ * AE or AR) on standard error, and the acknowledgement on standard output. It ends with 0 where the message was accepted, 1 where it was
+ * refused and the sender was told so, and 2 where nothing could be sent back.
  *
  *     c/link examples/gateway.c gateway && ./gateway 20261115103000+1000 0001 < examples/blood-count.hl7
  */
@@ -43,6 +43,13 @@ static void print_verdict(turrethog_verdict_answer verdict, size_t length)
         fprintf(stderr, "  the message could have ended there\n");
 }
 
+/* MSA-1, as the sender will read it: AA, accepted; AE, this message is wrong; AR, a message of this kind is not taken here. */
+static void print_letters(size_t length)
+{
+    turrethog_element letters = turrethog_find(acknowledgement, length, 1, 1, 0, 0, 0);
+    fprintf(stderr, "answered %.*s\n", (int)(letters.end - letters.start), (const char *)acknowledgement + letters.start);
+}
+
 int main(int count, char **words)
 {
     if (count != 3) {
@@ -58,6 +65,7 @@ int main(int count, char **words)
         fprintf(stderr, "not acknowledged (%u): %s\n", (unsigned)written.number, in_words(written.number));
         return 2;
     }
+    print_letters(written.length);
     if (fwrite(acknowledgement, 1, written.length, stdout) != written.length || fflush(stdout) != 0) {
         fprintf(stderr, "the acknowledgement could not be sent\n");
         return 2;

@@ -15,12 +15,13 @@ use Rattle.alphabet.specs.declared.answers.Refusal.the-variants.{None, NotAckno
 use Rattle.times.specs.Times.{isTs}
 use Rattle.escaping.specs.Outcomes.{Outcome, text, fault}
 use Rattle.escaping.specs.Outcomes.{answer, filled}
-use Rattle.acknowledgement.specs.Acknowledgement.{header, badId, acknowledgeable, refusing, codeOf, acknowledgement, roomy, answerTo, Acknowledges}
+use Rattle.acknowledgement.specs.Acknowledgement.{header, badId, acknowledgeable, refusing, acknowledgement, roomy, answerTo, Acknowledges}
 use Rattle.acknowledgement.specs.Acknowledgement.Acknowledges.{not-written, written}
 use Rattle.verdict.specs.Verdicts.{Verdicts}
 use Rattle.fault.specs.declared.FaultRecord.{FaultRecord}
 use Rattle.verdict.proofs.VerdictLaws.{one-verdict}
-use Rattle.acknowledgement.specs.declared.letters.Code.{Code}
+use Rattle.acknowledgement_code.specs.Codes.{codeOf}
+use Rattle.acknowledgement_code.specs.declared.Code.{Code}
 
 module _ (m time id lent : List ℕ) where
   -- the contract, from what the writer gives of the header that was taken and of the code that was chosen

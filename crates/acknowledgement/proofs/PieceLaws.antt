@@ -29,8 +29,8 @@ use Rattle.escaping.specs.Outcomes.{escaping}
 use Rattle.escaping.proofs.OutcomeLaws.{escape-most, escaping-fits}
 use Rattle.acknowledgement.specs.Acknowledgement.{sent, typePart, present, encoding, typeSent, version, headerParts, answerParts, acknowledgement, roomy}
 use Rattle.acknowledgement.specs.Pieces.{together, least, eventMark, event, fixedText, pieces}
-use Rattle.acknowledgement.specs.declared.letters.Code.{Code}
-use Rattle.acknowledgement.specs.declared.letters.Code.the-variants.{Accept, Error}
+use Rattle.acknowledgement_code.specs.declared.Code.{Code}
+use Rattle.acknowledgement_code.specs.declared.Code.the-variants.{Accept, Error, Reject}
 
 -- ---- pieces that are references, as a loop goes over them
 
@@ -162,6 +162,7 @@ module _ (h time id : List ℕ) where
   unfolding together pieces answerParts spread
   cut Accept = refl
   cut Error = refl
+  cut Reject = refl
 
   pub pieces-together : (code : Code) → 8 ≤ length h → isHeader h ≡ true → together (pieces h time (escape (delimitersOf h) id) (fixedText code)) ≡ acknowledgement h time id code
   unfolding headerParts typeSent spread

@@ -6,7 +6,6 @@ use mathlib.Core.List.{List, [], _∷_, _++_}
 use mathlib.Core.Bool.{Bool, true, false, cond, not, _&&_, _||_}
 use lib.ListN.{length, getD, take}
 use lib.Dec.{leb, ltb, eqb}
-use Rattle.alphabet.specs.Answers.{numberOf}
 use Rattle.alphabet.specs.Bytes.{carriageReturn, ascii}
 use Rattle.alphabet.specs.Limits.{messageLimit, idLimit}
 use Rattle.alphabet.specs.Lists.{find, same}
@@ -29,8 +28,8 @@ use Rattle.escaping.specs.Outcomes.{Outcome, text, fault}
 use Rattle.escaping.specs.Outcomes.{answer, filled}
 use Rattle.verdict.specs.Verdicts.{Verdicts}
 use Rattle.fault.specs.declared.FaultRecord.{FaultRecord}
-use Rattle.acknowledgement.specs.declared.letters.Code.{Code}
-use Rattle.acknowledgement.specs.declared.letters.Code.the-variants.{Accept, Error}
+use Rattle.acknowledgement_code.specs.Codes.{codeOf, lettersOf}
+use Rattle.acknowledgement_code.specs.declared.Code.{Code}
 
 -- ---- the sender's header
 
@@ -74,15 +73,6 @@ headerParts h time id =
     ascii "MSH" ∷ encoding h
     ∷ sent h 5 ∷ sent h 6 ∷ sent h 3 ∷ sent h 4
     ∷ time ∷ [] ∷ typeSent h ∷ escape (delimitersOf h) id ∷ sent h 11 ∷ version ∷ []
-
--- "Code AA exactly when reading, structure and fields all accept; else AE.": number 0 is the verdict that all accept
-unfoldable pub codeOf : FaultRecord → Code
-codeOf r = cond (eqb (numberOf (r .kind)) 0) Accept Error
-
--- how a code is written
-abbrev pub lettersOf : Code → List ℕ
-lettersOf Accept = ascii "AA"
-lettersOf Error = ascii "AE"
 
 -- "Then MSA: code, and the sender's MSH-10 raw."
 unfoldable pub answerParts : List ℕ → Code → List (List ℕ)

@@ -7,8 +7,9 @@ use lib.ListN.{length, getD, take, drop}
 use lib.Dec.{ltb, eqb}
 use Rattle.alphabet.specs.Bytes.{carriageReturn, ascii}
 use Rattle.reading.specs.Segments.{fieldSeparator}
-use Rattle.acknowledgement.specs.Acknowledgement.{sent, typePart, present, version, lettersOf}
-use Rattle.acknowledgement.specs.declared.letters.Code.{Code}
+use Rattle.acknowledgement.specs.Acknowledgement.{sent, typePart, present, version}
+use Rattle.acknowledgement_code.specs.Codes.{lettersOf}
+use Rattle.acknowledgement_code.specs.declared.Code.{Code}
 
 -- pieces one behind another
 unfoldable pub together : List (List ℕ) → List ℕ

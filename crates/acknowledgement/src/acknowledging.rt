@@ -1,9 +1,9 @@
 // Acknowledging a message: what stands against it, the verdict's code, and the writing. The message and the time share
 // a lifetime, since pieces of both go into one array.
-use crate::letters::code_of;
 use crate::pieces::write;
 use crate::sender::header_of;
 use crate::sender::is_acknowledgeable;
+use acknowledgement_code::code_of;
 use alphabet::Answer;
 use alphabet::Refusal;
 ghost use mathlib.Core.Path.{_≡_};

@@ -2,10 +2,10 @@
 // fixed texts. All are measured before the first is written, so that one that does not fit writes nothing. The pieces
 // share a lifetime, so that one array can hold them; the fixed texts are handed down as one, since a text of a
 // function's own ends with the function.
-use crate::letters::Code;
 use crate::sender::field_of;
 use crate::sender::is_present;
 use crate::sender::type_part;
+use acknowledgement_code::Code;
 use alphabet::Answer;
 use alphabet::Refusal;
 use escaping::Room;
@@ -187,6 +187,7 @@ fn fixed_text(code: Code) -> [u8; 12]
     match code {
         Code::Accept => *b"ACK2.4MSAAA\r",
         Code::Error => *b"ACK2.4MSAAE\r",
+        Code::Reject => *b"ACK2.4MSAAR\r",
     }
 }
 

@@ -1,45 +1,90 @@
 // `ack`: the acknowledgement of a message, for a time and an ID that two words say. It goes to a line and not to a
-// terminal, so that its bytes are written as they are.
+// terminal, so that its bytes are written as they are. Which letters it has and why is said beside it, on standard
+// error.
 ghost use Prim.Native.Nat.{_≤_};
 use alphabet::Refusal;
+use element::Address;
 use terminal::Output;
 
-// The output behind an acknowledgement, and why there is none where there is none.
+// The outputs behind an acknowledgement, the one that has its bytes and the one on which its letters were said; and why
+// there is none where there is none.
 pub struct Acknowledged {
     pub out: Output,
+    pub said: Output,
     pub kind: Refusal,
 }
 
-// Writes the acknowledgement of a message for a time and an ID. It is made in `room`.
+// The letters of an acknowledgement: its MSA-1, as whoever gets it reads them.
+fn letters_of(answer: &[u8]) -> &[u8] {
+    let address = Address {
+        segment: 1,
+        field: 1,
+        repetition: 0,
+        component: 0,
+        subcomponent: 0,
+    };
+    element::raw(answer, address)
+}
+
+// Says of a file with which letters its message is answered, and why: the verdict on it.
+fn print_letters(out: Output, name: &[u8], message: &[u8], answer: &[u8]) -> Output {
+    let out = terminal::print(out, name);
+    let out = terminal::print(out, b": ");
+    let out = terminal::print(out, letters_of(answer));
+    let told = drawing::print_in_line(out, message);
+    told.out
+}
+
+// Writes the acknowledgement of a message for a time and an ID. It is made in `room`. Its letters are said first, since
+// the CR at its end lets a terminal write over it.
 fn acknowledge<'a>(
     out: Output,
+    name: &[u8],
     message: &'a [u8],
     time: &'a [u8],
     id: &'a [u8],
     room: &mut [u8],
 ) -> Acknowledged {
+    let said = terminal::standard_error();
     let answer = acknowledgement::acknowledge(message, time, id, room);
     let kind = answer.kind;
     if alphabet::number(kind) != 0 {
         return Acknowledged {
             out: out,
+            said: said,
             kind: kind,
         };
     }
-    let written = terminal::write(out, places::piece(room, 0, answer.length));
+    let bytes = places::piece(room, 0, answer.length);
+    let told = print_letters(said, name, message, bytes);
+    let written = terminal::write(out, bytes);
     Acknowledged {
         out: written,
+        said: told,
         kind: kind,
     }
 }
 
-// Writes the acknowledgement of a message by the two words from `first` on, a time and an ID.
-pub fn acknowledge_by(out: Output, message: &[u8], first: usize, room: &mut [u8]) -> Acknowledged
+// Writes the acknowledgement of the message that a file holds by the two words from `first` on, a time and an ID.
+pub fn acknowledge_by(
+    out: Output,
+    name: &[u8],
+    message: &[u8],
+    first: usize,
+    room: &mut [u8],
+) -> Acknowledged
     requires { ⌜ first ≤ 9 ⌝ }
 {
     let mut time = io::buffer();
     let mut id = io::buffer();
     let time_length = os::arg(first, &mut time);
     let id_length = os::arg(first + 1, &mut id);
-    acknowledge(out, message, &time[..time_length], &id[..id_length], room)
+    acknowledge(
+        out,
+        name,
+        message,
+        &time[..time_length],
+        &id[..id_length],
+        room,
+    )
 }

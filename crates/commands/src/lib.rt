@@ -1,6 +1,6 @@
 // The four commands on the message that a file holds, `check`, `show`, `get` and `ack`, and the one on the frames of a
 // file, `frames`. What they find is printed to the output that they are handed. Why there is nothing to find is said on
-// standard error, as `check` says it where there is no message.
+// standard error, as `check` says it where there is no message; and so is what an acknowledgement says.
 ghost use Prim.Native.Nat.{_≤_};
 use alphabet::Refusal;
 use arguments::Asked;
@@ -109,19 +109,21 @@ fn get(out: Output, name: &[u8], message: &[u8], first: usize, word: &mut [u8]) 
     }
 }
 
-// `ack`: the acknowledgement of a message, by the two words from `first` on. It is made in `room`.
+// `ack`: the acknowledgement of a message, by the two words from `first` on. It is made in `room`, and with which
+// letters and why is said on standard error.
 fn acknowledge(out: Output, name: &[u8], message: &[u8], first: usize, room: &mut [u8]) -> Outcome
     requires { ⌜ first ≤ 9 ⌝ }
 {
-    let done = acknowledging::acknowledge_by(out, message, first, room);
+    let done = acknowledging::acknowledge_by(out, name, message, first, room);
     let written = done.out;
+    let said = done.said;
     let kind = done.kind;
     if alphabet::number(kind) != 0 {
         return refuse(written, name, kind);
     }
     Outcome {
         out: written,
-        status: DONE,
+        status: if said.is_whole { DONE } else { TROUBLE },
     }
 }
 

@@ -10,12 +10,10 @@ use native.Mathlib.Omega.{arith}
 use lib.Dec.{leb, ltb, eqb}
 use lib.ListN.{length, getD, take, drop, length-append, length-drop}
 use lib.Seq.{getD-take, take-take, length-take-le}
-use borrow.Author.Tests.{lt-ltb, le-leb, leb-true, eqb-true, eqb-false}
-use Rattle.alphabet.specs.Answers.{numberOf}
+use borrow.Author.Tests.{lt-ltb, le-leb, leb-true}
 use Rattle.alphabet.specs.Bytes.{carriageReturn, allowed, ascii}
 use Rattle.alphabet.specs.Delimiters.{firstWrongDelimiter}
 use Rattle.alphabet.proofs.BoolLaws.{and-both, false-true}
-use Rattle.alphabet.proofs.CheckLaws.{number-none}
 use Rattle.alphabet.proofs.ListLaws.{same-is}
 use Rattle.alphabet.specs.Limits.{messageLimit, idLimit}
 use Rattle.alphabet.specs.Lists.{find, same}
@@ -51,14 +49,15 @@ use Rattle.structure.specs.Structures.{ack, chosen, structureFor, builtIn, ackn
 use Rattle.fault.specs.Faults.{plain}
 use Rattle.structure.specs.Judged.{Judged, Answers}
 use Rattle.verdict.specs.Verdicts.{Accepts}
-use Rattle.fault.specs.declared.FaultRecord.{FaultRecord}
-use Rattle.verdict.proofs.VerdictLaws.{accepts-exactly as verdict-accepts}
-use Rattle.acknowledgement.specs.Acknowledgement.{header, fieldAddress, sent, typePart, present, typeSent, lettersOf, acknowledgement, badId, passes, acknowledgeable, roomy, codeOf, answerTo, Acknowledges}
+use Rattle.verdict.proofs.VerdictLaws.{one-verdict, accepts-exactly as verdict-accepts}
+use Rattle.acknowledgement.specs.Acknowledgement.{header, fieldAddress, sent, typePart, present, typeSent, acknowledgement, badId, passes, acknowledgeable, roomy, answerTo, Acknowledges}
 use Rattle.acknowledgement.specs.Acknowledgement.Acknowledges.{not-written, written}
-use Rattle.acknowledgement.specs.declared.letters.Code.{Code}
-use Rattle.acknowledgement.specs.declared.letters.Code.the-variants.{Accept, Error}
+use Rattle.acknowledgement_code.specs.Codes.{codeOf, lettersOf}
+use Rattle.acknowledgement_code.specs.declared.Code.{Code}
 use Rattle.acknowledgement.proofs.HeaderLaws.{nothing-against, return-inside, header-find, header-ends, sound-header}
 use Rattle.laws.proofs.SenderLaws.{segments-header}
+use Rattle.laws.specs.Rejected.{Rejects, Rejected}
+use Rattle.laws.proofs.CodeLaws.{letters-accept, letters-reject, letters-error}
 use Rattle.laws.proofs.WrittenLaws as W
 use Rattle.acknowledgement.proofs.AnswerLaws.{Writes, zero-writes, nine-unacknowledgeable}
 
@@ -132,32 +131,6 @@ length-told m time id lent (written e found v) zero = at (leb (length w) (length
 -- field f of MSA, which stands behind MSH
 abbrev pub answerAddress : ℕ → Address
 answerAddress f = record { segment = 1; field = f; repetition = 0; component = 0; subcomponent = 0 }
-
--- ---- the letters by the verdict's record
-
--- AA exactly for the record that accepts
-letters-accept : (r : FaultRecord) → (lettersOf (codeOf r) ≡ ascii "AA") ↔ (r .kind ≡ None)
-unfolding codeOf
-letters-accept r = at (eqb (numberOf (r .kind)) 0) refl
-  where
-    at : (t : Bool) → eqb (numberOf (r .kind)) 0 ≡ t → (lettersOf (cond t Accept Error) ≡ ascii "AA") ↔ (r .kind ≡ None)
-    at true e = (λ q. number-none (r .kind) (eqb-true (numberOf (r .kind)) 0 e), λ q. refl)
-    at false e = (
-      λ q. absurd (let z : _≡_ {A = ℕ} 69 65 = ap (λ (l : List ℕ). getD l 1 0) q in omega arith),
-      λ q. absurd (eqb-false (numberOf (r .kind)) 0 e (ap numberOf q)),
-    )
-
--- AE for every other
-letters-refuse : (r : FaultRecord) → (lettersOf (codeOf r) ≡ ascii "AE") ↔ (r .kind ≡ None → ⊥)
-unfolding codeOf
-letters-refuse r = at (eqb (numberOf (r .kind)) 0) refl
-  where
-    at : (t : Bool) → eqb (numberOf (r .kind)) 0 ≡ t → (lettersOf (cond t Accept Error) ≡ ascii "AE") ↔ (r .kind ≡ None → ⊥)
-    at true e = (
-      λ q. absurd (let z : _≡_ {A = ℕ} 65 69 = ap (λ (l : List ℕ). getD l 1 0) q in omega arith),
-      λ n. absurd (n (number-none (r .kind) (eqb-true (numberOf (r .kind)) 0 e))),
-    )
-    at false e = (λ q n. eqb-false (numberOf (r .kind)) 0 e (ap numberOf n), λ n. refl)
 
 -- each number is a byte, as in every slice that is handed in
 module _ (m time id lent : List ℕ) (small : AreBytes id) {r : Answer} {x : List ℕ} (a : Acknowledges m time id lent r x) (done : r .kind ≡ None) where
@@ -297,19 +270,31 @@ module _ (m time id lent : List ℕ) (small : AreBytes id) {r : Answer} {x : Lis
   code-told : rawBytes w (answerAddress 1) ≡ lettersOf code
   code-told = ap (λ (b : List ℕ). rawBytes b (answerAddress 1)) (writes .bytes) ∙ W.carries-code h (sound .0) (sound .1) time id (against .0) small code
 
-  -- "AA exactly when reading, structure and fields all accept"
+  -- "Code AA exactly when reading, structure and fields all accept"
   pub accepts-exactly : (rawBytes w (answerAddress 1) ≡ ascii "AA") ↔ Accepts m
   accepts-exactly =
       let v = verdict-accepts m (writes .verdict) in
       let l = letters-accept (writes .found) in
       (λ q. v .0 (l .0 (sym code-told ∙ q)), λ q. code-told ∙ l .1 (v .1 q))
 
-  -- "else AE"
-  pub refuses-exactly : (rawBytes w (answerAddress 1) ≡ ascii "AE") ↔ (Accepts m → ⊥)
-  refuses-exactly =
+  -- the record that the letters go by is the first fault, and there is no second
+  own-fault : Rejected m → Rejects (writes .found)
+  own-fault j = subst Rejects (one-verdict m (j .first) (writes .verdict)) (j .rejects)
+
+  -- "an unsupported type (20), or MSH-11 or MSH-12 outside its list (33), is AR"
+  pub rejects-exactly : (rawBytes w (answerAddress 1) ≡ ascii "AR") ↔ Rejected m
+  rejects-exactly =
+      let l = letters-reject (writes .found) in
+      (λ q. record { fault = writes .found; first = writes .verdict; rejects = l .0 (sym code-told ∙ q) }, λ j. code-told ∙ l .1 (own-fault j))
+
+  -- "the rest stays AE"
+  pub errors-exactly : (rawBytes w (answerAddress 1) ≡ ascii "AE") ↔ ((Accepts m → ⊥) × (Rejected m → ⊥))
+  errors-exactly =
       let v = verdict-accepts m (writes .verdict) in
-      let l = letters-refuse (writes .found) in
-      (λ q accepts. l .0 (sym code-told ∙ q) (v .1 accepts), λ n. code-told ∙ l .1 (λ q. n (v .0 q)))
+      let l = letters-error (writes .found) in (
+        λ q. let n = l .0 (sym code-told ∙ q) in (λ a. n .0 (v .1 a), λ j. n .1 (own-fault j)),
+        λ n. code-told ∙ l .1 (λ e. n .0 (v .0 e), λ j. n .1 (record { fault = writes .found; first = writes .verdict; rejects = j })),
+      )
 
 -- ---- 9 for an accepted message
 

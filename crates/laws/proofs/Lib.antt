@@ -21,6 +21,7 @@ pub mod Agreement
 pub mod ControlId
 pub mod LineLaws
 pub mod SenderLaws
+pub mod CodeLaws
 pub mod WrittenLaws
 pub mod Acknowledged
 pub mod PresentLaws

@@ -39,9 +39,10 @@ use Rattle.structure.specs.Structures.{ack, chosen, choose, structureFor, built
 use Rattle.fault.specs.Faults.{plain}
 use Rattle.structure.specs.Judged.{Judged, accepted, by, Answers, read}
 use Rattle.structure.proofs.ChoiceLaws.{is-acknowledgement}
-use Rattle.acknowledgement.specs.Acknowledgement.{fieldAddress, sent, typePart, present, encoding, typeSent, headerParts, lettersOf, answerParts, acknowledgement, version}
-use Rattle.acknowledgement.specs.declared.letters.Code.{Code}
-use Rattle.acknowledgement.specs.declared.letters.Code.the-variants.{Accept, Error}
+use Rattle.acknowledgement.specs.Acknowledgement.{fieldAddress, sent, typePart, present, encoding, typeSent, headerParts, answerParts, acknowledgement, version}
+use Rattle.acknowledgement_code.specs.Codes.{lettersOf}
+use Rattle.acknowledgement_code.specs.declared.Code.{Code}
+use Rattle.acknowledgement_code.specs.declared.Code.the-variants.{Accept, Error, Reject}
 use Rattle.laws.proofs.LineLaws.{Printable, Not, Clean, Lines, lines-segments, lines-message, lines-header-field, lines-field, joined-printable, joined-parts}
 use Rattle.laws.proofs.SenderLaws.{field-clean, event-clean, delimiter-printable, delimiters-apart, no-delimiter, sign-clean}
 
@@ -163,6 +164,7 @@ module _ (h : List ℕ) (o : Opened h) (one : find carriageReturn h + 1 ≡ leng
     unfolding Each
     code-fine Accept = (sign 65 refl refl, (sign 65 refl refl, tt))
     code-fine Error = (sign 65 refl refl, (sign 69 refl refl, tt))
+    code-fine Reject = (sign 65 refl refl, (sign 82 refl refl, tt))
 
     pub answer-fine : Every (Each Fine) (answerParts h letters)
     unfolding Each Every answerParts

@@ -4,3 +4,4 @@ pub mod Held
 pub mod Entries
 pub mod Types
 pub mod Framed
+pub mod Rejected

@@ -15,7 +15,7 @@ use Rattle.escaping.specs.Escape.{escape}
 use Rattle.escaping.specs.Outcomes.{escaping, answer, filled}
 use Rattle.text.specs.Unescape.{unescaping}
 use Rattle.acknowledgement.specs.Acknowledgement.{Acknowledges}
-use Rattle.laws.proofs.Acknowledged.{reads-back, of-type, yields-ack, fits-ack, named-so, counted, carries-id, identified-sender, told, own-delimiters, crossed, stamped, with-event, without-event, own-id, callers-id, accepts-exactly, refuses-exactly}
+use Rattle.laws.proofs.Acknowledged.{reads-back, of-type, yields-ack, fits-ack, named-so, counted, carries-id, identified-sender, told, own-delimiters, crossed, stamped, with-event, without-event, own-id, callers-id, accepts-exactly, rejects-exactly, errors-exactly}
 use Rattle.laws.proofs.Clean.{both-ways}
 use Rattle.laws.proofs.RoundTrip.{AreBytes}
 use Rattle.promises.specs.Acknowledgements.{Carries}
@@ -60,7 +60,8 @@ acknowledgement-carries m time id lent small a done =
       processing = s .3;
       version = s .4;
       accepted-exactly = accepts-exactly m time id lent small a done;
-      refused-exactly = refuses-exactly m time id lent small a done;
+      rejected-exactly = rejects-exactly m time id lent small a done;
+      errored-exactly = errors-exactly m time id lent small a done;
     }
 
 -- "A written text or acknowledgement fills the front of its buffer, its length is given, the bytes behind it stay.": a length that the buffer has, a buffer of

@@ -30,6 +30,7 @@ use Rattle.structure.specs.Judged.{Judged, Answers}
 use Rattle.verdict.specs.Verdicts.{Accepts}
 use Rattle.acknowledgement.specs.Acknowledgement.{header}
 use Rattle.acknowledgement.specs.Acknowledgement.{fieldAddress as inHeader}
+use Rattle.laws.specs.Rejected.{Rejected}
 use Rattle.grammars.specs.SpeltTimes.{Ts}
 
 -- the whole of a field of the second segment, which is MSA; `inHeader` is that of a field of MSH
@@ -72,9 +73,13 @@ pub record Carries (m time id w : List ℕ) : Type 0 where
   -- "11 copied raw; 12 `2.4`"
   pub processing : rawBytes w (inHeader 11) ≡ rawBytes m (inHeader 11)
   pub version : rawBytes w (inHeader 12) ≡ ascii "2.4"
-  -- "Code AA exactly when reading, structure and fields all accept; else AE."
+  -- "Code AA exactly when reading, structure and fields all accept"
   pub accepted-exactly : (rawBytes w (inAnswer 1) ≡ ascii "AA") ↔ Accepts m
-  pub refused-exactly : (rawBytes w (inAnswer 1) ≡ ascii "AE") ↔ (Accepts m → ⊥)
+  -- document 02, W2: "an unsupported type (20), or MSH-11 or MSH-12 outside its list (33), is AR", where that is the
+  -- first fault
+  pub rejected-exactly : (rawBytes w (inAnswer 1) ≡ ascii "AR") ↔ Rejected m
+  -- "the rest stays AE"
+  pub errored-exactly : (rawBytes w (inAnswer 1) ≡ ascii "AE") ↔ ((Accepts m → ⊥) × (Rejected m → ⊥))
 
 -- ---- refusals
 

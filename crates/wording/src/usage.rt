@@ -44,7 +44,8 @@ fn print_asking(out: Output) -> Output {
       ./turrethog get examples/blood-count.hl7 PID 5 1 1
 
   ./turrethog ack FILE TIME ID
-      The acknowledgement, AA or AE, of a message at a time, with an ID of its own. Its bytes are written raw.
+      The acknowledgement, AA, AE or AR, of a message at a time, with an ID of its own. Its bytes are written raw.
+      Which of the three, and why, is said on standard error.
       ./turrethog ack examples/blood-count.hl7 20240229093001+0000 ACK0001
 
   ./turrethog --help

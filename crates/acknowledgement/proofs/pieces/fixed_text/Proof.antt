@@ -1,4 +1,4 @@
--- Rests on the two texts being computed.
+-- Rests on the three texts being computed.
 use mathlib.Core.Path.{sym, ap}
 use borrow.Author.Needs.{needs}
 use Rattle.acknowledgement.specs.Pieces.{fixedText}
@@ -11,5 +11,7 @@ fixed-text-spec =
     (tie.spec
     (λ c. search needs)
     (λ c. search needs)
+    (λ c. search needs)
     (λ c. ap fixedText (sym (c .before .before .enum-told .given .1)))
-    (λ c. ap fixedText (sym (c .before .before .enum-told2 .given .1))))
+    (λ c. ap fixedText (sym (c .before .before .enum-told2 .given .1)))
+    (λ c. ap fixedText (sym (c .before .before .enum-told3 .given .1))))
