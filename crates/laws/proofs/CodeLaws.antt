@@ -8,7 +8,7 @@ use Prim.Native.Nat.{ℕ}
 use native.Mathlib.Omega.{arith}
 use lib.Dec.{eqb}
 use lib.ListN.{getD}
-use borrow.Author.Tests.{eq-eqb, eqb-true, eqb-false}
+use borrow.Author.Tests.{eqb-true, eqb-false}
 use Rattle.alphabet.specs.Answers.{numberOf}
 use Rattle.alphabet.specs.Bytes.{ascii}
 use Rattle.alphabet.proofs.BoolLaws.{and-both, false-true}

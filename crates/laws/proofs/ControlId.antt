@@ -83,14 +83,14 @@ one ds rs e =
 
 -- ---- the message
 
+-- where the first segment stands
+pub first-stands : (m s : List ℕ) (rest : List (List ℕ)) → segments m ≡ s ∷ rest → segmentAt m 0 ≡ At 0 (0 + length s)
+unfolding segmentAt standing
+first-stands m s rest first = ap (λ (ss : List (List ℕ)). standing 0 ss 0) first
+
 module _ (m s : List ℕ) (rest : List (List ℕ)) (first : segments m ≡ s ∷ rest) (sound : judging rows m ≡ Sound) where
-  -- where the first segment stands
   abbrev part : Part
   part = At 0 (0 + length s)
-
-  stands : segmentAt m 0 ≡ part
-  unfolding segmentAt standing
-  stands = ap (λ (ss : List (List ℕ)). standing 0 ss 0) first
 
   in-first : segmentFault rows m 0 0 s ≡ Sound
   unfolding judging segmentFaults firstFault
@@ -114,5 +114,5 @@ module _ (m s : List ℕ) (rest : List (List ℕ)) (first : segments m ≡ s ∷
   pub control-id : 4 ≤ length m → let id = rawBytes m (record { segment = 0; field = 10; repetition = 0; component = 0; subcomponent = 0 }) in (stateOf (delimitersOf m) id ≡ Present) × (length id ≤ idLimit)
   control-id long =
       let o = one (delimitersOf m) (repetitionsOf m 0 part 10) asked in
-      let e = raw-whole m long 0 10 ∙ ap (λ (p : Part). partBytes m (fieldIn m 0 p 10)) stands ∙ whole-is (fieldIn m 0 part 10) (o .bytes) (o .alone) in
+      let e = raw-whole m long 0 10 ∙ ap (λ (p : Part). partBytes m (fieldIn m 0 p 10)) (first-stands m s rest first) ∙ whole-is (fieldIn m 0 part 10) (o .bytes) (o .alone) in
       (ap (stateOf (delimitersOf m)) e ∙ o .present, subst (λ (l : List ℕ). length l ≤ idLimit) (sym e) (o .short))

@@ -24,6 +24,7 @@ pub mod SenderLaws
 pub mod CodeLaws
 pub mod WrittenLaws
 pub mod Acknowledged
+pub mod RejectedLaws
 pub mod PresentLaws
 pub mod AskedFacts
 pub mod TextRoom

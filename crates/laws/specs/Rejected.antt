@@ -2,10 +2,21 @@
 -- list (33), is AR". A second saying of `rejects` of crates/acknowledgement_code, as a list of cases.
 use Prim.Native.Nat.{ℕ}
 use mathlib.Core.Path.{_≡_}
-use mathlib.Core.List.{List}
+use mathlib.Core.List.{List, [], _∷_}
 use Rattle.alphabet.specs.Answers.{numberOf}
+use Rattle.alphabet.specs.Bytes.{ascii}
+use Rattle.alphabet.specs.declared.answers.Check.the-variants.{Passes}
+use Rattle.reading.specs.Reading.{reading}
+use Rattle.reading.specs.Segments.{delimitersOf}
+use Rattle.element.specs.Addresses.{typeAddress}
+use Rattle.element.specs.Finding.{rawBytes}
+use Rattle.element.specs.States.{stateOf}
+use Rattle.element.specs.declared.states.State.the-variants.{Present}
+use Rattle.structure.specs.Shapes.{Shape}
 use Rattle.fault.specs.declared.FaultRecord.{FaultRecord}
 use Rattle.verdict.specs.Verdicts.{Verdicts}
+use Rattle.laws.specs.Elements.{address}
+use Rattle.laws.specs.Types.{ListedAs}
 
 -- a fault that is answered so; the place of 33 is its segment's number, and MSH is segment 0
 pub data Rejects (r : FaultRecord) : Type 0 where
@@ -21,3 +32,26 @@ pub record Rejected (m : List ℕ) : Type 0 where
   pub fault : FaultRecord
   pub first : Verdicts m fault
   pub rejects : Rejects fault
+
+-- ---- the same in the message's own bytes
+
+-- "an unsupported type": the message was read, and document 01 lists no structure for what stands at MSH-9
+pub record Unsupported (m : List ℕ) : Type 0 where
+  pub was-read : reading m ≡ Passes
+  pub not-listed : (s : Shape) → ListedAs (rawBytes m (typeAddress 1)) (rawBytes m (typeAddress 2)) s → ⊥
+
+-- bytes that are none of some values
+abbrev pub NoneOf : List ℕ → List (List ℕ) → Type 0
+NoneOf bytes [] = Unit {0}
+NoneOf bytes (value ∷ others) = (bytes ≡ value → ⊥) × NoneOf bytes others
+
+-- "outside its list": what stands in component 1 of a field of MSH is present, and is none of the values
+pub record Outside (m : List ℕ) (field : ℕ) (values : List (List ℕ)) : Type 0 where
+  pub present : stateOf (delimitersOf m) (rawBytes m (address 0 field 1 1 0)) ≡ Present
+  pub unlike : NoneOf (rawBytes m (address 0 field 1 1 0)) values
+
+-- the lists: "D, P, T"; "`2.4`"
+pub data RejectedFor (m : List ℕ) : Type 0 where
+  its-type : Unsupported m → RejectedFor m
+  its-processing : Outside m 11 (ascii "D" ∷ ascii "P" ∷ ascii "T" ∷ []) → RejectedFor m
+  its-version : Outside m 12 (ascii "2.4" ∷ []) → RejectedFor m
