@@ -1,18 +1,18 @@
-//! The acknowledgement: what is sent back for a message, by document 01's chapter of that name.
-//! "Acknowledging: 16, 17, 9, 10." The place of each is 0.
+//! The acknowledgement: what is sent back for a message, by document 01's chapter of that name, and
+//! its letter by W2 of document 02. "Acknowledging: 16, 17, 9, 10." The place of each is 0.
 
 use crate::element::{self, Address, Element, State};
 use crate::reading::{self, refuse, Refusal, COMPONENT_SEPARATOR, CR, FIELD_SEPARATOR};
 use crate::reading::{LONGEST_MESSAGE, SUBCOMPONENT_SEPARATOR};
 use crate::text::{self, Delimiters};
-use crate::{times, verdict};
+use crate::times;
+use crate::verdict::{self, Fault};
 
 /// The caller's ID is "1 to 20 bytes", and the sender's is not acknowledged if "over 20 bytes".
 const LONGEST_ID: usize = 20;
 
-/// The acknowledgement of a message, with the time and the ID that the caller gives it. "Code AA
-/// exactly when reading, structure and fields all accept; else AE": so a fault behind the header is
-/// no refusal here (ruling 25).
+/// The acknowledgement of a message, with the time and the ID that the caller gives it. A fault
+/// behind the header is no refusal here, but told by the code (ruling 25).
 pub fn acknowledge(
     message: &[u8],
     time: &[u8],
@@ -23,9 +23,8 @@ pub fn acknowledge(
     check_id(id)?;
     let header = header_of(message)?;
     check_header(header)?;
-    let code = if verdict::judge(message).is_ok() { b"AA" } else { b"AE" };
     let header_back = header_back(header, time, id)?;
-    let acknowledgement = [header_back, answer_back(header, code)?].concat();
+    let acknowledgement = [header_back, answer_back(header, code_of(message))?].concat();
     check_room(acknowledgement, room)
 }
 
@@ -67,6 +66,28 @@ fn check_header(header: &[u8]) -> Result<(), Refusal> {
         return refuse(9, 0);
     }
     Ok(())
+}
+
+/// "Code AA exactly when reading, structure and fields all accept"; document 02 tells the others
+/// apart. "Where several faults stand, the first in the judges' order decides the letter" (W2).
+fn code_of(message: &[u8]) -> &'static [u8] {
+    match verdict::judge(message) {
+        Ok(()) => b"AA",
+        Err(fault) if rejects(&fault) => b"AR",
+        Err(_) => b"AE",
+    }
+}
+
+/// "An unsupported type (20), or MSH-11 or MSH-12 outside its list (33), is AR; the rest stays AE"
+/// (W2). "AR only for 20, and for 33 at MSH-11 or MSH-12; 31, 34 and 36 there are AE" (W2's ruling
+/// 12). MSH is segment 0 and no other.
+fn rejects(fault: &Fault) -> bool {
+    match fault {
+        Fault::OfStructure(misfit) => misfit.refusal.number == 20,
+        Fault::OfField(fault) => {
+            fault.number == 33 && fault.segment == 0 && matches!(fault.field, 11 | 12)
+        }
+    }
 }
 
 /// 10: "acknowledgement longer than the buffer or 32,768".

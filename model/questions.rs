@@ -19,6 +19,7 @@ mod number_stored;
 mod read_fresh;
 mod read_stored;
 mod read_wide;
+mod refused;
 mod sound;
 mod structure_fresh;
 mod structure_stored;

@@ -1,11 +1,11 @@
-//! The acknowledgement of a message: AA or AE by the verdict, from the sender's own header. Numbers
-//! 16, 17, 9 and 10, in this order.
+//! The acknowledgement of a message: AA, AE or AR by the verdict, from the sender's own header.
+//! Numbers 16, 17, 9 and 10, in this order.
 
 use crate::bytes::{before, find, split_once, state_of, State, COMPONENT, CR, FIELD, REPETITION};
 use crate::reading::{check_opening, delimiters_of, LONGEST_MESSAGE};
 use crate::text::escape;
 use crate::values::is_ts;
-use crate::{verdict, Answer, Refusal};
+use crate::{verdict, Answer, Refusal, Verdict};
 
 const LONGEST_ID: usize = 20;
 
@@ -46,7 +46,7 @@ pub fn acknowledge(message: &[u8], time: &[u8], id: &[u8], buffer: &mut [u8]) ->
         return refuse(9);
     }
 
-    let code: &[u8] = if verdict(message).number == 0 { b"AA" } else { b"AE" };
+    let code = code_for(&verdict(message));
     let (before_event, event) = match state_of(event, &delimiters) {
         State::Present => (&message[4..5], event),
         _ => (&b""[..], &b""[..]),
@@ -96,4 +96,14 @@ pub fn acknowledge(message: &[u8], time: &[u8], id: &[u8], buffer: &mut [u8]) ->
         rest = behind;
     }
     Answer { length, ..Answer::default() }
+}
+
+/// AA for no fault. AR where the first one is a type without a structure, or MSH-11 or MSH-12
+/// outside its list, which stand in segment 0; AE for any other.
+fn code_for(first: &Verdict) -> &'static [u8] {
+    match (first.number, first.place, first.field) {
+        (0, ..) => b"AA",
+        (20, ..) | (33, 0, 11 | 12) => b"AR",
+        _ => b"AE",
+    }
 }

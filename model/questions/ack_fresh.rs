@@ -1,6 +1,8 @@
-//! Fresh questions of the verb `ack`: random messages of every kind, and headers that are hard to
-//! acknowledge; times and IDs mostly good; and buffers about as large as is enough.
+//! Fresh questions of the verb `ack`: random messages of every kind, headers that are hard to
+//! acknowledge, and messages that are answered AR or nearly so; times and IDs mostly good; and
+//! buffers about as large as is enough.
 
+use super::refused::{PROCESSING_IDS, TYPES, VERSIONS};
 use super::verdict_wide::TELLING;
 use super::{ack_question, latin, read_fresh, sound, structure_fresh, value_fresh, verdict_fresh};
 use super::{message, Bytes, USUAL_DELIMITERS};
@@ -14,13 +16,47 @@ pub fn fresh(chance: &mut Chance) -> Bytes {
         return of_a_long_header(chance);
     }
     let message = match chance.below(16) {
-        0..=8 => hard_header(chance),
+        0..=4 => hard_header(chance),
+        5..=10 => to_be_rejected(chance),
         _ => verdict_fresh::random_message(chance),
     };
     let time = random_time(chance);
     let id = random_id(chance);
     let room = random_room(chance, &message, &time, &id);
     ack_question(&message, &time, &id, room)
+}
+
+/// A message with up to three faults that are answered AR, or nearly so; and every other time with
+/// a fault of another kind, which may come before them in the judges' order or behind them.
+fn to_be_rejected(chance: &mut Chance) -> Bytes {
+    let mut segments = verdict_fresh::filled_segments(chance);
+    for _ in 0..chance.pick(&[0, 1, 1, 1, 1, 2, 2, 3]) {
+        let (field, contents): (usize, &[&str]) =
+            chance.pick(&[(9, &TYPES), (11, &PROCESSING_IDS), (12, &VERSIONS)]);
+        segments[0][field] = latin(chance.pick(contents));
+    }
+    let fault = chance.below(12);
+    match fault {
+        0..=2 => verdict_fresh::put_fault(chance, &mut segments),
+        3 => segments.truncate(chance.between(1, segments.len())),
+        4 => {
+            let foreign = vec![latin(chance.pick(&["EVN", "MSA", "DG1", "MSH|", "OBX|x", "obr"]))];
+            segments.insert(chance.between(1, segments.len()), foreign);
+        }
+        _ => {}
+    }
+    let mut message = verdict_fresh::sent(chance, segments);
+    if fault == 5 {
+        damage_behind_the_header(chance, &mut message);
+    }
+    message
+}
+
+fn damage_behind_the_header(chance: &mut Chance, message: &mut Bytes) {
+    let header = message.iter().take_while(|&&byte| byte != CR).count() + 1;
+    let mut behind = message.split_off(header.min(message.len()));
+    read_fresh::damage(chance, &mut behind, 1);
+    message.extend(behind);
 }
 
 /// A header of fields that are telling or nothing, whole or cut, alone or with something behind it.

@@ -7,7 +7,7 @@ use super::{ack_question, changed, latin, lifelike, message, message_of_type, By
 use crate::acknowledgement::acknowledge;
 use crate::reading::CR;
 
-/// The shortest message that is acknowledged, with AE: it has no more than an MSH-10.
+/// The shortest message that is acknowledged, with AR: it has no more than an MSH-10.
 const SHORTEST: &[u8] = b"MSH|^~\\&||||||||1\r";
 
 /// What the caller gives where it doesn't matter.
@@ -29,7 +29,10 @@ pub fn stored() -> Vec<Bytes> {
         headers_cut(),
         headers_with_a_fault(),
         faults_behind_the_header(),
+        letters(),
+        first_of_several_faults(),
         other_delimiters(),
+        letters_with_other_delimiters(),
         lifelike_messages(),
     ];
     questions.concat()
@@ -209,7 +212,7 @@ fn headers_with_a_fault() -> Vec<Bytes> {
     messages.iter().map(|message| acknowledged(message, TIME, ID)).collect()
 }
 
-/// Code AE for any fault behind a sound header or in a field of it, and AA for none.
+/// The letter for any fault behind a sound header or in a field of it, and AA for none.
 fn faults_behind_the_header() -> Vec<Bytes> {
     let oru = header_of_oru(&[]);
     let mut messages = Vec::new();
@@ -268,6 +271,60 @@ fn faults_behind_the_header() -> Vec<Bytes> {
     messages.iter().map(|message| acknowledged(message, TIME, ID)).collect()
 }
 
+/// AR for MSH-11 or MSH-12 outside its list and for no other fault there, nor for a word outside
+/// another list.
+fn letters() -> Vec<Bytes> {
+    let mut messages = Vec::new();
+    for (field, content) in [
+        (11, "p"),
+        (11, "P "),
+        (11, "P&"),
+        (11, "X^P"),
+        (11, "^P"),
+        (11, r#""""#),
+        (11, "X~P"),
+        (12, "2.5"),
+        (12, "2.4.1"),
+        (12, " 2.4"),
+        (12, "2.5^2.4"),
+        (12, "^2.4"),
+        (12, r#""""#),
+        (12, "2.5~2.4"),
+    ] {
+        messages.push(message(&[&header_of_oru(&[(field, content)]), "OBR"]));
+    }
+    messages.push(message_with("PID", &[(8, "X")]));
+    messages.push(message_with("OBX", &[(11, "2.4")]));
+    messages.iter().map(|message| acknowledged(message, TIME, ID)).collect()
+}
+
+/// "Where several faults stand, the first in the judges' order decides the letter" (W2).
+fn first_of_several_faults() -> Vec<Bytes> {
+    let mut lines = Vec::new();
+    for (changes, behind) in [
+        // A reading fault or one of the structure comes before each that is answered AR.
+        (&[(9, "ORU^R02")][..], "OBR\r\n"),
+        (&[(9, "ORU^R02")], "OBR"),
+        (&[(9, "ORU^R02")], "MSH\r"),
+        (&[(12, "2.5")], "EVN\r"),
+        (&[(11, "X")], ""),
+        // An unsupported type comes before any fault of a field.
+        (&[(9, "ORU^R02"), (7, "x"), (11, "P~")], "EVN\r"),
+        // Then the rows in their order.
+        (&[(7, "x"), (11, "X")], "OBR\r"),
+        (&[(10, "A~B"), (12, "2.5")], "OBR\r"),
+        (&[(11, "X"), (12, "")], "OBR\r"),
+        (&[(11, ""), (12, "2.5")], "OBR\r"),
+        (&[(11, "P~X"), (12, "2.5")], "OBR\r"),
+        (&[(11, "X")], "OBR|x\r"),
+        (&[(12, "2.5")], "OBR|x\r"),
+    ] {
+        let message = [message(&[&header_of_oru(changes)]), latin(behind)].concat();
+        lines.push(acknowledged(&message, TIME, ID));
+    }
+    lines
+}
+
 /// The sender's delimiters, in the header and in the ID.
 fn other_delimiters() -> Vec<Bytes> {
     let mut lines = Vec::new();
@@ -287,6 +344,24 @@ fn other_delimiters() -> Vec<Bytes> {
     }
     let accepted = message(&["MSH!,:;/!a!b!c!d!2024!!ORU,R01:x!1!P,x!2.4", "OBR!1"]);
     lines.push(acknowledged(&accepted, TIME, b"!,:;/"));
+    lines
+}
+
+/// A content is split at the sender's delimiters alone: that decides what is outside a list, and
+/// what is repeated. The last is asked with a byte less than enough too.
+fn letters_with_other_delimiters() -> Vec<Bytes> {
+    let mut lines = Vec::new();
+    for header in [
+        "MSH#$%*@#####2024##ORU^R01#1#P#2.4",
+        "MSH#$%*@#####2024##ORU$R01#1#P~X#2.4",
+        "MSH#$%*@#####2024##ORU$R01#1#P%X#2.5",
+        r"MSH|~^\&|||||2024||ORU~R01|1|P~X|2.4",
+        "MSH#$%*@#####2024##ORU$R01#1#P#2.5$2.4",
+    ] {
+        lines.push(acknowledged(&message(&[header, "OBR"]), TIME, ID));
+    }
+    let rejected = message(&["MSH#$%*@#####2024##ORU$R01#1#P#2.5$2.4", "OBR"]);
+    lines.push(ack_question(&rejected, TIME, ID, 43));
     lines
 }
 

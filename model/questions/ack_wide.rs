@@ -1,12 +1,15 @@
 //! The wide set of the verb `ack`: every telling content in every field of the header, every byte
-//! in an ID and at every place of a header, every room for messages as they are sent, and messages,
+//! in an ID and at every place of a header, every room for messages as they are sent; every number
+//! at every place that can give it, and with those that are answered AR; and messages,
 //! acknowledgements and lines about as long as may be.
 
+use super::structure_fresh::translated;
 use super::verdict_wide::TELLING;
-use super::{ack_question, changed, filled, lifelike, message, Bytes};
+use super::{ack_question, changed, filled, lifelike, message, refused, Bytes, USUAL_DELIMITERS};
 use crate::acknowledgement::acknowledge;
 use crate::ask::{LONGEST_LINE, MOST_ROOM};
-use crate::reading::{CR, LONGEST_MESSAGE, MOST_SEGMENTS};
+use crate::reading::{allowed, CR, LONGEST_MESSAGE, MOST_SEGMENTS};
+use crate::text::Delimiters;
 
 const TIME: &[u8] = b"20240229";
 const ID: &[u8] = b"K1";
@@ -21,6 +24,9 @@ pub fn wide() -> Vec<Bytes> {
         every_byte_in_a_header(),
         cut_messages(),
         every_room(),
+        letters(),
+        letters_with_rooms(),
+        every_byte_that_rejects(),
         long_lines(),
     ];
     questions.concat()
@@ -28,7 +34,7 @@ pub fn wide() -> Vec<Bytes> {
 
 /// What is as large as a limit of the library.
 pub fn limits() -> Vec<Bytes> {
-    [long_headers(), long_messages()].concat()
+    [long_headers(), long_messages(), long_messages_that_reject()].concat()
 }
 
 /// A question with one byte of room more than enough.
@@ -125,6 +131,61 @@ fn every_room() -> Vec<Bytes> {
     lines
 }
 
+/// The usual delimiters, and five others.
+const DELIMITERS: [Delimiters; 2] = [USUAL_DELIMITERS, *b"#$%*@"];
+
+/// The message with these delimiters in the place of the usual ones.
+fn delimited(message: &[u8], delimiters: Delimiters) -> Bytes {
+    message.iter().map(|&byte| translated(byte, delimiters)).collect()
+}
+
+/// Messages of each letter, with delimiters of two kinds.
+fn letters() -> Vec<Bytes> {
+    let messages = [
+        refused::types(),
+        refused::faults_of_a_header(),
+        refused::processing_ids_and_versions(),
+        refused::admissions(),
+        refused::telling_places(),
+    ];
+    let mut lines = Vec::new();
+    for message in messages.concat() {
+        for delimiters in DELIMITERS {
+            lines.push(acknowledged(&delimited(&message, delimiters), TIME, ID));
+        }
+    }
+    lines
+}
+
+/// More of them, each with as much room as is enough, with one byte more, and with one byte less.
+fn letters_with_rooms() -> Vec<Bytes> {
+    let messages = [refused::faults_behind_headers(), refused::control_ids()];
+    let mut lines = Vec::new();
+    for message in messages.concat() {
+        for delimiters in DELIMITERS {
+            let message = delimited(&message, delimiters);
+            let enough = acknowledge(&message, TIME, ID, usize::MAX).unwrap_or_default().len();
+            for room in enough.saturating_sub(1)..=enough + 1 {
+                lines.push(ack_question(&message, TIME, ID, room));
+            }
+        }
+    }
+    lines
+}
+
+/// Every byte that may be there at each place of MSH-9, MSH-11 and MSH-12 of a message that is
+/// accepted.
+fn every_byte_that_rejects() -> Vec<Bytes> {
+    let accepted = message(&[r"MSH|^~\&|||||2024||ORU^R01|1|P|2.4", "OBR"]);
+    let mut lines = Vec::new();
+    for place in [19, 20, 21, 22, 23, 24, 25, 29, 31, 32, 33] {
+        for byte in (0..=0xFF).filter(|&byte| allowed(byte)) {
+            lines.push(acknowledged(&changed(&accepted, place, byte), TIME, ID));
+        }
+    }
+    lines
+}
+
 /// Headers with which the acknowledgement is as long as may be, or one byte longer or shorter; and
 /// headers as long as may be themselves. The room ends at 32,768 and behind it.
 fn long_headers() -> Vec<Bytes> {
@@ -156,14 +217,20 @@ fn long_headers() -> Vec<Bytes> {
     lines
 }
 
+/// A message of this length: the header, and an OBR for all the rest of it.
+fn message_of_length(header: &str, length: usize) -> Bytes {
+    let mut message = message(&[header, "OBR|1|"]);
+    message.pop();
+    message.resize(length - 1, b'x');
+    message.push(CR);
+    message
+}
+
 /// As many bytes and segments as may be, and one more: with AE then, since the header is sound.
 fn long_messages() -> Vec<Bytes> {
     let mut messages = Vec::new();
     for length in [LONGEST_MESSAGE - 1, LONGEST_MESSAGE, LONGEST_MESSAGE + 1, 60_000] {
-        let mut message = message(&[&filled::header_of_oru(&[]), "OBR|1|"]);
-        message.pop();
-        message.resize(length - 1, b'x');
-        message.push(CR);
+        let mut message = message_of_length(&filled::header_of_oru(&[]), length);
         messages.push(message.clone());
         message[length - 1] = b'x';
         messages.push(message);
@@ -176,6 +243,29 @@ fn long_messages() -> Vec<Bytes> {
         segments[1] = "ZZZ";
         messages.push(message(&segments));
     }
+    messages.iter().map(|message| acknowledged(message, TIME, ID)).collect()
+}
+
+/// What is answered AR, as long as may be, and with one byte or one segment more, which is AE. The
+/// last segment that may be is number 255: its OBX-11 is AE too.
+fn long_messages_that_reject() -> Vec<Bytes> {
+    let mut messages = Vec::new();
+    for change in [(9, "ORU^R02"), (11, "X"), (12, "2.5")] {
+        let header = filled::header_of_oru(&[change]);
+        for length in [LONGEST_MESSAGE, LONGEST_MESSAGE + 1] {
+            messages.push(message_of_length(&header, length));
+        }
+        let mut segments = vec![&header[..], "OBR"];
+        segments.resize(MOST_SEGMENTS, "ZZZ");
+        messages.push(message(&segments));
+        segments.push("ZZZ");
+        messages.push(message(&segments));
+    }
+    let header = filled::header_of_oru(&[]);
+    let mut segments = vec![&header[..], "OBR"];
+    segments.resize(MOST_SEGMENTS - 1, "NTE");
+    segments.push("OBX|||1||||||||2.4");
+    messages.push(message(&segments));
     messages.iter().map(|message| acknowledged(message, TIME, ID)).collect()
 }
 

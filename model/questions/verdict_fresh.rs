@@ -33,10 +33,19 @@ pub fn random_message(chance: &mut Chance) -> Bytes {
 }
 
 /// A segment by its name, at 0, and its fields, each at its number. MSH-1 is a mere place.
-type Fields = Vec<Bytes>;
+pub type Fields = Vec<Bytes>;
 
-/// Mostly an ORU, which has most rows; with up to three contents that may be faults.
+/// Segments with up to three contents that may be faults.
 fn filled_message(chance: &mut Chance) -> Bytes {
+    let mut segments = filled_segments(chance);
+    for _ in 0..chance.pick(&[0, 0, 1, 1, 1, 1, 2, 3]) {
+        put_fault(chance, &mut segments);
+    }
+    sent(chance, segments)
+}
+
+/// Mostly those of an ORU, which has most rows.
+pub fn filled_segments(chance: &mut Chance) -> Vec<Fields> {
     let (kind, event) = chance.pick(&[
         ("ORU", "R01"),
         ("ORU", "R01"),
@@ -52,9 +61,11 @@ fn filled_message(chance: &mut Chance) -> Bytes {
     for name in random_names(chance, kind, event) {
         segments.push(random_segment(chance, &name));
     }
-    for _ in 0..chance.pick(&[0, 0, 1, 1, 1, 1, 2, 3]) {
-        put_fault(chance, &mut segments);
-    }
+    segments
+}
+
+/// The message of these segments, with random delimiters.
+pub fn sent(chance: &mut Chance, segments: Vec<Fields>) -> Bytes {
     let delimiters = sound::random_delimiters(chance);
     let usual: Bytes = segments.into_iter().flat_map(joined).collect();
     usual.iter().map(|&byte| structure_fresh::translated(byte, delimiters)).collect()
@@ -173,7 +184,7 @@ fn random_repetition(chance: &mut Chance, value_type: &[u8]) -> Bytes {
 
 /// Changes a judged field of some segment to something that it mostly may not hold, or ends the
 /// segment before it.
-fn put_fault(chance: &mut Chance, segments: &mut [Fields]) {
+pub fn put_fault(chance: &mut Chance, segments: &mut [Fields]) {
     let judged = judged_fields(segments);
     if judged.is_empty() {
         return;
