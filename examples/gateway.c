@@ -65,10 +65,10 @@ int main(int count, char **words)
         fprintf(stderr, "not acknowledged (%u): %s\n", (unsigned)written.number, in_words(written.number));
         return 2;
     }
-    print_letters(written.length);
     if (fwrite(acknowledgement, 1, written.length, stdout) != written.length || fflush(stdout) != 0) {
         fprintf(stderr, "the acknowledgement could not be sent\n");
         return 2;
     }
+    print_letters(written.length);
     return verdict.number == TURRETHOG_NONE ? 0 : 1;
 }

@@ -238,7 +238,7 @@ uint32_t turrethog_could_stand(const uint8_t *message, size_t length, size_t ind
 /* ---- Acknowledging */
 
 /* Writes the acknowledgement of a message. Its letters, MSA-1, go by the verdict: AA where it is 0; AR where it is 20, or 33 at place 0 in
- * field 11 or 12 (MSH-11, MSH-12), for a message of a kind that is not taken here; AE at every other number. time is the caller's time as a
+ * field 11 or 12 (MSH-11, MSH-12): a message of a kind that is not taken here; else AE: the message is wrong. time is the caller's time as a
  * TS, id his own control ID of 1 to 20 bytes of any kind. 0, or 16, 17, 9, 10. */
 turrethog_answer turrethog_acknowledge(const uint8_t *message, size_t length, const uint8_t *time, size_t time_length, const uint8_t *id,
                                        size_t id_length, uint8_t *buffer, size_t room);

@@ -1,6 +1,6 @@
 // The four commands on the message that a file holds, `check`, `show`, `get` and `ack`, and the one on the frames of a
 // file, `frames`. What they find is printed to the output that they are handed. Why there is nothing to find is said on
-// standard error, as `check` says it where there is no message; and so is what an acknowledgement says.
+// standard error, as `check` says it where there is no message; and so are the letters of an acknowledgement, and why.
 ghost use Prim.Native.Nat.{_≤_};
 use alphabet::Refusal;
 use arguments::Asked;
@@ -11,7 +11,7 @@ use arguments::SHOW;
 use element::Address;
 use terminal::Output;
 
-// Every message was accepted, or what was asked for was found.
+// Every message was accepted, or what was asked for was found or written.
 pub const DONE: u8 = 0;
 
 // Some message was refused, a frame was dropped or left open, or there was none.

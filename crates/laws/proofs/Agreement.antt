@@ -90,7 +90,7 @@ module _ (m : List ℕ) (segment field r : ℕ) (four : 4 ≤ length m) (free : 
   unfolding below
   whole-element = split-element 0
 
-  counted-element : (r < length (repetitionsOf m segment (segmentAt m segment) field)) ↔ (elementAt m (address segment field (suc r) 0 0) ≡ Absent → ⊥)
+  pub counted-element : (r < length (repetitionsOf m segment (segmentAt m segment) field)) ↔ (elementAt m (address segment field (suc r) 0 0) ≡ Absent → ⊥)
   counted-element =
       let e = ap length split-field in
       ((λ h q. past fieldPart (sym whole-element ∙ q) (omega arith)), (λ n. let t = there fieldPart (λ q. n (whole-element ∙ q)) in omega arith))

@@ -21,7 +21,7 @@ use Rattle.alphabet.specs.declared.answers.Check.the-variants.{Passes, Fails}
 use Rattle.alphabet.specs.declared.answers.Refusal.{Refusal}
 use Rattle.alphabet.specs.declared.answers.Refusal.the-variants.{None, NoStructure, SegmentMisplaced, EndedEarly, RequiredMissing, NotListed, RequiredNull, Repeated}
 use Rattle.alphabet.specs.declared.parts.Part.{Part}
-use Rattle.alphabet.specs.declared.parts.Part.the-variants.{At}
+use Rattle.alphabet.specs.declared.parts.Part.the-variants.{At, Absent}
 use Rattle.reading.specs.Message.{Message}
 use Rattle.reading.specs.Reading.{reading}
 use Rattle.reading.specs.Segments.{delimitersOf, segments}
@@ -48,7 +48,7 @@ use Rattle.verdict.specs.Verdicts.{Verdicts}
 use Rattle.verdict.specs.Verdicts.VerdictsBy.{refused as by-structure, judged as by-fields}
 use Rattle.laws.specs.Elements.{address}
 use Rattle.laws.specs.Rejected.{Rejects, unsupported, processing, version, Rejected, Unsupported, NoneOf, Outside, RejectedFor, its-type, its-processing, its-version}
-use Rattle.laws.proofs.Agreement.{judged-element}
+use Rattle.laws.proofs.Agreement.{judged-element, counted-element}
 use Rattle.laws.proofs.Chosen.{listed-exactly}
 use Rattle.laws.proofs.ControlId.{first-stands}
 use Rattle.laws.proofs.FaultNumbers.{fields-number}
@@ -61,7 +61,7 @@ misplaced true = (omega arith, omega arith)
 misplaced false = (omega arith, omega arith)
 
 module _ (m : List ℕ) where
-  -- what the structure judge refuses with 20 was read, and no structure is chosen for it; he never refuses with 33
+  -- what the structure judge refuses with 20 was read, and no structure is chosen for it; it never refuses with 33
   twenty : {r : FaultRecord} → Answers m r → numberOf (r .kind) ≡ 20 → (reading m ≡ Passes) × (structureFor builtIn m ≡ unlisted)
   twenty (unread kind place e) n = absurd (let q = numbered-fails 1 8 (reading m) kind place (reading-numbered m) e in omega (arith, q .1))
   twenty (read p (no-structure g)) n = (p, g)
@@ -88,7 +88,7 @@ module _ (m : List ℕ) where
       record { was-read = t .0; not-listed = λ s l. let c = listed-exactly m s .1 l in absurd (let e = t .1 in let f = c .1 in let z : _≡_ {A = ℕ} 0 1 = cc in omega arith) }
   by-type (by-fields r a none) n = absurd (never-20 n)
 
-  -- every message of such a type is answered so
+  -- every message of such a type is rejected
   pub unsupported-rejected : Unsupported m → Rejected m
   unsupported-rejected u = at (structureFor builtIn m) refl
     where
@@ -108,6 +108,7 @@ listing field values = row "MSH" field 1 (OneOf values) R no
 
 -- one repetition, whose component 1 is present and none of the values
 record One (ds : List ℕ) (values : Values) (rs : List (List ℕ)) : Type 0 where
+  pub once : length rs ≤ 1
   pub there : stateOf ds (judgedPart ds 1 (getD rs 0 [])) ≡ Present
   pub none : member (judgedPart ds 1 (getD rs 0 [])) (valuesOf values) ≡ false
 
@@ -130,7 +131,7 @@ module _ (ds : List ℕ) (values : Values) (kind : Refusal) (place : ℕ) (numbe
   in-repetitions : (rs : List (List ℕ)) → firstState ds 1 rs ≡ Present → length rs ≤ 1 → inOrder (repetitionChecks ds 1 (OneOf values) 1 rs) ≡ Fails kind place → One ds values rs
   unfolding repetitionChecks
   in-repetitions [] p l e = absurd (let z : _≡_ {A = ℕ} 0 1 = cc in omega arith)
-  in-repetitions (r ∷ []) p l e = record { there = p; none = in-repetition r p e }
+  in-repetitions (r ∷ []) p l e = record { once = l; there = p; none = in-repetition r p e }
   in-repetitions (r ∷ q ∷ rest) p l e = absurd (omega arith)
 
   -- the checks before: 31 or 34, then 36
@@ -271,36 +272,53 @@ module _ (m : List ℕ) where
         let n = or-neither (same b v) (member b vs) e in
         (λ q. false-true (sym (n .0) ∙ ap (λ (x : List ℕ). same x v) q ∙ same-own v), none-of b vs (n .1))
 
-    outside : 4 ≤ length m → (f : ℕ) → fixed 0 f ≡ false → (values : Values) → One (delimitersOf m) values (repetitionsOf m 0 part f) → Outside m f (valuesOf values)
-    outside four f free values o =
+    -- so is a second repetition: there is none
+    second : 4 ≤ length m → (f : ℕ) → fixed 0 f ≡ false → length (repetitionsOf m 0 part f) ≤ 1 → elementAt m (address 0 f 2 0 0) ≡ Absent
+    second four f free l = at (elementAt m (address 0 f 2 0 0)) refl
+      where
+        at : (p : Part) → elementAt m (address 0 f 2 0 0) ≡ p → elementAt m (address 0 f 2 0 0) ≡ Absent
+        at Absent e = e
+        at (At a b) e =
+            absurd
+            (let n = counted-element m 0 f 1 four free .1 (λ q. let z : _≡_ {A = ℕ} 0 1 = cc in omega arith) in
+            let w = ap (λ (p : Part). length (repetitionsOf m 0 p f)) (first-stands m s rest first) in
+            omega (arith, n))
+
+    outside : Answers m (plain None 0) → 4 ≤ length m → (f : ℕ) → fixed 0 f ≡ false → (values : Values) → One (delimitersOf m) values (repetitionsOf m 0 part f) → Outside m f (valuesOf values)
+    outside a four f free values o =
         let e = looked-up four f free in
         record {
+          fits = a;
+          alone = second four f free (o .once);
           present = ap (stateOf (delimitersOf m)) (sym e) ∙ o .there;
           unlike = none-of (rawBytes m (address 0 f 1 1 0)) (valuesOf values) (ap (λ (b : List ℕ). member b (valuesOf values)) (sym e) ∙ o .none);
         }
 
-    outside-eleven : 4 ≤ length m → numberOf kind ≡ 33 → field ≡ 11 → Outside m 11 (ascii "D" ∷ ascii "P" ∷ ascii "T" ∷ [])
+    outside-eleven : Answers m (plain None 0) → 4 ≤ length m → numberOf kind ≡ 33 → field ≡ 11 → Outside m 11 (ascii "D" ∷ ascii "P" ∷ ascii "T" ∷ [])
     unfolding valuesOf split
-    outside-eleven four n q = outside four 11 refl Processing (in-row (delimitersOf m) Processing kind repetition n 11 (repetitionsOf m 0 part 11) (eleven q))
+    outside-eleven a four n q = outside a four 11 refl Processing (in-row (delimitersOf m) Processing kind repetition n 11 (repetitionsOf m 0 part 11) (eleven q))
 
-    outside-twelve : 4 ≤ length m → numberOf kind ≡ 33 → field ≡ 12 → Outside m 12 (ascii "2.4" ∷ [])
+    outside-twelve : Answers m (plain None 0) → 4 ≤ length m → numberOf kind ≡ 33 → field ≡ 12 → Outside m 12 (ascii "2.4" ∷ [])
     unfolding valuesOf split
-    outside-twelve four n q = outside four 12 refl Version (in-row (delimitersOf m) Version kind repetition n 12 (repetitionsOf m 0 part 12) (twelve q))
+    outside-twelve a four n q = outside a four 12 refl Version (in-row (delimitersOf m) Version kind repetition n 12 (repetitionsOf m 0 part 12) (twelve q))
 
 -- ---- what stands at MSH-9, MSH-11 or MSH-12 of a message that is answered with AR
 
 module _ (m : List ℕ) where
-  was-read : {r : FaultRecord} → Answers m r → r .kind ≡ None → reading m ≡ Passes
-  was-read (unread kind place e) n = absurd (reading-fails m kind place e n)
-  was-read (read p s) n = p
+  -- what the structure judge answers without a number is that the message was read and fits
+  fitting : {r : FaultRecord} → Answers m r → r .kind ≡ None → (reading m ≡ Passes) × Answers m (plain None 0)
+  fitting (unread kind place e) n = absurd (reading-fails m kind place e n)
+  fitting (read p (no-structure g)) n = absurd (let z = ap numberOf n in omega arith)
+  fitting (read p (by x g (accepted y))) n = (p, read p (by x g (accepted y)))
+  fitting (read p (by x g (refused place ends list a))) n = absurd (let z = ap numberOf n in let q = misplaced (ltb place (length (segmentNames m))) in omega (arith, q .0))
 
-  by-list : (f : Fault) → judging rows m ≡ f → reading m ≡ Passes → numberOf (faultAnswer f .kind) ≡ 33 → faultAnswer f .place ≡ 0
+  by-list : (f : Fault) → judging rows m ≡ f → (reading m ≡ Passes) × Answers m (plain None 0) → numberOf (faultAnswer f .kind) ≡ 33 → faultAnswer f .place ≡ 0
       → (faultAnswer f .field ≡ 11 → Outside m 11 (ascii "D" ∷ ascii "P" ∷ ascii "T" ∷ [])) × (faultAnswer f .field ≡ 12 → Outside m 12 (ascii "2.4" ∷ []))
   by-list Sound e p n z = absurd (omega arith)
   by-list (Faulty kind segment field repetition) e p n z = at (segments m) refl
     where
       message : Message m
-      message = accepted-message m p
+      message = accepted-message m (p .0)
 
       four : 4 ≤ length m
       four = omega (arith, message .opened .nine-bytes)
@@ -309,12 +327,12 @@ module _ (m : List ℕ) where
       at [] q = absurd (let l = message .some-segments in let k = ap length q in omega arith)
       at (s ∷ rest) q =
           let found = e ∙ ap (λ (x : ℕ). Faulty kind x field repetition) z in
-          (outside-eleven m s rest q kind field repetition found four n, outside-twelve m s rest q kind field repetition found four n)
+          (outside-eleven m s rest q kind field repetition found (p .1) four n, outside-twelve m s rest q kind field repetition found (p .1) four n)
 
   listed : {r : FaultRecord} → Verdicts m r → numberOf (r .kind) ≡ 33 → r .place ≡ 0
       → (r .field ≡ 11 → Outside m 11 (ascii "D" ∷ ascii "P" ∷ ascii "T" ∷ [])) × (r .field ≡ 12 → Outside m 12 (ascii "2.4" ∷ []))
   listed (by-structure r a some) n z = absurd (never-33 m a n)
-  listed (by-fields r a none) n z = by-list (judging rows m) refl (was-read a none) n z
+  listed (by-fields r a none) n z = by-list (judging rows m) refl (fitting a none) n z
 
   pub rejected-for : Rejected m → RejectedFor m
   rejected-for j = at (j .rejects)

@@ -1,18 +1,24 @@
--- Which messages are answered with AR, by document 02, W2: "an unsupported type (20), or MSH-11 or MSH-12 outside its
--- list (33), is AR". A second saying of `rejects` of crates/acknowledgement_code, as a list of cases.
+-- Which messages are answered with AR, where they are answered, by document 02, W2: "an unsupported type (20), or MSH-11
+-- or MSH-12 outside its list (33), is AR". A second saying of `rejects` of crates/acknowledgement_code, as a list of
+-- cases.
 use Prim.Native.Nat.{ℕ}
 use mathlib.Core.Path.{_≡_}
 use mathlib.Core.List.{List, [], _∷_}
 use Rattle.alphabet.specs.Answers.{numberOf}
 use Rattle.alphabet.specs.Bytes.{ascii}
 use Rattle.alphabet.specs.declared.answers.Check.the-variants.{Passes}
+use Rattle.alphabet.specs.declared.answers.Refusal.the-variants.{None}
+use Rattle.alphabet.specs.declared.parts.Part.the-variants.{Absent}
 use Rattle.reading.specs.Reading.{reading}
 use Rattle.reading.specs.Segments.{delimitersOf}
 use Rattle.element.specs.Addresses.{typeAddress}
 use Rattle.element.specs.Finding.{rawBytes}
+use Rattle.element.specs.Levels.{elementAt}
 use Rattle.element.specs.States.{stateOf}
 use Rattle.element.specs.declared.states.State.the-variants.{Present}
 use Rattle.structure.specs.Shapes.{Shape}
+use Rattle.structure.specs.Judged.{Answers}
+use Rattle.fault.specs.Faults.{plain}
 use Rattle.fault.specs.declared.FaultRecord.{FaultRecord}
 use Rattle.verdict.specs.Verdicts.{Verdicts}
 use Rattle.laws.specs.Elements.{address}
@@ -33,9 +39,10 @@ pub record Rejected (m : List ℕ) : Type 0 where
   pub first : Verdicts m fault
   pub rejects : Rejects fault
 
--- ---- the same in the message's own bytes
+-- ---- what such a message has in its own bytes. Of 33 this is less: it does not say that the fields before are sound
 
--- "an unsupported type": the message was read, and document 01 lists no structure for what stands at MSH-9
+-- "an unsupported type": the message was read, and document 01 lists no structure for what stands at components 1 and 2
+-- of MSH-9, repetition 1
 pub record Unsupported (m : List ℕ) : Type 0 where
   pub was-read : reading m ≡ Passes
   pub not-listed : (s : Shape) → ListedAs (rawBytes m (typeAddress 1)) (rawBytes m (typeAddress 2)) s → ⊥
@@ -45,12 +52,15 @@ abbrev pub NoneOf : List ℕ → List (List ℕ) → Type 0
 NoneOf bytes [] = Unit {0}
 NoneOf bytes (value ∷ others) = (bytes ≡ value → ⊥) × NoneOf bytes others
 
--- "outside its list": what stands in component 1 of a field of MSH is present, and is none of the values
+-- "outside its list": what stands in component 1 of repetition 1 of a field of MSH is present, and is none of the values;
+-- and none of the faults that the judges look for before, up to 22, and none of 31, 34 and 36 in this field
 pub record Outside (m : List ℕ) (field : ℕ) (values : List (List ℕ)) : Type 0 where
+  pub fits : Answers m (plain None 0)
+  pub alone : elementAt m (address 0 field 2 0 0) ≡ Absent
   pub present : stateOf (delimitersOf m) (rawBytes m (address 0 field 1 1 0)) ≡ Present
   pub unlike : NoneOf (rawBytes m (address 0 field 1 1 0)) values
 
--- the lists: "D, P, T"; "`2.4`"
+-- what a message that is rejected has; the lists are "D, P, T" and "`2.4`"
 pub data RejectedFor (m : List ℕ) : Type 0 where
   its-type : Unsupported m → RejectedFor m
   its-processing : Outside m 11 (ascii "D" ∷ ascii "P" ∷ ascii "T" ∷ []) → RejectedFor m

@@ -66,7 +66,8 @@ acknowledgement-carries m time id lent small a done =
       errored-exactly = errors-exactly m time id lent small a done;
     }
 
--- AR in the message's own bytes: what stands at MSH-9, MSH-11 or MSH-12; and every message that was read and whose type is not listed is answered so
+-- AR in the message's own bytes: what stands at MSH-9, MSH-11 or MSH-12; and a message that was read and whose type is not listed is answered so, where
+-- it is answered
 pub rejected-for : (m : List ℕ) → Rejected m → RejectedFor m
 rejected-for m j = laws-rejected-for m j
 

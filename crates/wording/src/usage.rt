@@ -45,7 +45,7 @@ fn print_asking(out: Output) -> Output {
 
   ./turrethog ack FILE TIME ID
       The acknowledgement, AA, AE or AR, of a message at a time, with an ID of its own. Its bytes are written raw.
-      Which of the three, and why, is said on standard error.
+      Which of the three, and why, is said on standard error. Status 0 where it is written, whichever it is.
       ./turrethog ack examples/blood-count.hl7 20240229093001+0000 ACK0001
 
   ./turrethog --help
