@@ -18,6 +18,7 @@ pub mod Clean
 pub mod Grammar
 pub mod FaultNumbers
 pub mod Agreement
+pub mod HeaderRows
 pub mod ControlId
 pub mod LineLaws
 pub mod SenderLaws

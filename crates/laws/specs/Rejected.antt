@@ -1,11 +1,15 @@
 -- Which messages are answered with AR, where they are answered, by document 02, W2: "an unsupported type (20), or MSH-11
 -- or MSH-12 outside its list (33), is AR". A second saying of `rejects` of crates/acknowledgement_code, as a list of
 -- cases.
-use Prim.Native.Nat.{ℕ}
+use Prim.Native.Nat.{ℕ, _≤_}
 use mathlib.Core.Path.{_≡_}
+use mathlib.Core.Logic.{_⊎_}
+use mathlib.Core.Bool.{true}
 use mathlib.Core.List.{List, [], _∷_}
+use lib.ListN.{length}
 use Rattle.alphabet.specs.Answers.{numberOf}
 use Rattle.alphabet.specs.Bytes.{ascii}
+use Rattle.alphabet.specs.Limits.{idLimit}
 use Rattle.alphabet.specs.declared.answers.Check.the-variants.{Passes}
 use Rattle.alphabet.specs.declared.answers.Refusal.the-variants.{None}
 use Rattle.alphabet.specs.declared.parts.Part.the-variants.{Absent}
@@ -16,6 +20,7 @@ use Rattle.element.specs.Finding.{rawBytes}
 use Rattle.element.specs.Levels.{elementAt}
 use Rattle.element.specs.States.{stateOf}
 use Rattle.element.specs.declared.states.State.the-variants.{Present}
+use Rattle.times.specs.Times.{isTs}
 use Rattle.structure.specs.Shapes.{Shape}
 use Rattle.structure.specs.Judged.{Answers}
 use Rattle.fault.specs.Faults.{plain}
@@ -39,7 +44,7 @@ pub record Rejected (m : List ℕ) : Type 0 where
   pub first : Verdicts m fault
   pub rejects : Rejects fault
 
--- ---- what such a message has in its own bytes. Of 33 this is less: it does not say that the fields before are sound
+-- ---- the same in the message's own bytes
 
 -- "an unsupported type": the message was read, and document 01 lists no structure for what stands at components 1 and 2
 -- of MSH-9, repetition 1
@@ -47,21 +52,38 @@ pub record Unsupported (m : List ℕ) : Type 0 where
   pub was-read : reading m ≡ Passes
   pub not-listed : (s : Shape) → ListedAs (rawBytes m (typeAddress 1)) (rawBytes m (typeAddress 2)) s → ⊥
 
--- bytes that are none of some values
-abbrev pub NoneOf : List ℕ → List (List ℕ) → Type 0
-NoneOf bytes [] = Unit {0}
-NoneOf bytes (value ∷ others) = (bytes ≡ value → ⊥) × NoneOf bytes others
+-- a field of MSH that has none of 31, 34 and 36: it stands once, and what is judged of it, a component or at 0 the whole,
+-- is present; and the bytes of that are such as is asked
+pub record Stands (m : List ℕ) (field component : ℕ) (Asked : List ℕ → Type 0) : Type 0 where
+  pub once : elementAt m (address 0 field 2 0 0) ≡ Absent
+  pub present : stateOf (delimitersOf m) (rawBytes m (address 0 field 1 component 0)) ≡ Present
+  pub so : Asked (rawBytes m (address 0 field 1 component 0))
 
--- "outside its list": what stands in component 1 of repetition 1 of a field of MSH is present, and is none of the values;
--- and none of the faults that the judges look for before, up to 22, and none of 31, 34 and 36 in this field
-pub record Outside (m : List ℕ) (field : ℕ) (values : List (List ℕ)) : Type 0 where
-  pub fits : Answers m (plain None 0)
-  pub alone : elementAt m (address 0 field 2 0 0) ≡ Absent
-  pub present : stateOf (delimitersOf m) (rawBytes m (address 0 field 1 1 0)) ≡ Present
-  pub unlike : NoneOf (rawBytes m (address 0 field 1 1 0)) values
+-- bytes that are one of some values, and bytes that are none
+abbrev pub OneOf : List (List ℕ) → List ℕ → Type 0
+OneOf [] bytes = ⊥
+OneOf (value ∷ others) bytes = (bytes ≡ value) ⊎ OneOf others bytes
 
--- what a message that is rejected has; the lists are "D, P, T" and "`2.4`"
+abbrev pub NoneOf : List (List ℕ) → List ℕ → Type 0
+NoneOf [] bytes = Unit {0}
+NoneOf (value ∷ others) bytes = (bytes ≡ value → ⊥) × NoneOf others bytes
+
+-- the rows of MSH before and besides: "TS"; "1 to 20 bytes"; the lists "D, P, T" and "`2.4`"
+abbrev pub Timed : List ℕ → Type 0
+Timed m = Stands m 7 1 (λ (bytes : List ℕ). isTs bytes ≡ true)
+
+abbrev pub Identified : List ℕ → Type 0
+Identified m = Stands m 10 0 (λ (bytes : List ℕ). length bytes ≤ idLimit)
+
+abbrev pub processingIds : List (List ℕ)
+processingIds = ascii "D" ∷ ascii "P" ∷ ascii "T" ∷ []
+
+abbrev pub versions : List (List ℕ)
+versions = ascii "2.4" ∷ []
+
+-- "MSH-11 or MSH-12 outside its list", and nothing before it in the judges' order: the structure judge accepts, and the
+-- rows before are kept
 pub data RejectedFor (m : List ℕ) : Type 0 where
   its-type : Unsupported m → RejectedFor m
-  its-processing : Outside m 11 (ascii "D" ∷ ascii "P" ∷ ascii "T" ∷ []) → RejectedFor m
-  its-version : Outside m 12 (ascii "2.4" ∷ []) → RejectedFor m
+  its-processing : Answers m (plain None 0) → Timed m → Identified m → Stands m 11 1 (NoneOf processingIds) → RejectedFor m
+  its-version : Answers m (plain None 0) → Timed m → Identified m → Stands m 11 1 (OneOf processingIds) → Stands m 12 1 (NoneOf versions) → RejectedFor m

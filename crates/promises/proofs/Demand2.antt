@@ -4,6 +4,7 @@
 -- the bytes of elements, Values.antt their numbers and times. Here are text and acknowledgement, of lists of bytes: `write_and_read` and `acknowledge` in
 -- src/lib.rt say the same of slices, which hold nothing else. Assumes nothing.
 use mathlib.Core.Path.{_≡_}
+use mathlib.Core.Logic.{_↔_}
 use mathlib.Core.List.{List}
 use Prim.Native.Nat.{ℕ, _≤_}
 use lib.ListN.{length, take, drop}
@@ -16,8 +17,8 @@ use Rattle.escaping.specs.Outcomes.{escaping, answer, filled}
 use Rattle.text.specs.Unescape.{unescaping}
 use Rattle.acknowledgement.specs.Acknowledgement.{Acknowledges}
 use Rattle.laws.proofs.Acknowledged.{reads-back, of-type, yields-ack, fits-ack, named-so, counted, carries-id, identified-sender, told, own-delimiters, crossed, stamped, with-event, without-event, own-id, callers-id, accepts-exactly, rejects-exactly, errors-exactly}
-use Rattle.laws.specs.Rejected.{Rejected, Unsupported, RejectedFor}
-use Rattle.laws.proofs.RejectedLaws.{rejected-for as laws-rejected-for, unsupported-rejected as laws-unsupported-rejected}
+use Rattle.laws.specs.Rejected.{Rejected, RejectedFor}
+use Rattle.laws.proofs.RejectedLaws.{rejected-bytes as laws-rejected-bytes}
 use Rattle.laws.proofs.Clean.{both-ways}
 use Rattle.laws.proofs.RoundTrip.{AreBytes}
 use Rattle.promises.specs.Acknowledgements.{Carries}
@@ -66,13 +67,9 @@ acknowledgement-carries m time id lent small a done =
       errored-exactly = errors-exactly m time id lent small a done;
     }
 
--- AR in the message's own bytes: what stands at MSH-9, MSH-11 or MSH-12; and a message that was read and whose type is not listed is answered so, where
--- it is answered
-pub rejected-for : (m : List ℕ) → Rejected m → RejectedFor m
-rejected-for m j = laws-rejected-for m j
-
-pub unsupported-rejected : (m : List ℕ) → Unsupported m → Rejected m
-unsupported-rejected m u = laws-unsupported-rejected m u
+-- AR in the message's own bytes: a type that is not listed, or what stands at MSH-11 or MSH-12 is outside its list and nothing before it is wrong
+pub rejected-bytes : (m : List ℕ) → Rejected m ↔ RejectedFor m
+rejected-bytes m = laws-rejected-bytes m
 
 -- "A written text or acknowledgement fills the front of its buffer, its length is given, the bytes behind it stay.": a length that the buffer has, a buffer of
 -- the length that it had, and what stood behind
