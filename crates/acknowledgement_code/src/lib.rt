@@ -4,8 +4,8 @@ use fault::FaultRecord;
 ghost use mathlib.Core.Path.{_≡_};
 ghost use Rattle.acknowledgement_code.specs.Codes.{rejects, codeOf};
 
-// What the letters say: AA, AE or AR. At an error the message is wrong; at a rejection it is of a kind that is not taken
-// here.
+// What the letters say: AA, AE or AR. At an error the message is wrong; at a rejection it is of a kind that is not
+// taken here.
 pub enum Code {
     Accept,
     Error,

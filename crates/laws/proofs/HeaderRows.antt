@@ -38,7 +38,7 @@ use Rattle.field_table.specs.declared.Values.the-variants.{Processing, Version}
 use Rattle.rules.specs.Rules.{formCheck, judgedPart, partState, placed, repetitionCheck, repetitionChecks, firstState, requiredCheck, rowCheck}
 use Rattle.fields.specs.Judging.{Sound, repetitionsOf, located, orFault, firstFault, rowFault, segmentFault}
 use Rattle.laws.specs.Elements.{address}
-use Rattle.laws.specs.Rejected.{Stands, OneOf, NoneOf, Timed, Identified, processingIds, versions}
+use Rattle.laws.specs.Rejected.{Stands, IsOneOf, IsNoneOf, Timed, Identified, processingIds, versions}
 use Rattle.laws.proofs.Agreement.{nothing-in, judged-element, counted-element}
 
 pub placed-passes : (number : ℕ) (c : Check) → placed number c ≡ Passes → c ≡ Passes
@@ -195,7 +195,7 @@ unlike b v = (λ e q. false-true (sym e ∙ ap (λ (x : List ℕ). same x v) q �
     at true e n = absurd (n (same-is b v e))
     at false e n = e
 
-none-listed : (vs : List (List ℕ)) (b : List ℕ) → (member b vs ≡ false) ↔ NoneOf vs b
+none-listed : (vs : List (List ℕ)) (b : List ℕ) → (member b vs ≡ false) ↔ IsNoneOf vs b
 unfolding member
 none-listed [] b = (λ e. tt, λ n. refl)
 none-listed (v ∷ vs) b = (
@@ -204,10 +204,10 @@ none-listed (v ∷ vs) b = (
 )
 
 -- one step along the list
-one-more : (v : List ℕ) (vs : List (List ℕ)) (b : List ℕ) → (member b vs ≡ true) ↔ OneOf vs b → ((same b v || member b vs) ≡ true) ↔ OneOf (v ∷ vs) b
+one-more : (v : List ℕ) (vs : List (List ℕ)) (b : List ℕ) → (member b vs ≡ true) ↔ IsOneOf vs b → ((same b v || member b vs) ≡ true) ↔ IsOneOf (v ∷ vs) b
 one-more v vs b step = (to (same b v) refl, from)
   where
-    to : (t : Bool) → same b v ≡ t → (t || member b vs) ≡ true → OneOf (v ∷ vs) b
+    to : (t : Bool) → same b v ≡ t → (t || member b vs) ≡ true → IsOneOf (v ∷ vs) b
     to true e q = inl (same-is b v e)
     to false e q = inr (step .0 q)
 
@@ -215,16 +215,16 @@ one-more v vs b step = (to (same b v) refl, from)
     later true e = refl
     later false e = e
 
-    from : OneOf (v ∷ vs) b → (same b v || member b vs) ≡ true
+    from : IsOneOf (v ∷ vs) b → (same b v || member b vs) ≡ true
     from (inl q) = let e : same b v ≡ true = ap (λ (x : List ℕ). same x v) q ∙ same-own v in rw e refl
     from (inr o) = later (same b v) (step .1 o)
 
-one-listed : (vs : List (List ℕ)) (b : List ℕ) → (member b vs ≡ true) ↔ OneOf vs b
+one-listed : (vs : List (List ℕ)) (b : List ℕ) → (member b vs ≡ true) ↔ IsOneOf vs b
 unfolding member
 one-listed [] b = (λ e. absurd (false-true e), λ n. absurd n)
 one-listed (v ∷ vs) b = one-more v vs b (one-listed vs b)
 
-listed-form : (values : Values) (b : List ℕ) → (formCheck (listed values) b ≡ Passes) ↔ OneOf (valuesOf values) b
+listed-form : (values : Values) (b : List ℕ) → (formCheck (listed values) b ≡ Passes) ↔ IsOneOf (valuesOf values) b
 unfolding formCheck
 listed-form values b =
     let m = one-listed (valuesOf values) b in
@@ -260,14 +260,14 @@ module _ (m s : List ℕ) (rest : List (List ℕ)) (first : segments m ≡ s ∷
   pub identified-so : (identified-found ≡ Passes) ↔ Identified m
   identified-so = passes-so m s rest first four 10 0 refl Identifier (λ (b : List ℕ). length b ≤ idLimit) id-form
 
-  pub processing-so : (processing-found ≡ Passes) ↔ Stands m 11 1 (OneOf processingIds)
+  pub processing-so : (processing-found ≡ Passes) ↔ Stands m 11 1 (IsOneOf processingIds)
   unfolding valuesOf split
-  processing-so = passes-so m s rest first four 11 1 refl (listed Processing) (OneOf processingIds) (listed-form Processing)
+  processing-so = passes-so m s rest first four 11 1 refl (listed Processing) (IsOneOf processingIds) (listed-form Processing)
 
-  pub processing-not : ((k : Refusal) (place : ℕ) → numberOf k ≡ 33 → processing-found ≡ Fails k place → Stands m 11 1 (NoneOf processingIds)) × (Stands m 11 1 (NoneOf processingIds) → processing-found ≡ Fails NotListed 1)
+  pub processing-not : ((k : Refusal) (place : ℕ) → numberOf k ≡ 33 → processing-found ≡ Fails k place → Stands m 11 1 (IsNoneOf processingIds)) × (Stands m 11 1 (IsNoneOf processingIds) → processing-found ≡ Fails NotListed 1)
   unfolding valuesOf split
-  processing-not = fails-so m s rest first four 11 1 refl Processing (NoneOf processingIds) (none-listed processingIds)
+  processing-not = fails-so m s rest first four 11 1 refl Processing (IsNoneOf processingIds) (none-listed processingIds)
 
-  pub version-not : ((k : Refusal) (place : ℕ) → numberOf k ≡ 33 → version-found ≡ Fails k place → Stands m 12 1 (NoneOf versions)) × (Stands m 12 1 (NoneOf versions) → version-found ≡ Fails NotListed 1)
+  pub version-not : ((k : Refusal) (place : ℕ) → numberOf k ≡ 33 → version-found ≡ Fails k place → Stands m 12 1 (IsNoneOf versions)) × (Stands m 12 1 (IsNoneOf versions) → version-found ≡ Fails NotListed 1)
   unfolding valuesOf split
-  version-not = fails-so m s rest first four 12 1 refl Version (NoneOf versions) (none-listed versions)
+  version-not = fails-so m s rest first four 12 1 refl Version (IsNoneOf versions) (none-listed versions)

@@ -32,7 +32,7 @@ use Rattle.rules.specs.Rules.{rowCheck}
 use Rattle.fields.specs.Judging.{Fault, Sound, Faulty, nameAt, saidIn, repetitionsOf, located, orFault, firstFault, rowFault, segmentFault, segmentFaults, judging, faultAnswer}
 use Rattle.verdict.specs.Verdicts.{Verdicts}
 use Rattle.verdict.specs.Verdicts.VerdictsBy.{refused as by-structure, judged as by-fields}
-use Rattle.laws.specs.Rejected.{Rejects, unsupported, processing, version, Rejected, Unsupported, Stands, OneOf, NoneOf, Timed, Identified, processingIds, versions, RejectedFor, its-type, its-processing, its-version}
+use Rattle.laws.specs.Rejected.{Rejects, unsupported, processing, version, Rejected, Unsupported, Stands, IsOneOf, IsNoneOf, Timed, Identified, processingIds, versions, RejectedFor, its-type, its-processing, its-version}
 use Rattle.laws.proofs.Chosen.{listed-exactly}
 use Rattle.laws.proofs.FaultNumbers.{fields-number}
 use Rattle.laws.proofs.HeaderRows.{timed-found, identified-found, processing-found, version-found, in-header, timed-so, identified-so, processing-so, processing-not, version-not}
@@ -199,14 +199,14 @@ module _ (m s : List ℕ) (rest : List (List ℕ)) (first : segments m ≡ s ∷
       ap (λ (ss : List (List ℕ)). firstFault (segmentFaults rows m 0 0 ss)) first
       ∙ ap (λ (f : Fault). orFault f (firstFault (segmentFaults rows m 1 (0 + length s + 1) rest))) e
 
-  processing-found-so : Timed m → Identified m → Stands m 11 1 (NoneOf processingIds) → judging rows m ≡ Faulty NotListed 0 11 1
+  processing-found-so : Timed m → Identified m → Stands m 11 1 (IsNoneOf processingIds) → judging rows m ≡ Faulty NotListed 0 11 1
   processing-found-so t i o =
       whole (Faulty NotListed 0 11 1)
       (in-header m s rest first four
       ∙ rw (timed-so m s rest first four .1 t, identified-so m s rest first four .1 i, processing-not m s rest first four .1 o) refl)
       (λ e. let z : _≡_ {A = ℕ} 0 1 = cc in omega arith)
 
-  version-found-so : Timed m → Identified m → Stands m 11 1 (OneOf processingIds) → Stands m 12 1 (NoneOf versions) → judging rows m ≡ Faulty NotListed 0 12 1
+  version-found-so : Timed m → Identified m → Stands m 11 1 (IsOneOf processingIds) → Stands m 12 1 (IsNoneOf versions) → judging rows m ≡ Faulty NotListed 0 12 1
   version-found-so t i p o =
       whole (Faulty NotListed 0 12 1)
       (in-header m s rest first four

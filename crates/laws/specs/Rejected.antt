@@ -1,6 +1,6 @@
--- Which messages are answered with AR, where they are answered, by document 02, W2: "an unsupported type (20), or MSH-11
--- or MSH-12 outside its list (33), is AR". A second saying of `rejects` of crates/acknowledgement_code, as a list of
--- cases.
+-- Which messages are answered with AR, where they are answered, by document 02, W2: "an unsupported type (20), or
+-- MSH-11 or MSH-12 outside its list (33), is AR". A second saying of `rejects` of crates/acknowledgement_code, as a list
+-- of cases; and a third, in the message's own bytes.
 use Prim.Native.Nat.{ℕ, _≤_}
 use mathlib.Core.Path.{_≡_}
 use mathlib.Core.Logic.{_⊎_}
@@ -52,23 +52,23 @@ pub record Unsupported (m : List ℕ) : Type 0 where
   pub was-read : reading m ≡ Passes
   pub not-listed : (s : Shape) → ListedAs (rawBytes m (typeAddress 1)) (rawBytes m (typeAddress 2)) s → ⊥
 
--- a field of MSH that has none of 31, 34 and 36: it stands once, and what is judged of it, a component or at 0 the whole,
--- is present; and the bytes of that are such as is asked
+-- a field of MSH that has none of 31, 34 and 36: it stands once, and what is judged of it, a component or at 0 the
+-- whole, is present; and the bytes of that are such as is asked
 pub record Stands (m : List ℕ) (field component : ℕ) (Asked : List ℕ → Type 0) : Type 0 where
   pub once : elementAt m (address 0 field 2 0 0) ≡ Absent
   pub present : stateOf (delimitersOf m) (rawBytes m (address 0 field 1 component 0)) ≡ Present
   pub so : Asked (rawBytes m (address 0 field 1 component 0))
 
 -- bytes that are one of some values, and bytes that are none
-abbrev pub OneOf : List (List ℕ) → List ℕ → Type 0
-OneOf [] bytes = ⊥
-OneOf (value ∷ others) bytes = (bytes ≡ value) ⊎ OneOf others bytes
+abbrev pub IsOneOf : List (List ℕ) → List ℕ → Type 0
+IsOneOf [] bytes = ⊥
+IsOneOf (value ∷ others) bytes = (bytes ≡ value) ⊎ IsOneOf others bytes
 
-abbrev pub NoneOf : List (List ℕ) → List ℕ → Type 0
-NoneOf [] bytes = Unit {0}
-NoneOf (value ∷ others) bytes = (bytes ≡ value → ⊥) × NoneOf others bytes
+abbrev pub IsNoneOf : List (List ℕ) → List ℕ → Type 0
+IsNoneOf [] bytes = Unit {0}
+IsNoneOf (value ∷ others) bytes = (bytes ≡ value → ⊥) × IsNoneOf others bytes
 
--- the rows of MSH before and besides: "TS"; "1 to 20 bytes"; the lists "D, P, T" and "`2.4`"
+-- the rows of MSH: "TS"; "1 to 20 bytes", of which a field that is present has one; the lists "D, P, T" and "`2.4`"
 abbrev pub Timed : List ℕ → Type 0
 Timed m = Stands m 7 1 (λ (bytes : List ℕ). isTs bytes ≡ true)
 
@@ -85,5 +85,7 @@ versions = ascii "2.4" ∷ []
 -- rows before are kept
 pub data RejectedFor (m : List ℕ) : Type 0 where
   its-type : Unsupported m → RejectedFor m
-  its-processing : Answers m (plain None 0) → Timed m → Identified m → Stands m 11 1 (NoneOf processingIds) → RejectedFor m
-  its-version : Answers m (plain None 0) → Timed m → Identified m → Stands m 11 1 (OneOf processingIds) → Stands m 12 1 (NoneOf versions) → RejectedFor m
+  its-processing : Answers m (plain None 0) → Timed m → Identified m
+      → Stands m 11 1 (IsNoneOf processingIds) → RejectedFor m
+  its-version : Answers m (plain None 0) → Timed m → Identified m
+      → Stands m 11 1 (IsOneOf processingIds) → Stands m 12 1 (IsNoneOf versions) → RejectedFor m
