@@ -30,13 +30,13 @@ use Rattle.fields.proofs.CursorLaws.{bytes-other, bytes-fixed, bytes-he
 
 -- ---- an absent field is judged as one with no bytes
 
-nothing-part : (ds : List ℕ) (component : ℕ) → judgedPart ds component [] ≡ []
+pub nothing-part : (ds : List ℕ) (component : ℕ) → judgedPart ds component [] ≡ []
 unfolding judgedPart split
 nothing-part ds zero = refl
 nothing-part ds (suc zero) = refl
 nothing-part ds (suc (suc k)) = refl
 
-nothing-state : (ds : List ℕ) → stateOf ds [] ≡ Empty
+pub nothing-state : (ds : List ℕ) → stateOf ds [] ≡ Empty
 unfolding stateOf first
 nothing-state ds = refl
 

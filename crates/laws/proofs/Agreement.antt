@@ -41,7 +41,7 @@ use Rattle.fields.specs.Judging.{Fault, Sound, nameAt, repetitionsIn, repetitio
 use Rattle.field_table.specs.declared.Row.{Row}
 
 -- no bytes have no part with bytes
-pub nothing-in : (sep : ℕ) (i : ℕ) → getD (split sep []) i [] ≡ []
+nothing-in : (sep : ℕ) (i : ℕ) → getD (split sep []) i [] ≡ []
 nothing-in sep zero = ap (λ (ps : List (List ℕ)). getD ps 0 []) (split-nothing sep)
 nothing-in sep (suc i) = ap (λ (ps : List (List ℕ)). getD ps (suc i) []) (split-nothing sep)
 

@@ -7,6 +7,7 @@ use native.Mathlib.Omega.{arith}
 use lib.Dec.{eqb}
 use borrow.Author.Tests.{eqb-true, eqb-false}
 use Rattle.alphabet.specs.Answers.{numberOf, failsIf, orElse, answered}
+use Rattle.alphabet.proofs.BoolLaws.{or-neither}
 use Rattle.alphabet.specs.declared.answers.Refusal.{Refusal}
 use Rattle.alphabet.specs.declared.answers.Check.{Check}
 use Rattle.alphabet.specs.declared.answers.Check.the-variants.{Passes, Fails}
@@ -31,6 +32,11 @@ among (k ∷ ks) n e = first-or k ks n (λ q. among ks n (at (eqb n k) q e))
     at : (t : Bool) → t ≡ false → (t || has ks n) ≡ true → has ks n ≡ true
     at false q e = e
     at true q e = absurd (let z : _≡_ {A = ℕ} 0 1 = cc in omega arith)
+
+-- and what it has not got is not in it
+pub apart : (l : List ℕ) (n : ℕ) → has l n ≡ false → In n l → ⊥
+apart (k ∷ ks) n e here = let z = or-neither (eqb n n) (has ks n) e .0 in eqb-false n n z refl
+apart (k ∷ ks) n e (there i) = apart ks n (or-neither (eqb n k) (has ks n) e .1) i
 
 -- so many numbers from k on
 abbrev pub from : ℕ → ℕ → List ℕ

@@ -1,9 +1,9 @@
--- Every fault has a number from 31 to 37, so that what is answered without one is sound. Assumes nothing.
+-- Every fault has a number from 31 to 37, so that what is answered without one is sound; and those of later segments have later places. Assumes nothing.
 use mathlib.Core.Path.{_≡_, refl, ap}
 use mathlib.Core.Logic.{_⊎_, inl, inr}
 use mathlib.Core.Bool.{Bool, true, false, cond, not, _&&_}
 use mathlib.Core.List.{List, [], _∷_, map}
-use Prim.Native.Nat.{ℕ, _+_}
+use Prim.Native.Nat.{ℕ, _+_, _≤_}
 use native.Mathlib.Omega.{arith}
 use lib.Dec.{ltb, eqb}
 use lib.ListN.{length}
@@ -87,38 +87,45 @@ module _ (ds : List ℕ) where
 
 -- ---- faults
 
-abbrev FaultNumbered : Fault → Type 0
-FaultNumbered Sound = Unit {0}
-FaultNumbered (Faulty kind segment field repetition) = NumberFromTo 31 37 kind
+-- a fault with a number of the field judge's, of a segment from a number on
+abbrev pub FaultNumbered : ℕ → Fault → Type 0
+FaultNumbered number Sound = Unit {0}
+FaultNumbered number (Faulty kind segment field repetition) = NumberFromTo 31 37 kind × (number ≤ segment)
 
-or-numbered : (f g : Fault) → FaultNumbered f → FaultNumbered g → FaultNumbered (orFault f g)
-or-numbered Sound g p q = q
-or-numbered (Faulty kind segment field repetition) g p q = p
+or-numbered : (number : ℕ) (f g : Fault) → FaultNumbered number f → FaultNumbered number g → FaultNumbered number (orFault f g)
+or-numbered number Sound g p q = q
+or-numbered number (Faulty kind segment field repetition) g p q = p
 
-located-numbered : (segment field : ℕ) (c : Check) → Told c → FaultNumbered (located segment field c)
-located-numbered segment field Passes p = tt
-located-numbered segment field (Fails kind place) p = p
+weaker : (number : ℕ) (f : Fault) → FaultNumbered (number + 1) f → FaultNumbered number f
+weaker number Sound p = tt
+weaker number (Faulty kind segment field repetition) p = (p .0, omega (arith, p .1))
+
+located-numbered : (number field : ℕ) (c : Check) → Told c → FaultNumbered number (located number field c)
+located-numbered number field Passes p = tt
+located-numbered number field (Fails kind place) p = (p, omega arith)
 
 module _ (m : List ℕ) where
-  row-numbered : (number : ℕ) (part : Part) (s : List ℕ) (row : Row) → FaultNumbered (rowFault m number part s row)
+  row-numbered : (number : ℕ) (part : Part) (s : List ℕ) (row : Row) → FaultNumbered number (rowFault m number part s row)
   unfolding rowFault
   row-numbered number part s row = at (eqb (row .segment) (nameAt number s))
     where
-      at : (t : Bool) → FaultNumbered (cond t (located number (row .field) (rowCheck (delimitersOf m) row (saidIn m number part (row .kind)) (repetitionsOf m number part (row .field)))) Sound)
+      at : (t : Bool) → FaultNumbered number (cond t (located number (row .field) (rowCheck (delimitersOf m) row (saidIn m number part (row .kind)) (repetitionsOf m number part (row .field)))) Sound)
       at true = located-numbered number (row .field) (rowCheck (delimitersOf m) row (saidIn m number part (row .kind)) (repetitionsOf m number part (row .field))) (row-told (delimitersOf m) row (saidIn m number part (row .kind)) (repetitionsOf m number part (row .field)))
       at false = tt
 
-  rows-numbered : (number : ℕ) (part : Part) (s : List ℕ) (rs : List Row) → FaultNumbered (firstFault (map (rowFault m number part s) rs))
+  rows-numbered : (number : ℕ) (part : Part) (s : List ℕ) (rs : List Row) → FaultNumbered number (firstFault (map (rowFault m number part s) rs))
   unfolding firstFault
   rows-numbered number part s [] = tt
-  rows-numbered number part s (row ∷ rest) = or-numbered (rowFault m number part s row) _ (row-numbered number part s row) (rows-numbered number part s rest)
+  rows-numbered number part s (row ∷ rest) = or-numbered number (rowFault m number part s row) _ (row-numbered number part s row) (rows-numbered number part s rest)
 
-  segments-numbered : (rs : List Row) (number at : ℕ) (ss : List (List ℕ)) → FaultNumbered (firstFault (segmentFaults rs m number at ss))
+  pub segments-numbered : (rs : List Row) (number at : ℕ) (ss : List (List ℕ)) → FaultNumbered number (firstFault (segmentFaults rs m number at ss))
   unfolding firstFault segmentFaults
   segments-numbered rs number at [] = tt
-  segments-numbered rs number at (s ∷ rest) = or-numbered (segmentFault rs m number at s) _ (rows-numbered number _ s rs) (segments-numbered rs (number + 1) (at + length s + 1) rest)
+  segments-numbered rs number at (s ∷ rest) =
+      or-numbered number (segmentFault rs m number at s) _ (rows-numbered number _ s rs)
+      (weaker number (firstFault (segmentFaults rs m (number + 1) (at + length s + 1) rest)) (segments-numbered rs (number + 1) (at + length s + 1) rest))
 
-  pub judging-numbered : (rs : List Row) → FaultNumbered (judging rs m)
+  pub judging-numbered : (rs : List Row) → FaultNumbered 0 (judging rs m)
   unfolding judging
   judging-numbered rs = segments-numbered rs 0 0 (segments m)
 
@@ -126,14 +133,14 @@ module _ (m : List ℕ) where
   pub fields-number : (rs : List Row) → (numberOf (faultAnswer (judging rs m) .kind) ≡ 0) ⊎ NumberFromTo 31 37 (faultAnswer (judging rs m) .kind)
   fields-number rs = at (judging rs m) (judging-numbered rs)
     where
-      at : (f : Fault) → FaultNumbered f → (numberOf (faultAnswer f .kind) ≡ 0) ⊎ NumberFromTo 31 37 (faultAnswer f .kind)
+      at : (f : Fault) → FaultNumbered 0 f → (numberOf (faultAnswer f .kind) ≡ 0) ⊎ NumberFromTo 31 37 (faultAnswer f .kind)
       at Sound n = inl refl
-      at (Faulty kind segment field repetition) n = inr n
+      at (Faulty kind segment field repetition) n = inr (n .0)
 
   -- what has no number is sound
   pub none-sound : (rs : List Row) → faultAnswer (judging rs m) .kind ≡ None → judging rs m ≡ Sound
   none-sound rs e = at (judging rs m) (judging-numbered rs) e
     where
-      at : (f : Fault) → FaultNumbered f → faultAnswer f .kind ≡ None → f ≡ Sound
+      at : (f : Fault) → FaultNumbered 0 f → faultAnswer f .kind ≡ None → f ≡ Sound
       at Sound n q = refl
-      at (Faulty kind segment field repetition) n q = absurd (let z = ap numberOf q in omega (arith, n .0))
+      at (Faulty kind segment field repetition) n q = absurd (let z = ap numberOf q in omega (arith, n .0 .0))

@@ -2,9 +2,9 @@
 -- is wrong with that part. In the lists that the judge walks along, and at the addresses of a lookup. Rests on both being the same bytes (Agreement).
 use mathlib.Core.Path.{_≡_, refl, sym, ap, subst, _∙_}
 use mathlib.Core.Logic.{_↔_, inl, inr}
-use mathlib.Core.Bool.{Bool, true, false, cond, not, _||_}
+use mathlib.Core.Bool.{Bool, true, false, cond, not}
 use mathlib.Core.List.{List, [], _∷_}
-use Prim.Native.Nat.{ℕ, zero, suc, _+_, _≤_, _<_}
+use Prim.Native.Nat.{ℕ, _+_, _≤_, _<_}
 use native.Mathlib.Decide.{decLt}
 use native.Mathlib.Omega.{arith}
 use lib.Dec.{ltb}
@@ -12,10 +12,10 @@ use lib.ListN.{length, getD}
 use borrow.Author.Tests.{le-leb, ltb-false, le-ltb, not-false}
 use Rattle.alphabet.specs.Answers.{numberOf, failsIf, inOrder, orElse}
 use Rattle.alphabet.specs.Limits.{idLimit}
-use Rattle.alphabet.specs.Lists.{first, same}
+use Rattle.alphabet.specs.Lists.{same}
 use Rattle.alphabet.specs.Parts.{split, standing}
-use Rattle.alphabet.proofs.BoolLaws.{or-neither, neither-or, false-true}
-use Rattle.alphabet.proofs.CheckLaws.{passes-not}
+use Rattle.alphabet.proofs.BoolLaws.{false-true}
+use Rattle.alphabet.proofs.CheckLaws.{passes-not, ends}
 use Rattle.alphabet.proofs.ListLaws.{same-own, same-is}
 use Rattle.alphabet.specs.declared.answers.Check.{Check}
 use Rattle.alphabet.specs.declared.answers.Check.the-variants.{Passes, Fails}
@@ -31,23 +31,21 @@ use Rattle.element.specs.declared.states.State.{State}
 use Rattle.element.specs.declared.states.State.the-variants.{Absent as no-part, Empty, Null, Present}
 use Rattle.times.specs.Times.{isTs}
 use Rattle.field_table.specs.Table.{rows, valuesOf, member}
+use Rattle.field_table.proofs.TableLaws.{member-here, member-past, member-none}
 use Rattle.field_table.specs.declared.Kind.{Kind}
 use Rattle.field_table.specs.declared.Kind.the-variants.{Identifier, Ts, OneOf as listed}
 use Rattle.field_table.specs.declared.Values.{Values}
 use Rattle.field_table.specs.declared.Values.the-variants.{Processing, Version}
 use Rattle.rules.specs.Rules.{formCheck, judgedPart, partState, placed, repetitionCheck, repetitionChecks, firstState, requiredCheck, rowCheck}
+use Rattle.fields.proofs.FieldLaws.{nothing-part, nothing-state}
 use Rattle.fields.specs.Judging.{Sound, repetitionsOf, located, orFault, firstFault, rowFault, segmentFault}
 use Rattle.laws.specs.Elements.{address}
-use Rattle.laws.specs.Rejected.{Stands, IsOneOf, IsNoneOf, Timed, Identified, processingIds, versions}
-use Rattle.laws.proofs.Agreement.{nothing-in, judged-element, counted-element}
+use Rattle.laws.specs.Rejected.{StandsOnce, IsOneOf, IsNoneOf, Timed, Identified, processingIds, versions}
+use Rattle.laws.proofs.Agreement.{judged-element, counted-element}
 
 pub placed-passes : (number : ℕ) (c : Check) → placed number c ≡ Passes → c ≡ Passes
 placed-passes number Passes e = refl
 placed-passes number (Fails kind place) e = absurd (let z : _≡_ {A = ℕ} 0 1 = cc in omega arith)
-
-or-passes : (c : Check) → orElse c Passes ≡ c
-or-passes Passes = refl
-or-passes (Fails kind place) = refl
 
 -- neither 31, 34 nor 36: nothing, or 33
 abbrev pub Calm : Check → Type 0
@@ -85,12 +83,7 @@ module _ (ds : List ℕ) (component : ℕ) (kind : Kind) where
 
   -- no bytes have no part that is present
   pub nothing-there : stateOf ds (judgedPart ds component []) ≡ Present → ⊥
-  unfolding judgedPart stateOf first
-  nothing-there = at component
-    where
-      at : (k : ℕ) → stateOf ds (judgedPart ds k []) ≡ Present → ⊥
-      at zero p = let z : _≡_ {A = ℕ} 0 1 = cc in omega arith
-      at (suc k) p = let e = sym (ap (stateOf ds) (nothing-in (getD ds 1 0) k)) ∙ p in let z : _≡_ {A = ℕ} 0 1 = cc in omega arith
+  nothing-there p = let e = sym (ap (stateOf ds) (nothing-part ds component) ∙ nothing-state ds) ∙ p in let z : _≡_ {A = ℕ} 0 1 = cc in omega arith
 
   pub finds : (rs : List (List ℕ)) → Single rs → asks rs ≡ placed 1 (formCheck kind (judgedPart ds component (getD rs 0 [])))
   unfolding repetitionChecks repetitionCheck
@@ -100,7 +93,7 @@ module _ (ds : List ℕ) (component : ℕ) (kind : Kind) where
       at : (t : State) → t ≡ Present
           → orElse (requiredCheck true t) (orElse (failsIf (ltb 1 1) Repeated 1) (orElse (cond (isPresent t) (placed 1 (formCheck kind (judgedPart ds component r))) Passes) Passes))
           ≡ placed 1 (formCheck kind (judgedPart ds component r))
-      at Present q = or-passes (placed 1 (formCheck kind (judgedPart ds component r)))
+      at Present q = sym (ends refl)
       at no-part q = absurd (let z : _≡_ {A = ℕ} 0 1 = cc in omega arith)
       at Empty q = absurd (let z : _≡_ {A = ℕ} 0 1 = cc in omega arith)
       at Null q = absurd (let z : _≡_ {A = ℕ} 0 1 = cc in omega arith)
@@ -135,14 +128,14 @@ module _ (m s : List ℕ) (rest : List (List ℕ)) (first : segments m ≡ s ∷
       let w = ap (λ (p : Part). length (repetitionsOf m 0 p field)) (first-stands m s rest first) in
       (λ h. c .0 (omega (arith, h)), λ n. let h = c .1 n in omega (arith, h))
 
-  pub stands : (kind : Kind) (Is : List ℕ → Type 0) → Single ds component kind held → Is (judgedPart ds component (getD held 0 [])) → Stands m field component Is
+  pub stands : (kind : Kind) (Is : List ℕ → Type 0) → Single ds component kind held → Is (judgedPart ds component (getD held 0 [])) → StandsOnce m field component Is
   stands kind Is o i = record { once = at (elementAt m (address 0 field 2 0 0)) refl; present = ap (stateOf ds) (sym looked-up) ∙ o .there; so = subst Is looked-up i }
     where
       at : (p : Part) → elementAt m (address 0 field 2 0 0) ≡ p → elementAt m (address 0 field 2 0 0) ≡ Absent
       at Absent e = e
       at (At a b) e = absurd (let l = o .once in let h = counted .1 (λ q. let z : _≡_ {A = ℕ} 0 1 = cc in omega arith) in omega (arith, h))
 
-  pub standing-so : (kind : Kind) (Is : List ℕ → Type 0) → Stands m field component Is → Single ds component kind held × Is (judgedPart ds component (getD held 0 []))
+  pub standing-so : (kind : Kind) (Is : List ℕ → Type 0) → StandsOnce m field component Is → Single ds component kind held × Is (judgedPart ds component (getD held 0 []))
   standing-so kind Is o = (record { once = at (decLt 1 (length held)); there = ap (stateOf ds) looked-up ∙ o .present }, subst Is (sym looked-up) (o .so))
     where
       at : Dec (1 < length held) → length held ≤ 1
@@ -150,7 +143,7 @@ module _ (m s : List ℕ) (rest : List (List ℕ)) (first : segments m ≡ s ∷
       at (no h) = omega (arith, h)
 
   -- it passes exactly where the field stands and its part has the form
-  pub passes-so : (kind : Kind) (Is : List ℕ → Type 0) → ((b : List ℕ) → (formCheck kind b ≡ Passes) ↔ Is b) → (asks ds component kind held ≡ Passes) ↔ Stands m field component Is
+  pub passes-so : (kind : Kind) (Is : List ℕ → Type 0) → ((b : List ℕ) → (formCheck kind b ≡ Passes) ↔ Is b) → (asks ds component kind held ≡ Passes) ↔ StandsOnce m field component Is
   passes-so kind Is form = (
     λ e.
         let o = single ds component kind held Passes e tt in
@@ -162,8 +155,8 @@ module _ (m s : List ℕ) (rest : List (List ℕ)) (first : segments m ≡ s ∷
 
   -- 33 exactly where it stands and its part is not in the list
   pub fails-so : (values : Values) (Is : List ℕ → Type 0) → ((b : List ℕ) → (member b (valuesOf values) ≡ false) ↔ Is b)
-      → ((k : Refusal) (place : ℕ) → numberOf k ≡ 33 → asks ds component (listed values) held ≡ Fails k place → Stands m field component Is)
-      × (Stands m field component Is → asks ds component (listed values) held ≡ Fails NotListed 1)
+      → ((k : Refusal) (place : ℕ) → numberOf k ≡ 33 → asks ds component (listed values) held ≡ Fails k place → StandsOnce m field component Is)
+      × (StandsOnce m field component Is → asks ds component (listed values) held ≡ Fails NotListed 1)
   unfolding formCheck
   fails-so values Is list = (
     λ k place n e.
@@ -188,41 +181,32 @@ pub id-form : (b : List ℕ) → (formCheck Identifier b ≡ Passes) ↔ (length
 unfolding formCheck
 id-form b = (λ e. ltb-false idLimit (length b) (passes-not (ltb idLimit (length b)) ValueTooLong 0 e), λ l. rw (le-ltb idLimit (length b) l) refl)
 
-unlike : (b v : List ℕ) → (same b v ≡ false) ↔ (b ≡ v → ⊥)
-unlike b v = (λ e q. false-true (sym e ∙ ap (λ (x : List ℕ). same x v) q ∙ same-own v), at (same b v) refl)
-  where
-    at : (t : Bool) → same b v ≡ t → (b ≡ v → ⊥) → same b v ≡ false
-    at true e n = absurd (n (same-is b v e))
-    at false e n = e
-
-none-listed : (vs : List (List ℕ)) (b : List ℕ) → (member b vs ≡ false) ↔ IsNoneOf vs b
-unfolding member
-none-listed [] b = (λ e. tt, λ n. refl)
-none-listed (v ∷ vs) b = (
-  λ e. let n = or-neither (same b v) (member b vs) e in (unlike b v .0 (n .0), none-listed vs b .0 (n .1)),
-  λ n. neither-or (unlike b v .1 (n .0)) (none-listed vs b .1 (n .1)),
-)
-
 -- one step along the list
-one-more : (v : List ℕ) (vs : List (List ℕ)) (b : List ℕ) → (member b vs ≡ true) ↔ IsOneOf vs b → ((same b v || member b vs) ≡ true) ↔ IsOneOf (v ∷ vs) b
+one-more : (v : List ℕ) (vs : List (List ℕ)) (b : List ℕ) → (member b vs ≡ true) ↔ IsOneOf vs b → (member b (v ∷ vs) ≡ true) ↔ IsOneOf (v ∷ vs) b
 one-more v vs b step = (to (same b v) refl, from)
   where
-    to : (t : Bool) → same b v ≡ t → (t || member b vs) ≡ true → IsOneOf (v ∷ vs) b
+    to : (t : Bool) → same b v ≡ t → member b (v ∷ vs) ≡ true → IsOneOf (v ∷ vs) b
     to true e q = inl (same-is b v e)
-    to false e q = inr (step .0 q)
+    to false e q = inr (step .0 (sym (member-past b v vs e) ∙ q))
 
-    later : (t : Bool) → member b vs ≡ true → (t || member b vs) ≡ true
-    later true e = refl
-    later false e = e
+    later : (t : Bool) → same b v ≡ t → IsOneOf vs b → member b (v ∷ vs) ≡ true
+    later true e o = member-here b v vs e
+    later false e o = member-past b v vs e ∙ step .1 o
 
-    from : IsOneOf (v ∷ vs) b → (same b v || member b vs) ≡ true
-    from (inl q) = let e : same b v ≡ true = ap (λ (x : List ℕ). same x v) q ∙ same-own v in rw e refl
-    from (inr o) = later (same b v) (step .1 o)
+    from : IsOneOf (v ∷ vs) b → member b (v ∷ vs) ≡ true
+    from (inl q) = member-here b v vs (ap (λ (x : List ℕ). same x v) q ∙ same-own v)
+    from (inr o) = later (same b v) refl o
 
 one-listed : (vs : List (List ℕ)) (b : List ℕ) → (member b vs ≡ true) ↔ IsOneOf vs b
-unfolding member
-one-listed [] b = (λ e. absurd (false-true e), λ n. absurd n)
+one-listed [] b = (λ e. false-true (sym (member-none b) ∙ e), λ n. absurd n)
 one-listed (v ∷ vs) b = one-more v vs b (one-listed vs b)
+
+none-listed : (vs : List (List ℕ)) (b : List ℕ) → (member b vs ≡ false) ↔ IsNoneOf vs b
+none-listed vs b = (λ e o. false-true (sym e ∙ one-listed vs b .1 o), at (member b vs) refl)
+  where
+    at : (t : Bool) → member b vs ≡ t → IsNoneOf vs b → member b vs ≡ false
+    at true e n = absurd (n (one-listed vs b .0 e))
+    at false e n = e
 
 listed-form : (values : Values) (b : List ℕ) → (formCheck (listed values) b ≡ Passes) ↔ IsOneOf (valuesOf values) b
 unfolding formCheck
@@ -260,14 +244,14 @@ module _ (m s : List ℕ) (rest : List (List ℕ)) (first : segments m ≡ s ∷
   pub identified-so : (identified-found ≡ Passes) ↔ Identified m
   identified-so = passes-so m s rest first four 10 0 refl Identifier (λ (b : List ℕ). length b ≤ idLimit) id-form
 
-  pub processing-so : (processing-found ≡ Passes) ↔ Stands m 11 1 (IsOneOf processingIds)
+  pub processing-so : (processing-found ≡ Passes) ↔ StandsOnce m 11 1 (IsOneOf processingIds)
   unfolding valuesOf split
   processing-so = passes-so m s rest first four 11 1 refl (listed Processing) (IsOneOf processingIds) (listed-form Processing)
 
-  pub processing-not : ((k : Refusal) (place : ℕ) → numberOf k ≡ 33 → processing-found ≡ Fails k place → Stands m 11 1 (IsNoneOf processingIds)) × (Stands m 11 1 (IsNoneOf processingIds) → processing-found ≡ Fails NotListed 1)
+  pub processing-not : ((k : Refusal) (place : ℕ) → numberOf k ≡ 33 → processing-found ≡ Fails k place → StandsOnce m 11 1 (IsNoneOf processingIds)) × (StandsOnce m 11 1 (IsNoneOf processingIds) → processing-found ≡ Fails NotListed 1)
   unfolding valuesOf split
   processing-not = fails-so m s rest first four 11 1 refl Processing (IsNoneOf processingIds) (none-listed processingIds)
 
-  pub version-not : ((k : Refusal) (place : ℕ) → numberOf k ≡ 33 → version-found ≡ Fails k place → Stands m 12 1 (IsNoneOf versions)) × (Stands m 12 1 (IsNoneOf versions) → version-found ≡ Fails NotListed 1)
+  pub version-not : ((k : Refusal) (place : ℕ) → numberOf k ≡ 33 → version-found ≡ Fails k place → StandsOnce m 12 1 (IsNoneOf versions)) × (StandsOnce m 12 1 (IsNoneOf versions) → version-found ≡ Fails NotListed 1)
   unfolding valuesOf split
   version-not = fails-so m s rest first four 12 1 refl Version (IsNoneOf versions) (none-listed versions)

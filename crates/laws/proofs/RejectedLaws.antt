@@ -2,11 +2,11 @@
 -- wrong; both ways. Rests on the rows of MSH (HeaderRows). Assumes nothing.
 use mathlib.Core.Path.{_≡_, refl, sym, ap, ap₂, subst, _∙_}
 use mathlib.Core.Logic.{_⊎_, inl, inr, _↔_}
-use mathlib.Core.Bool.{Bool, true, false, cond, not}
-use mathlib.Core.List.{List, [], _∷_, map}
+use mathlib.Core.Bool.{Bool, true, false, cond}
+use mathlib.Core.List.{List, [], _∷_}
 use Prim.Native.Nat.{ℕ, _+_, _≤_}
 use native.Mathlib.Omega.{arith}
-use lib.Dec.{ltb, eqb}
+use lib.Dec.{ltb}
 use lib.ListN.{length}
 use Rattle.alphabet.specs.Answers.{numberOf}
 use Rattle.alphabet.proofs.CheckLaws.{NumberFromTo, numbered-fails}
@@ -14,49 +14,48 @@ use Rattle.alphabet.specs.declared.answers.Check.{Check}
 use Rattle.alphabet.specs.declared.answers.Check.the-variants.{Passes, Fails}
 use Rattle.alphabet.specs.declared.answers.Refusal.{Refusal}
 use Rattle.alphabet.specs.declared.answers.Refusal.the-variants.{None, NoStructure, SegmentMisplaced, EndedEarly, NotListed}
-use Rattle.alphabet.specs.declared.parts.Part.{Part}
-use Rattle.alphabet.specs.declared.parts.Part.the-variants.{At}
 use Rattle.reading.specs.Message.{Message}
 use Rattle.reading.specs.Reading.{reading}
-use Rattle.reading.specs.Segments.{delimitersOf, segments}
+use Rattle.reading.specs.Segments.{segments}
 use Rattle.reading.proofs.Accepted.{accepted as accepted-message}
-use Rattle.reading.proofs.Honest.{reading-numbered, reading-fails}
+use Rattle.reading.proofs.Honest.{reading-numbered}
+use Rattle.structure.specs.Listed.{In}
 use Rattle.structure.specs.SegmentNames.{segmentNames}
 use Rattle.structure.specs.Structures.{Choice, chosen, unlisted, structureFor, builtIn}
 use Rattle.structure.specs.Judged.{Answers, accepted, refused, unread, read, no-structure, by}
 use Rattle.fault.specs.Faults.{plain}
 use Rattle.fault.specs.declared.FaultRecord.{FaultRecord}
 use Rattle.field_table.specs.Table.{rows}
-use Rattle.field_table.specs.declared.Row.{Row}
-use Rattle.rules.specs.Rules.{rowCheck}
-use Rattle.fields.specs.Judging.{Fault, Sound, Faulty, nameAt, saidIn, repetitionsOf, located, orFault, firstFault, rowFault, segmentFault, segmentFaults, judging, faultAnswer}
+use Rattle.fields.specs.Judging.{Fault, Sound, Faulty, located, orFault, firstFault, segmentFault, segmentFaults, judging, faultAnswer}
+use Rattle.verdict.proofs.VerdictLaws.{shaped}
 use Rattle.verdict.specs.Verdicts.{Verdicts}
 use Rattle.verdict.specs.Verdicts.VerdictsBy.{refused as by-structure, judged as by-fields}
-use Rattle.laws.specs.Rejected.{Rejects, unsupported, processing, version, Rejected, Unsupported, Stands, IsOneOf, IsNoneOf, Timed, Identified, processingIds, versions, RejectedFor, its-type, its-processing, its-version}
+use Rattle.laws.specs.Rejected.{Rejects, unsupported, processing, version, Rejected, Unsupported, StandsOnce, IsOneOf, IsNoneOf, Timed, Identified, processingIds, versions, RejectedFor, its-type, its-processing, its-version}
 use Rattle.laws.proofs.Chosen.{listed-exactly}
-use Rattle.laws.proofs.FaultNumbers.{fields-number}
+use Rattle.laws.proofs.FaultNumbers.{FaultNumbered, segments-numbered, fields-number}
+use Rattle.laws.specs.Entries.{ofStructure}
+use Rattle.laws.proofs.Among.{apart}
+use Rattle.laws.proofs.EntryNumbers.{structure-numbers}
 use Rattle.laws.proofs.HeaderRows.{timed-found, identified-found, processing-found, version-found, in-header, timed-so, identified-so, processing-so, processing-not, version-not}
 
 -- ---- 20
 
 -- the structure judge gives 21 or 22 where a structure is chosen
-misplaced : (t : Bool) → (21 ≤ numberOf (cond t SegmentMisplaced EndedEarly)) × (numberOf (cond t SegmentMisplaced EndedEarly) ≤ 22)
-misplaced true = (omega arith, omega arith)
-misplaced false = (omega arith, omega arith)
+misplaced : (t : Bool) → 21 ≤ numberOf (cond t SegmentMisplaced EndedEarly)
+misplaced true = omega arith
+misplaced false = omega arith
 
 module _ (m : List ℕ) where
-  -- what the structure judge refuses with 20 was read, and no structure is chosen for it; it never refuses with 33
+  -- what the structure judge refuses with 20 was read, and no structure is chosen for it
   twenty : {r : FaultRecord} → Answers m r → numberOf (r .kind) ≡ 20 → (reading m ≡ Passes) × (structureFor builtIn m ≡ unlisted)
   twenty (unread kind place e) n = absurd (let q = numbered-fails 1 8 (reading m) kind place (reading-numbered m) e in omega (arith, q .1))
   twenty (read p (no-structure g)) n = (p, g)
   twenty (read p (by x g (accepted y))) n = absurd (omega arith)
-  twenty (read p (by x g (refused place ends list a))) n = absurd (let q = misplaced (ltb place (length (segmentNames m))) in omega (arith, q .0))
+  twenty (read p (by x g (refused place ends list a))) n = absurd (let q = misplaced (ltb place (length (segmentNames m))) in omega (arith, q))
 
+  -- it never refuses with 33
   never-33 : {r : FaultRecord} → Answers m r → numberOf (r .kind) ≡ 33 → ⊥
-  never-33 (unread kind place e) n = let q = numbered-fails 1 8 (reading m) kind place (reading-numbered m) e in omega (arith, q .1)
-  never-33 (read p (no-structure g)) n = omega arith
-  never-33 (read p (by x g (accepted y))) n = omega arith
-  never-33 (read p (by x g (refused place ends list a))) n = let q = misplaced (ltb place (length (segmentNames m))) in omega (arith, q .1)
+  never-33 a n = apart ofStructure 33 refl (subst (λ (k : ℕ). In k ofStructure) n (structure-numbers m a))
 
   -- the field judge never gives 20
   never-20 : numberOf (faultAnswer (judging rows m) .kind) ≡ 20 → ⊥
@@ -85,73 +84,25 @@ module _ (m : List ℕ) where
             rejects = unsupported refl;
           }
 
--- ---- the first segment is MSH, and the fault is in it
-
--- a fault of a segment from a number on
-abbrev Behind : ℕ → Fault → Type 0
-Behind number Sound = Unit {0}
-Behind number (Faulty kind segment field repetition) = number ≤ segment
-
-or-behind : (number : ℕ) (f g : Fault) → Behind number f → Behind number g → Behind number (orFault f g)
-or-behind number Sound g p q = q
-or-behind number (Faulty kind segment field repetition) g p q = p
-
-weaker : (number : ℕ) (f : Fault) → Behind (number + 1) f → Behind number f
-weaker number Sound p = tt
-weaker number (Faulty kind segment field repetition) p = omega (arith, p)
-
-located-behind : (number field : ℕ) (c : Check) → Behind number (located number field c)
-located-behind number field Passes = tt
-located-behind number field (Fails kind place) = omega arith
-
--- one of two
-which : (f g : Fault) {kind : Refusal} {segment field repetition : ℕ} → orFault f g ≡ Faulty kind segment field repetition
-    → (f ≡ Faulty kind segment field repetition) ⊎ (g ≡ Faulty kind segment field repetition)
-which Sound g e = inr e
-which (Faulty kind segment field repetition) g e = inl e
-
-module _ (m : List ℕ) where
-  row-behind : (number : ℕ) (part : Part) (s : List ℕ) (r : Row) → Behind number (rowFault m number part s r)
-  unfolding rowFault
-  row-behind number part s r = at (eqb (r .segment) (nameAt number s))
-    where
-      at : (t : Bool) → Behind number (cond t (located number (r .field) (rowCheck (delimitersOf m) r (saidIn m number part (r .kind)) (repetitionsOf m number part (r .field)))) Sound)
-      at true = located-behind number (r .field) (rowCheck (delimitersOf m) r (saidIn m number part (r .kind)) (repetitionsOf m number part (r .field)))
-      at false = tt
-
-  rows-behind : (number : ℕ) (part : Part) (s : List ℕ) (rs : List Row) → Behind number (firstFault (map (rowFault m number part s) rs))
-  unfolding firstFault
-  rows-behind number part s [] = tt
-  rows-behind number part s (r ∷ rest) = or-behind number (rowFault m number part s r) _ (row-behind number part s r) (rows-behind number part s rest)
-
-  segments-behind : (number at : ℕ) (ss : List (List ℕ)) → Behind number (firstFault (segmentFaults rows m number at ss))
-  unfolding firstFault segmentFaults
-  segments-behind number at [] = tt
-  segments-behind number at (s ∷ rest) =
-      or-behind number (segmentFault rows m number at s) _ (rows-behind number (At at (at + length s)) s rows)
-      (weaker number (firstFault (segmentFaults rows m (number + 1) (at + length s + 1) rest)) (segments-behind (number + 1) (at + length s + 1) rest))
-
-  module _ (s : List ℕ) (rest : List (List ℕ)) (first : segments m ≡ s ∷ rest) (kind : Refusal) (field repetition : ℕ) (found : judging rows m ≡ Faulty kind 0 field repetition) where
-    abbrev part : Part
-    part = At 0 (0 + length s)
-
-    abbrev InFirst : Fault → Type 0
-    InFirst f = f ≡ Faulty kind 0 field repetition
-
-    -- it is none of a segment behind the first
-    in-first : InFirst (segmentFault rows m 0 0 s)
-    unfolding judging segmentFaults firstFault
-    in-first = at (which (segmentFault rows m 0 0 s) (firstFault (segmentFaults rows m 1 (0 + length s + 1) rest)) (sym (ap (λ (ss : List (List ℕ)). firstFault (segmentFaults rows m 0 0 ss)) first) ∙ found))
-      where
-        at : InFirst (segmentFault rows m 0 0 s) ⊎ InFirst (firstFault (segmentFaults rows m 1 (0 + length s + 1) rest)) → InFirst (segmentFault rows m 0 0 s)
-        at (inl e) = e
-        at (inr e) = absurd (let b = subst (Behind 1) e (segments-behind 1 (0 + length s + 1) rest) in omega (arith, b))
-
--- ---- a fault in the rows of MSH
+-- ---- the first segment is MSH: a fault in it, and in its rows
 
 module _ (kind : Refusal) (field repetition : ℕ) where
   abbrev Here : Fault → Type 0
   Here f = f ≡ Faulty kind 0 field repetition
+
+  -- one of two
+  which : (f g : Fault) → Here (orFault f g) → Here f ⊎ Here g
+  which Sound g e = inr e
+  which (Faulty k segment f r) g e = inl e
+
+  -- it is none of a segment behind the first
+  in-first : (m s : List ℕ) (rest : List (List ℕ)) → segments m ≡ s ∷ rest → Here (judging rows m) → Here (segmentFault rows m 0 0 s)
+  unfolding judging segmentFaults firstFault
+  in-first m s rest first found = at (which (segmentFault rows m 0 0 s) (firstFault (segmentFaults rows m 1 (0 + length s + 1) rest)) (sym (ap (λ (ss : List (List ℕ)). firstFault (segmentFaults rows m 0 0 ss)) first) ∙ found))
+    where
+      at : Here (segmentFault rows m 0 0 s) ⊎ Here (firstFault (segmentFaults rows m 1 (0 + length s + 1) rest)) → Here (segmentFault rows m 0 0 s)
+      at (inl e) = e
+      at (inr e) = absurd (let b = subst (FaultNumbered 1) e (segments-numbered m rows 1 (0 + length s + 1) rest) in omega (arith, b .1))
 
   of-field : (f : ℕ) (c : Check) → Here (located 0 f c) → (c ≡ Fails kind repetition) × (f ≡ field)
   of-field f Passes e = absurd (let z : _≡_ {A = ℕ} 0 1 = cc in omega arith)
@@ -178,14 +129,14 @@ module _ (m s : List ℕ) (rest : List (List ℕ)) (first : segments m ≡ s ∷
   module _ (kind : Refusal) (repetition : ℕ) (number : numberOf kind ≡ 33) where
     processing-says : judging rows m ≡ Faulty kind 0 11 repetition → RejectedFor m
     processing-says found =
-        let a = other-row kind 11 repetition 7 (timed-found m s rest first four) _ (λ q. omega arith) (sym (in-header m s rest first four) ∙ in-first m s rest first kind 11 repetition found) in
+        let a = other-row kind 11 repetition 7 (timed-found m s rest first four) _ (λ q. omega arith) (sym (in-header m s rest first four) ∙ in-first kind 11 repetition m s rest first found) in
         let b = other-row kind 11 repetition 10 (identified-found m s rest first four) _ (λ q. omega arith) (a .1) in
         let c = own-row kind 11 repetition 11 (processing-found m s rest first four) _ (λ e. not-sound kind 11 repetition (other-row kind 11 repetition 12 (version-found m s rest first four) Sound (λ q. omega arith) e .1)) (b .1) in
         its-processing fits (timed-so m s rest first four .0 (a .0)) (identified-so m s rest first four .0 (b .0)) (processing-not m s rest first four .0 kind repetition number c)
 
     version-says : judging rows m ≡ Faulty kind 0 12 repetition → RejectedFor m
     version-says found =
-        let a = other-row kind 12 repetition 7 (timed-found m s rest first four) _ (λ q. omega arith) (sym (in-header m s rest first four) ∙ in-first m s rest first kind 12 repetition found) in
+        let a = other-row kind 12 repetition 7 (timed-found m s rest first four) _ (λ q. omega arith) (sym (in-header m s rest first four) ∙ in-first kind 12 repetition m s rest first found) in
         let b = other-row kind 12 repetition 10 (identified-found m s rest first four) _ (λ q. omega arith) (a .1) in
         let c = other-row kind 12 repetition 11 (processing-found m s rest first four) _ (λ q. omega arith) (b .1) in
         let d = own-row kind 12 repetition 12 (version-found m s rest first four) Sound (not-sound kind 12 repetition) (c .1) in
@@ -199,14 +150,14 @@ module _ (m s : List ℕ) (rest : List (List ℕ)) (first : segments m ≡ s ∷
       ap (λ (ss : List (List ℕ)). firstFault (segmentFaults rows m 0 0 ss)) first
       ∙ ap (λ (f : Fault). orFault f (firstFault (segmentFaults rows m 1 (0 + length s + 1) rest))) e
 
-  processing-found-so : Timed m → Identified m → Stands m 11 1 (IsNoneOf processingIds) → judging rows m ≡ Faulty NotListed 0 11 1
+  processing-found-so : Timed m → Identified m → StandsOnce m 11 1 (IsNoneOf processingIds) → judging rows m ≡ Faulty NotListed 0 11 1
   processing-found-so t i o =
       whole (Faulty NotListed 0 11 1)
       (in-header m s rest first four
       ∙ rw (timed-so m s rest first four .1 t, identified-so m s rest first four .1 i, processing-not m s rest first four .1 o) refl)
       (λ e. let z : _≡_ {A = ℕ} 0 1 = cc in omega arith)
 
-  version-found-so : Timed m → Identified m → Stands m 11 1 (IsOneOf processingIds) → Stands m 12 1 (IsNoneOf versions) → judging rows m ≡ Faulty NotListed 0 12 1
+  version-found-so : Timed m → Identified m → StandsOnce m 11 1 (IsOneOf processingIds) → StandsOnce m 12 1 (IsNoneOf versions) → judging rows m ≡ Faulty NotListed 0 12 1
   version-found-so t i p o =
       whole (Faulty NotListed 0 12 1)
       (in-header m s rest first four
@@ -218,10 +169,7 @@ module _ (m s : List ℕ) (rest : List (List ℕ)) (first : segments m ≡ s ∷
 module _ (m : List ℕ) where
   -- what the structure judge answers without a number is that the message was read and fits
   fitting : {r : FaultRecord} → Answers m r → r .kind ≡ None → (reading m ≡ Passes) × Answers m (plain None 0)
-  fitting (unread kind place e) n = absurd (reading-fails m kind place e n)
-  fitting (read p (no-structure g)) n = absurd (let z = ap numberOf n in omega arith)
-  fitting (read p (by x g (accepted y))) n = (p, read p (by x g (accepted y)))
-  fitting (read p (by x g (refused place ends list a))) n = absurd (let z = ap numberOf n in let q = misplaced (ltb place (length (segmentNames m))) in omega (arith, q .0))
+  fitting a n = let s = shaped builtIn m a n in (s .passed, read (s .passed) (by (s .structure) (s .listed) (accepted (s .yields))))
 
   -- a message that was read has a first segment, and its delimiters
   record Begins : Type 0 where

@@ -54,7 +54,7 @@ pub record Unsupported (m : List ℕ) : Type 0 where
 
 -- a field of MSH that has none of 31, 34 and 36: it stands once, and what is judged of it, a component or at 0 the
 -- whole, is present; and the bytes of that are such as is asked
-pub record Stands (m : List ℕ) (field component : ℕ) (Asked : List ℕ → Type 0) : Type 0 where
+pub record StandsOnce (m : List ℕ) (field component : ℕ) (Asked : List ℕ → Type 0) : Type 0 where
   pub once : elementAt m (address 0 field 2 0 0) ≡ Absent
   pub present : stateOf (delimitersOf m) (rawBytes m (address 0 field 1 component 0)) ≡ Present
   pub so : Asked (rawBytes m (address 0 field 1 component 0))
@@ -65,15 +65,14 @@ IsOneOf [] bytes = ⊥
 IsOneOf (value ∷ others) bytes = (bytes ≡ value) ⊎ IsOneOf others bytes
 
 abbrev pub IsNoneOf : List (List ℕ) → List ℕ → Type 0
-IsNoneOf [] bytes = Unit {0}
-IsNoneOf (value ∷ others) bytes = (bytes ≡ value → ⊥) × IsNoneOf others bytes
+IsNoneOf values bytes = IsOneOf values bytes → ⊥
 
 -- the rows of MSH: "TS"; "1 to 20 bytes", of which a field that is present has one; the lists "D, P, T" and "`2.4`"
 abbrev pub Timed : List ℕ → Type 0
-Timed m = Stands m 7 1 (λ (bytes : List ℕ). isTs bytes ≡ true)
+Timed m = StandsOnce m 7 1 (λ (bytes : List ℕ). isTs bytes ≡ true)
 
 abbrev pub Identified : List ℕ → Type 0
-Identified m = Stands m 10 0 (λ (bytes : List ℕ). length bytes ≤ idLimit)
+Identified m = StandsOnce m 10 0 (λ (bytes : List ℕ). length bytes ≤ idLimit)
 
 abbrev pub processingIds : List (List ℕ)
 processingIds = ascii "D" ∷ ascii "P" ∷ ascii "T" ∷ []
@@ -86,6 +85,6 @@ versions = ascii "2.4" ∷ []
 pub data RejectedFor (m : List ℕ) : Type 0 where
   its-type : Unsupported m → RejectedFor m
   its-processing : Answers m (plain None 0) → Timed m → Identified m
-      → Stands m 11 1 (IsNoneOf processingIds) → RejectedFor m
+      → StandsOnce m 11 1 (IsNoneOf processingIds) → RejectedFor m
   its-version : Answers m (plain None 0) → Timed m → Identified m
-      → Stands m 11 1 (IsOneOf processingIds) → Stands m 12 1 (IsNoneOf versions) → RejectedFor m
+      → StandsOnce m 11 1 (IsOneOf processingIds) → StandsOnce m 12 1 (IsNoneOf versions) → RejectedFor m

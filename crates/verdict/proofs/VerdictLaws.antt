@@ -39,7 +39,7 @@ module _ (book : List ListedStructure) (m : List ℕ) where
   one-verdict-by (by-fields j a n) (by-fields k b p) = refl
 
   -- where the structure judge finds nothing, reading passes and the structure yields the names
-  record Shaped : Type 0 where
+  pub record Shaped : Type 0 where
     pub passed : reading m ≡ Passes
     pub structure : ListedStructure
     pub listed : structureFor book m ≡ chosen structure
@@ -49,7 +49,7 @@ module _ (book : List ListedStructure) (m : List ℕ) where
   shaped-by p (no-structure g) e = absurd (let z : _≡_ {A = ℕ} 0 1 = cc in omega arith)
   shaped-by p (by x g j) e = record { passed = p; structure = x; listed = g; yields = yielded (x .shape) (segmentNames m) j e }
 
-  shaped : {r : FaultRecord} → AnswersBy book m r → r .kind ≡ None → Shaped
+  pub shaped : {r : FaultRecord} → AnswersBy book m r → r .kind ≡ None → Shaped
   shaped (unread kind place f) e = absurd (reading-fails m kind place f e)
   shaped (read p s) e = shaped-by p s e
 
