@@ -53,6 +53,22 @@ mod library {
         pub state: FrameState,
     }
 
+    #[repr(C)]
+    #[derive(Clone, Copy, PartialEq)]
+    pub struct Element {
+        pub number: u32,
+        pub state: u32,
+        pub place: usize,
+        pub start: usize,
+        pub end: usize,
+    }
+
+    /// The states of an element.
+    pub const ABSENT: u32 = 0;
+    pub const EMPTY: u32 = 1;
+    pub const NULL: u32 = 2;
+    pub const PRESENT: u32 = 3;
+
     unsafe extern "C" {
         pub fn turrethog_feed(
             state: FrameState,
@@ -62,6 +78,15 @@ mod library {
             room: usize,
         ) -> Fed;
         pub fn turrethog_read(message: *const u8, length: usize) -> Answer;
+        pub fn turrethog_find(
+            message: *const u8,
+            length: usize,
+            segment: usize,
+            field: usize,
+            repetition: usize,
+            component: usize,
+            subcomponent: usize,
+        ) -> Element;
         pub fn turrethog_verdict(message: *const u8, length: usize) -> Verdict;
         pub fn turrethog_acknowledge(
             message: *const u8,
@@ -98,7 +123,8 @@ mod library {
     }
 }
 
-use library::{Answer, Fed, FrameState, Verdict};
+use baseline::Address;
+use library::{Answer, Element, Fed, FrameState, Verdict};
 
 // The baseline behind names of its own, so that a counter finds it and no call is taken out.
 
@@ -106,6 +132,12 @@ use library::{Answer, Fed, FrameState, Verdict};
 #[inline(never)]
 fn baseline_read(message: &[u8]) -> baseline::Answer {
     baseline::read(message)
+}
+
+#[no_mangle]
+#[inline(never)]
+fn baseline_find(message: &[u8], address: Address) -> baseline::Element {
+    baseline::find(message, address)
 }
 
 #[no_mangle]
@@ -156,6 +188,11 @@ const FRAME: usize = 32_768;
 /// What a packet of Ethernet carries of a line.
 const PACKET: usize = 1_460;
 
+/// Two admissions that are alike up to PV1-2, and what stands behind it in the second.
+const BRIEF: &str = "brief-admission";
+const FULL: &str = "full-admission";
+const BEHIND: usize = 10_000;
+
 #[derive(Clone, Copy, PartialEq)]
 enum Side {
     Library,
@@ -171,6 +208,8 @@ enum Entry {
     Unescape,
     /// A line of one frame, handed over in pieces of so many bytes at most.
     Feed(usize),
+    /// The element at this address.
+    Find(Address),
 }
 
 /// What is measured: an entry point on some bytes.
@@ -186,6 +225,7 @@ enum Told {
     Answer(Answer),
     Verdict(Verdict),
     Fed(Fed),
+    Element(Element),
 }
 
 impl Job {
@@ -197,13 +237,19 @@ impl Job {
             Entry::Escape => "escape",
             Entry::Unescape => "unescape",
             Entry::Feed(_) => "feed",
+            Entry::Find(_) => "find",
         }
     }
 
     /// The name in the table.
     fn title(&self) -> &'static str {
-        match self.entry {
-            Entry::Feed(PACKET) => "feed, by 1,460",
+        match (self.entry, self.size) {
+            (Entry::Feed(PACKET), _) => "feed, by 1,460",
+            (Entry::Read, "small-visit" | "largest-visit") => "read, with a visit",
+            (Entry::Read, BRIEF | FULL) => "read, an admission",
+            (Entry::Find(_), BRIEF | FULL) => "find PV1-2 of an admission",
+            (Entry::Find(address), _) if address.field == 2 => "find PV1-2",
+            (Entry::Find(_), _) => "find PV1-50",
             _ => self.name(),
         }
     }
@@ -252,6 +298,10 @@ impl Job {
                     field, component, repetition, escape, subcomponent, at, length, to, room,
                 )),
                 Entry::Feed(most) => Told::Fed(serve(bytes, most, buffer, feed_library, |_, _| ())),
+                Entry::Find(address) => Told::Element(library::turrethog_find(
+                    at, length, address.segment, address.field, address.repetition,
+                    address.component, address.subcomponent,
+                )),
             }
         }
     }
@@ -281,6 +331,17 @@ impl Job {
             Entry::Escape => told(baseline_escape(&DELIMITERS, bytes, buffer)),
             Entry::Unescape => told(baseline_unescape(&DELIMITERS, bytes, buffer)),
             Entry::Feed(most) => Told::Fed(serve(bytes, most, buffer, feed_baseline, |_, _| ())),
+            Entry::Find(address) => {
+                let found = baseline_find(bytes, address);
+                let baseline::Element { number, place, start, end, .. } = found;
+                let state = match found.state {
+                    None => library::ABSENT,
+                    Some(baseline::State::Empty) => library::EMPTY,
+                    Some(baseline::State::Null) => library::NULL,
+                    Some(baseline::State::Present) => library::PRESENT,
+                };
+                Told::Element(Element { number, state, place, start, end })
+            }
         }
     }
 }
@@ -349,7 +410,33 @@ fn jobs() -> Vec<Job> {
     }
     let bytes = framed(&sizes[2].1);
     jobs.push(Job { entry: Entry::Feed(PACKET), size: "packets", bytes });
+    add_lookups(&mut jobs);
     jobs
+}
+
+/// An element is found in a message that is read first, so the reading of that message is measured
+/// as well.
+fn add_lookups(jobs: &mut Vec<Job>) {
+    let mut add = |entry, size, bytes: &[u8]| jobs.push(Job { entry, size, bytes: bytes.to_vec() });
+    let bytes = reports::report_of_visit(7, 1_024);
+    add(Entry::Read, "small-visit", &bytes);
+    add(field(2, 2), "small-visit-2", &bytes);
+    add(field(2, 50), "small-visit-50", &bytes);
+    let bytes = reports::report_of_visit(256, 32_768);
+    add(Entry::Read, "largest-visit", &bytes);
+    add(field(2, 2), "largest-visit-2", &bytes);
+    add(field(2, 50), "largest-visit-50", &bytes);
+    for (size, bytes) in
+        [(BRIEF, reports::brief_admission()), (FULL, reports::full_admission(BEHIND))]
+    {
+        add(Entry::Read, size, &bytes);
+        add(field(3, 2), size, &bytes);
+    }
+}
+
+/// A whole field of a segment.
+fn field(segment: usize, field: usize) -> Entry {
+    Entry::Find(Address { segment, field, repetition: 0, component: 0, subcomponent: 0 })
 }
 
 /// A message as it stands on a line.
@@ -434,6 +521,7 @@ fn agree(job: &Job) -> bool {
         Told::Answer(answer) => answer.number == 0,
         Told::Verdict(verdict) => verdict.number == 0,
         Told::Fed(fed) => fed.number == 0,
+        Told::Element(element) => element.number == 0 && element.state == library::PRESENT,
     };
     accepted && told == job.call(Side::Baseline, &mut theirs) && ours == theirs
 }
@@ -496,6 +584,7 @@ fn table(jobs: &[Job], counts: &HashMap<String, u64>) -> ExitCode {
         }
     }
     tell_without_memcpy(jobs, counts);
+    tell_without_reading(jobs, counts);
     ExitCode::SUCCESS
 }
 
@@ -508,6 +597,33 @@ fn tell_without_memcpy(jobs: &[Job], counts: &HashMap<String, u64>) {
             let (title, bytes) = (job.title(), job.length());
             println!("{title}, {bytes} bytes: {ours} instructions without those of memcpy (baseline: {theirs})");
         }
+    }
+}
+
+/// A lookup reads the whole message first. What it takes besides should not depend on what stands
+/// behind the element.
+fn tell_without_reading(jobs: &[Job], counts: &HashMap<String, u64>) {
+    let lookups = || jobs.iter().filter(|job| job.name() == "find");
+    let count = |side: &str, job: &Job| {
+        let count = *counts.get(&format!("{side} {} {}", job.name(), job.size))?;
+        Some(count as f64)
+    };
+    let rest = |side: &str, job: &Job| {
+        let read = jobs.iter().find(|read| read.entry == Entry::Read && read.bytes == job.bytes)?;
+        Some(count(side, job)? - count(side, read)?)
+    };
+    for job in lookups() {
+        if let (Some(ours), Some(theirs)) = (rest("library", job), rest("baseline", job)) {
+            let (title, bytes) = (job.title(), job.length());
+            println!("{title}, {bytes} bytes: {ours} instructions without those of read (baseline: {theirs})");
+        }
+    }
+    let growth = |side: &str| {
+        let rest_of = |size: &str| rest(side, lookups().find(|job| job.size == size)?);
+        Some(100.0 * (rest_of(FULL)? / rest_of(BRIEF)? - 1.0))
+    };
+    if let (Some(ours), Some(theirs)) = (growth("library"), growth("baseline")) {
+        println!("find PV1-2 with {BEHIND} bytes behind it in place of 10: {ours:+.2} % instructions without those of read (baseline: {theirs:+.2} %)");
     }
 }
 

@@ -1,9 +1,9 @@
-//! Answers questions to the baseline in the form of the program `ask`, one line for each: those that
-//! read, judge, acknowledge, escape, unescape and take frames off a line. bench/check compares the
-//! answers with the model's.
+//! Answers questions to the baseline in the form of the program `ask`, one line for each: those
+//! that read, find, judge, acknowledge, escape, unescape and take frames off a line. bench/check
+//! compares the answers with the model's.
 
-use baseline::{acknowledge, escape, feed, read, unescape, verdict};
-use baseline::{Answer, FrameState, Stop};
+use baseline::{acknowledge, escape, feed, find, read, unescape, verdict};
+use baseline::{Address, Answer, FrameState, State, Stop};
 use std::io::{self, BufRead, BufWriter, Write};
 
 const LONGEST_LINE: usize = 300_000;
@@ -32,6 +32,16 @@ fn answer(line: &[u8]) -> Option<String> {
             let Answer { number, place, .. } = read(&bytes(message)?);
             Some(format!("{number} {place}"))
         }
+        ["find", message, segment, field, repetition, component, subcomponent] => {
+            let address = Address {
+                segment: number(segment)? as usize,
+                field: number(field)? as usize,
+                repetition: number(repetition)? as usize,
+                component: number(component)? as usize,
+                subcomponent: number(subcomponent)? as usize,
+            };
+            Some(element_words(&bytes(message)?, address))
+        }
         ["verdict", message] => verdict_words(&bytes(message)?),
         ["escape", text, delimiters, room] => text_words(text, delimiters, room, escape),
         ["unescape", text, delimiters, room] => text_words(text, delimiters, room, unescape),
@@ -52,6 +62,18 @@ fn answer(line: &[u8]) -> Option<String> {
         }
         _ => None,
     }
+}
+
+fn element_words(message: &[u8], address: Address) -> String {
+    let found = find(message, address);
+    let state = match found.state {
+        Some(State::Empty) => "empty",
+        Some(State::Null) => "null",
+        Some(State::Present) => "present",
+        None if found.number == 0 => "absent",
+        None => "-",
+    };
+    format!("{} {} {state} {} {}", found.number, found.place, found.start, found.end)
 }
 
 fn verdict_words(message: &[u8]) -> Option<String> {
