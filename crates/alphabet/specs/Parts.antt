@@ -1,11 +1,14 @@
 -- How bytes fall into parts at a separator, and where each part stands. One definition for every level.
 use Prim.Native.Nat.{ℕ, zero, suc, _+_}
 use mathlib.Core.List.{List, [], _∷_, _++_}
-use mathlib.Core.Bool.{cond}
-use lib.ListN.{length}
+use mathlib.Core.Bool.{Bool, cond}
+use lib.ListN.{length, drop}
 use lib.Dec.{eqb}
+use Rattle.alphabet.specs.Lists.{first}
 use Rattle.alphabet.specs.declared.parts.Part.{Part}
 use Rattle.alphabet.specs.declared.parts.Part.the-variants.{At, Absent}
+use Rattle.alphabet.specs.declared.parts.Start.{Start}
+use Rattle.alphabet.specs.declared.parts.Start.the-variants.{From, Missing}
 
 -- the first of some parts with one byte more in front
 abbrev pub grown : ℕ → List (List ℕ) → List (List ℕ)
@@ -32,3 +35,8 @@ standing at (p ∷ ps) (suc k) = standing (at + length p + 1) ps k
 -- where part k of the bytes stands; "absent, past the last part"
 unfoldable pub partAt : ℕ → List ℕ → ℕ → Part
 partAt sep bytes k = standing 0 (split sep bytes) k
+
+-- for functions inside the library: the part that begins there and goes on up to the first byte that ends it
+abbrev pub endedBy : (ℕ → Bool) → List ℕ → Start → Part
+endedBy ends bytes (From start) = At start (start + first ends (drop start bytes))
+endedBy ends bytes Missing = Absent

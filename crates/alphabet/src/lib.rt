@@ -39,4 +39,5 @@ pub use limits::id_limit;
 pub use limits::message_limit;
 pub use limits::segment_limit;
 pub use parts::Part;
+pub use parts::Start;
 pub use parts::nth_part;

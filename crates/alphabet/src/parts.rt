@@ -10,6 +10,12 @@ pub enum Part {
     Absent,
 }
 
+// Where a part begins, for walks that seek an end only where it is asked for; or that there are fewer parts.
+pub enum Start {
+    From { start: usize },
+    Missing,
+}
+
 // Where the part of the given index, from 0, stands. It reads no byte behind that part's end.
 pub fn nth_part(bytes: &[u8], separator: u8, index: usize) -> Part
     ensures { λ r. ⌜ r ≡ partAt separator (now (bytes .entry)) index ⌝ }

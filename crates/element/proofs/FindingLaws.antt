@@ -1,25 +1,31 @@
 -- Laws of the answer to a question for an element: what a lookup that passes rests on, and where what it finds lies. Assumes nothing.
-use mathlib.Core.Path.{_≡_, refl}
-use mathlib.Core.List.{List, []}
+use mathlib.Core.Path.{_≡_, refl, sym, ap, _∙_}
+use mathlib.Core.List.{List, [], _∷_}
 use Prim.Native.Nat.{ℕ, _≤_, _<_}
 use native.Mathlib.Omega.{arith}
+use lib.Dec.{eqb}
 use lib.ListN.{length}
 use borrow.Author.Tests.{le-leb, lt-leb}
-use Rattle.alphabet.specs.Answers.{answered}
+use Rattle.alphabet.specs.Answers.{failsIf, orElse, inOrder, answered}
+use Rattle.alphabet.specs.Bytes.{carriageReturn}
+use Rattle.alphabet.specs.Parts.{endedBy}
 use Rattle.alphabet.specs.declared.answers.Refusal.{Refusal}
 use Rattle.alphabet.specs.declared.answers.Check.{Check}
 use Rattle.alphabet.specs.declared.answers.Check.the-variants.{Passes, Fails}
 use Rattle.alphabet.specs.declared.parts.Part.{Part}
 use Rattle.alphabet.specs.declared.parts.Part.the-variants.{At, Absent}
-use Rattle.alphabet.proofs.CheckLaws.{both-pass}
-use Rattle.reading.specs.Segments.{delimitersOf}
+use Rattle.alphabet.specs.declared.parts.Start.{Start}
+use Rattle.alphabet.specs.declared.parts.Start.the-variants.{From, Missing}
+use Rattle.alphabet.proofs.CheckLaws.{both-pass, passes-or}
+use Rattle.reading.specs.Segments.{delimitersOf, segmentAt}
 use Rattle.reading.specs.Reading.{reading}
 use Rattle.reading.specs.Message.{Message}
 use Rattle.reading.proofs.Accepted.{accepted}
+use Rattle.element.specs.Addresses.{addressCheck}
 use Rattle.element.specs.States.{stateOf}
 use Rattle.element.specs.declared.states.State.{State}
 use Rattle.element.specs.Levels.{between, Within, elementAt}
-use Rattle.element.specs.Finding.{lookupCheck, elementIn, elementOf, elementIf, nowhere, found, bytesAt, elementBytes, partBytes, rawBytes}
+use Rattle.element.specs.Finding.{isAbsent, lookupCheck, elementIn, elementOf, elementIf, nowhere, found, bytesAt, elementBytes, rawBytes}
 use Rattle.element.specs.declared.Element.{Element}
 use Rattle.element.specs.declared.address.Address.{Address}
 use Rattle.element.proofs.LevelLaws.{within-element}
@@ -57,6 +63,32 @@ found-fails m a c kind place e f = rw (← e, f)
 pub found-passes : (m : List ℕ) (a : Address) (c : Check) → c ≡ lookupCheck m a → c ≡ Passes → record { answer = answered c; element = elementOf m a } ≡ found m a
 unfolding found
 found-passes m a c e f = rw (← e, f)
+
+-- ---- what a lookup gives, where c is what the question gave, before a segment was sought
+
+module _ (m : List ℕ) (a : Address) (c : Check) (q : c ≡ inOrder (reading m ∷ addressCheck a ∷ [])) where
+  pub lookup-refused : (kind : Refusal) (place : ℕ) → c ≡ Fails kind place → c ≡ lookupCheck m a
+  unfolding lookupCheck
+  lookup-refused kind place f = at (reading m) (addressCheck a) q
+    where
+      at : (x y : Check) → c ≡ inOrder (x ∷ y ∷ []) → c ≡ orElse x (orElse y (inOrder (failsIf (isAbsent (segmentAt m (a .segment))) Refusal.Address 0 ∷ [])))
+      at (Fails k p) y e = e
+      at Passes (Fails k p) e = e
+      at Passes Passes e = absurd (let z : _≡_ {A = ℕ} 0 1 = cc in omega arith)
+
+  module _ (p : c ≡ Passes) (segment : Start) (s : endedBy (eqb carriageReturn) m segment ≡ segmentAt m (a .segment)) where
+    by-segment : lookupCheck m a ≡ orElse (failsIf (isAbsent (endedBy (eqb carriageReturn) m segment)) Refusal.Address 0) Passes
+    unfolding lookupCheck
+    by-segment =
+        let b = both-pass (reading m) _ (sym q ∙ p) in
+        passes-or (b .0) _ ∙ passes-or (both-pass (addressCheck a) Passes (b .1) .0) _
+        ∙ ap (λ (x : Part). orElse (failsIf (isAbsent x) Refusal.Address 0) Passes) (sym s)
+
+    pub lookup-missing : segment ≡ Missing → Fails Refusal.Address 0 ≡ lookupCheck m a
+    lookup-missing e = sym (by-segment ∙ ap (λ (x : Start). orElse (failsIf (isAbsent (endedBy (eqb carriageReturn) m x)) Refusal.Address 0) Passes) e)
+
+    pub lookup-passes : (start : ℕ) → segment ≡ From start → c ≡ lookupCheck m a
+    lookup-passes start e = p ∙ sym (by-segment ∙ ap (λ (x : Start). orElse (failsIf (isAbsent (endedBy (eqb carriageReturn) m x)) Refusal.Address 0) Passes) e)
 
 -- an element that stands from s to e
 pub element-at : (m : List ℕ) (a : Address) (state : State) (ds : List ℕ) (s e : ℕ) → elementAt m a ≡ At s e → ds ≡ delimitersOf m → state ≡ stateOf ds (between m s e)

@@ -7,10 +7,11 @@ use native.Mathlib.Omega.{arith}
 use lib.ListN.{length, drop, length-drop}
 use lib.Seq.{length-take-le}
 use lib.Dec.{eqb, leb, lit≤}
-use borrow.Author.Tests.{eq-eqb, ne-eqb}
+use borrow.Author.Tests.{eqb-true, eq-eqb, ne-eqb, le-leb}
 use Rattle.alphabet.specs.Parts.{partAt}
 use Rattle.alphabet.specs.declared.parts.Part.{Part}
 use Rattle.alphabet.specs.declared.parts.Part.the-variants.{At, Absent}
+use Rattle.alphabet.proofs.BoolLaws.{false-true, and-both, both-and}
 use Rattle.alphabet.proofs.PartLaws.{part-bytes}
 use Rattle.reading.specs.Segments.{fieldSeparator, segmentAt}
 use Rattle.reading.proofs.SegmentLaws.{segment-bytes}
@@ -65,25 +66,45 @@ within-in sep m (At s e) k w = at (partAt sep (between m s e) k) refl
 -- ---- a field
 
 module _ (m : List ℕ) (segment : ℕ) (part : Part) (f : ℕ) where
+  pub field-separator : (eqb segment 0 && eqb f 1) ≡ true → fieldIn m segment part f ≡ At 3 4
+  unfolding fieldIn
+  field-separator h = let e = and-both (eqb segment 0) (eqb f 1) h in rw (e .0, e .1)
+
+  pub field-part : (eqb segment 0 && eqb f 1) ≡ false → fieldIn m segment part f ≡ partIn (fieldSeparator m) m part (cond (eqb segment 0) (f - 1) f)
+  unfolding fieldIn
+  field-part h = at (eqb segment 0) (eqb f 1) h
+    where
+      at : (t u : Bool) → (t && u) ≡ false
+          → cond t (cond u (At 3 4) (partIn (fieldSeparator m) m part (f - 1))) (partIn (fieldSeparator m) m part f) ≡ partIn (fieldSeparator m) m part (cond t (f - 1) f)
+      at true true e = false-true (sym e)
+      at true false e = refl
+      at false u e = refl
+
   pub field-other : (segment ≡ 0 → ⊥) → fieldIn m segment part f ≡ partIn (fieldSeparator m) m part f
   unfolding fieldIn
   field-other h = rw (ne-eqb segment 0 h)
-
-  pub field-first : segment ≡ 0 → f ≡ 1 → fieldIn m segment part f ≡ At 3 4
-  unfolding fieldIn
-  field-first h e = rw (eq-eqb segment 0 h, eq-eqb f 1 e)
 
   pub field-header : segment ≡ 0 → (f ≡ 1 → ⊥) → fieldIn m segment part f ≡ partIn (fieldSeparator m) m part (f - 1)
   unfolding fieldIn
   field-header h e = rw (eq-eqb segment 0 h, ne-eqb f 1 e)
 
+-- MSH-1 is one of the two that are not split
+pub separator-fixed : (segment f : ℕ) → (eqb segment 0 && eqb f 1) ≡ true → fixed segment f ≡ true
+separator-fixed segment f h =
+    let e = and-both (eqb segment 0) (eqb f 1) h in
+    let n = eqb-true f 1 (e .1) in
+    both-and (e .0) (le-leb f 2 (omega arith))
+
+module _ (segment f : ℕ) where
+  pub index-other : (segment ≡ 0 → ⊥) → f ≡ cond (eqb segment 0) (f - 1) f
+  index-other h = rw (ne-eqb segment 0 h)
+
+  pub index-header : segment ≡ 0 → f - 1 ≡ cond (eqb segment 0) (f - 1) f
+  index-header h = rw (eq-eqb segment 0 h)
+
 -- ---- a level below
 
 module _ (sep : ℕ) (m : List ℕ) (part : Part) where
-  pub below-whole : (k : ℕ) → k ≡ 0 → below sep m part k ≡ part
-  unfolding below
-  below-whole k h = rw h
-
   pub below-split : (k : ℕ) → (k ≡ 0 → ⊥) → below sep m part k ≡ partIn sep m part (k - 1)
   unfolding below
   below-split zero h = absurd (h refl)

@@ -1,3 +1,4 @@
 pub mod LevelLaws
+pub mod StartLaws
 pub mod StateLaws
 pub mod FindingLaws

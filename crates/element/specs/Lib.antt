@@ -1,4 +1,5 @@
 pub mod Addresses
 pub mod States
 pub mod Levels
+pub mod Ends
 pub mod Finding

@@ -1,59 +1,164 @@
-// From a segment down to a subcomponent: each level splits the part above it at its own separator. A part is
-// handed on to the splitter as the bytes of the message where it stands.
+// From a segment down to a subcomponent: each level splits the part above it at its own separator. A part above is known
+// by where it begins and by the bytes that end it. Only the element itself has its end sought, so that nothing behind it
+// is looked at, but for the rest of a block.
 use crate::address::Address;
+use crate::walking::field_start;
+use alphabet::CARRIAGE_RETURN;
 use alphabet::Part;
+use alphabet::Start;
 ghost use mathlib.Core.Path.{_≡_};
-ghost use Prim.Native.Nat.{_≤_};
-ghost use lib.ListN.{length};
-ghost use Rattle.element.specs.Levels.{Within, partIn, fieldIn, below, unsplit, elementAt};
+ghost use mathlib.Core.Bool.{cond};
+ghost use Prim.Native.Nat.{_-_};
+ghost use lib.Dec.{eqb};
+ghost use lib.ListN.{drop};
+ghost use Rattle.alphabet.specs.Bytes.{carriageReturn};
+ghost use Rattle.alphabet.specs.Lists.{first, among};
+ghost use Rattle.alphabet.specs.Parts.{endedBy};
+ghost use Rattle.alphabet.specs.declared.parts.Start.the-variants.{From};
+ghost use Rattle.reading.specs.Segments.{segmentAt};
+ghost use Rattle.element.specs.Levels.{partIn, fieldAt, below, subcomponentAt, unsplit, elementAt};
+ghost use Rattle.element.specs.Ends.{orAt, levelEnds, endOf, fieldEnds};
 
-// Part `index`, from 0, of a part of the message.
-fn part_in(message: &[u8], part: Part, separator: u8, index: usize) -> Part
-    requires { ⌜ Within (now message) part ⌝ }
-    ensures { λ r. ⌜ r ≡ partIn separator (now (message .entry)) part index ⌝ }
+// How many bytes are looked at one by one for an element's end, before blocks are: most elements are short.
+const NEAR: usize = 8;
+
+// The message from a place on, and no bytes past its end.
+fn rest_from(message: &[u8], start: usize) -> &[u8]
+    ensures { λ r. ⌜ now r ≡ drop start (now (message .entry)) ⌝ }
 {
-    let Part::At { start, end } = part else {
-        return Part::Absent;
+    if message.len() <= start {
+        return &message[..0];
+    }
+    &message[start..]
+}
+
+// Where part `index`, from 0, begins of the part at the front of `bytes`, which ends at the first of `stops`. They are
+// asked for first: where no message was read, the separator may be one of them.
+fn start_in(bytes: &[u8], stops: [u8; 5], separator: u8, index: usize) -> Start
+    ensures { λ r. ⌜ endedBy (orAt separator (among stops)) (now (bytes .entry)) r ≡ partIn separator (now (bytes .entry)) (endedBy (among stops) (now (bytes .entry)) (From 0)) index ⌝ }
+{
+    let mut i = 0;
+    let mut left = index;
+    while 0 < left {
+        if bytes.len() <= i {
+            return Start::Missing;
+        }
+        let b = bytes[i];
+        if search::is_among(stops, b) {
+            return Start::Missing;
+        }
+        left = if b == separator { left - 1 } else { left };
+        i += 1;
+    }
+    Start::From { start: i }
+}
+
+// Where part `index`, from 0, begins of a part of the message: the bytes from there on are handed to the splitter.
+fn part_start(message: &[u8], part: Start, stops: [u8; 5], separator: u8, index: usize) -> Start
+    ensures { λ r. ⌜ endedBy (orAt separator (among stops)) (now (message .entry)) r ≡ partIn separator (now (message .entry)) (endedBy (among stops) (now (message .entry)) part) index ⌝ }
+{
+    let Start::From { start } = part else {
+        return Start::Missing;
     };
-    let found = alphabet::nth_part(&message[start..end], separator, index);
+    let found = start_in(rest_from(message, start), stops, separator, index);
     match found {
-        Part::At {
-            start: from,
-            end: to,
-        } => Part::At {
-            start: start + from,
-            end: start + to,
+        Start::From { start: further } => Start::From {
+            start: start + further,
         },
-        Part::Absent => Part::Absent,
+        Start::Missing => Start::Missing,
     }
 }
 
-// The field of a segment. MSH, the first segment, has its fields counted from the separator itself: here and,
-// for a walk along a segment, in `fields`.
-fn field_in(message: &[u8], segment: usize, part: Part, field: usize) -> Part
-    requires { ⌜ Within (now message) part ⌝ }
-    ensures { λ r. ⌜ r ≡ fieldIn (now (message .entry)) segment part field ⌝ }
-{
-    let separator = alphabet::byte_at(message, 3);
-    if segment != 0 {
-        return part_in(message, part, separator, field);
-    }
-    if field == 1 {
-        return Part::At { start: 3, end: 4 };
-    }
-    let index = if field == 0 { 0 } else { field - 1 };
-    part_in(message, part, separator, index)
-}
-
-// Number `number`, from 1, of a level below a part; 0 is the whole.
-fn part_below(message: &[u8], separator: u8, part: Part, number: usize) -> Part
-    requires { ⌜ Within (now message) part ⌝ }
-    ensures { λ r. ⌜ r ≡ below separator (now (message .entry)) part number ⌝ }
+// Number `number`, from 1, of a level below a part; 0 is the whole, which begins where the part does.
+fn start_below(message: &[u8], part: Start, stops: [u8; 5], separator: u8, number: usize) -> Start
+    ensures { λ r. ⌜ endedBy (levelEnds separator number (among stops)) (now (message .entry)) r ≡ below separator (now (message .entry)) (endedBy (among stops) (now (message .entry)) part) number ⌝ }
 {
     if number == 0 {
         return part;
     }
-    part_in(message, part, separator, number - 1)
+    part_start(message, part, stops, separator, number - 1)
+}
+
+// The byte that ends a level: its separator, or CR, which ends all, where the level is not split.
+fn end_of(separator: u8, number: usize) -> u8
+    ensures { λ r. ⌜ r ≡ endOf separator number ⌝ }
+{
+    if number == 0 {
+        CARRIAGE_RETURN
+    } else {
+        separator
+    }
+}
+
+// The place of the first of `stops`, or the length where there is none.
+fn end_in(bytes: &[u8], stops: [u8; 5]) -> usize
+    ensures { λ r. ⌜ r ≡ first (among stops) (now (bytes .entry)) ⌝ }
+{
+    let near = if bytes.len() < NEAR {
+        bytes.len()
+    } else {
+        NEAR
+    };
+    let mut i = 0;
+    while i < near {
+        if search::is_among(stops, bytes[i]) {
+            return i;
+        }
+        i += 1;
+    }
+    i + search::find_among(&bytes[i..], stops)
+}
+
+// The part that begins there and ends at the first of `stops`.
+fn part_from(message: &[u8], part: Start, stops: [u8; 5]) -> Part
+    ensures { λ r. ⌜ r ≡ endedBy (among stops) (now (message .entry)) part ⌝ }
+{
+    let Start::From { start } = part else {
+        return Part::Absent;
+    };
+    let end = start + end_in(rest_from(message, start), stops);
+    Part::At {
+        start: start,
+        end: end,
+    }
+}
+
+// The repetition in a field, the component in that, the subcomponent in that. Each level hands on where it begins and
+// one stop more.
+fn split_field(message: &[u8], field: Start, address: Address) -> Part
+    requires { ⌜ endedBy (among (fieldEnds (now message))) (now message) field ≡ fieldAt (now message) address ⌝ }
+    ensures { λ r. ⌜ r ≡ subcomponentAt (now (message .entry)) address ⌝ }
+{
+    let cr = CARRIAGE_RETURN;
+    let separator = alphabet::byte_at(message, 3);
+    let component = alphabet::byte_at(message, 4);
+    let repetition = alphabet::byte_at(message, 5);
+    let subcomponent = alphabet::byte_at(message, 7);
+    let second = end_of(repetition, address.repetition);
+    let third = end_of(component, address.component);
+    let fourth = end_of(subcomponent, address.subcomponent);
+    let part = start_below(
+        message,
+        field,
+        [cr, separator, cr, cr, cr],
+        repetition,
+        address.repetition,
+    );
+    let part = start_below(
+        message,
+        part,
+        [cr, separator, second, cr, cr],
+        component,
+        address.component,
+    );
+    let part = start_below(
+        message,
+        part,
+        [cr, separator, second, third, cr],
+        subcomponent,
+        address.subcomponent,
+    );
+    part_from(message, part, [cr, separator, second, third, fourth])
 }
 
 // MSH-1 and MSH-2 are not split: repetition, component and subcomponent 0 or 1 give the whole, and there are no more.
@@ -65,20 +170,32 @@ fn header_element(field: Part, address: Address) -> Part
     if whole { field } else { Part::Absent }
 }
 
-// Where an element stands in a message that was read.
-pub fn part_of(message: &[u8], address: Address) -> Part
-    requires { ⌜ 4 ≤ length (now message) ⌝ }
+// Which part of its segment a field is. MSH, the first segment, has its fields counted from the separator itself: here
+// and, for a walk along a segment, in `fields`.
+fn index_of(segment: usize, field: usize) -> usize
+    ensures { λ r. ⌜ r ≡ cond (eqb segment 0) (field - 1) field ⌝ }
+{
+    if segment != 0 {
+        return field;
+    }
+    if field == 0 { 0 } else { field - 1 }
+}
+
+// Where an element stands, of which the segment's start is known.
+pub fn part_of(message: &[u8], segment: Start, address: Address) -> Part
+    requires { ⌜ endedBy (eqb carriageReturn) (now message) segment ≡ segmentAt (now message) (address .segment) ⌝ }
     ensures { λ r. ⌜ r ≡ elementAt (now (message .entry)) address ⌝ }
 {
-    let segment = reading::segment_at(message, address.segment);
-    let field = field_in(message, address.segment, segment, address.field);
-    if (address.segment == 0) & (address.field <= 2) {
-        return header_element(field, address);
+    if (address.segment == 0) & (address.field == 1) {
+        return header_element(Part::At { start: 3, end: 4 }, address);
     }
-    let component = alphabet::byte_at(message, 4);
-    let repetition = alphabet::byte_at(message, 5);
-    let subcomponent = alphabet::byte_at(message, 7);
-    let first = part_below(message, repetition, field, address.repetition);
-    let second = part_below(message, component, first, address.component);
-    part_below(message, subcomponent, second, address.subcomponent)
+    let cr = CARRIAGE_RETURN;
+    let separator = alphabet::byte_at(message, 3);
+    let index = index_of(address.segment, address.field);
+    let field = field_start(message, segment, separator, index);
+    if (address.segment == 0) & (address.field <= 2) {
+        let part = part_from(message, field, [cr, separator, cr, cr, cr]);
+        return header_element(part, address);
+    }
+    split_field(message, field, address)
 }

@@ -3,17 +3,27 @@
 mod address;
 mod levels;
 mod states;
+mod walking;
 
 use address::check_address;
 use alphabet::Answer;
 use alphabet::Check;
 use alphabet::Part;
 use alphabet::Refusal;
+use alphabet::Start;
 use levels::part_of;
 ghost use mathlib.Core.Path.{_≡_};
+ghost use mathlib.Core.List.{[], _∷_};
 ghost use Prim.Native.Nat.{_≤_};
+ghost use lib.Dec.{eqb};
 ghost use lib.ListN.{length};
-ghost use Rattle.element.specs.Finding.{lookupCheck, elementOf, found, bytesAt, elementBytes, rawBytes};
+ghost use Rattle.alphabet.specs.Answers.{inOrder, answered};
+ghost use Rattle.alphabet.specs.Bytes.{carriageReturn};
+ghost use Rattle.alphabet.specs.Parts.{endedBy};
+ghost use Rattle.reading.specs.Segments.{segmentAt};
+ghost use Rattle.reading.specs.Reading.{reading};
+ghost use Rattle.element.specs.Addresses.{addressCheck};
+ghost use Rattle.element.specs.Finding.{elementOf, nowhere, found, bytesAt, elementBytes, rawBytes};
 pub use address::Address;
 pub use address::type_address;
 pub use states::State;
@@ -34,34 +44,23 @@ pub struct Found {
     pub element: Element,
 }
 
-// A reading fault, then 19: a bad address, or no such segment.
-pub fn check_lookup(message: &[u8], address: Address) -> Check
-    ensures { λ r. ⌜ r ≡ lookupCheck (now (message .entry)) address ⌝ }
+// What stands before a lookup: a reading fault, then 19 for a bad address.
+fn check_question(message: &[u8], address: Address) -> Check
+    ensures { λ r. ⌜ r ≡ inOrder (reading (now (message .entry)) ∷ addressCheck address ∷ []) ⌝ }
 {
     let read = reading::check_message(message);
     let Check::Passes = read else {
         return read;
     };
-    let numbers = check_address(address);
-    let Check::Passes = numbers else {
-        return numbers;
-    };
-    let segment = reading::segment_at(message, address.segment);
-    if let Part::Absent = segment {
-        return Check::Fails {
-            kind: Refusal::Address,
-            place: 0,
-        };
-    }
-    Check::Passes
+    check_address(address)
 }
 
-// The element at an address of a message that was read.
-fn element_of(message: &[u8], address: Address) -> Element
-    requires { ⌜ 8 ≤ length (now message) ⌝ }
+// The element at an address of a message that was read, of which the segment's start is known.
+fn element_of(message: &[u8], segment: Start, address: Address) -> Element
+    requires { ⌜ (8 ≤ length (now message)) × (endedBy (eqb carriageReturn) (now message) segment ≡ segmentAt (now message) (address .segment)) ⌝ }
     ensures { λ r. ⌜ r ≡ elementOf (now (message .entry)) address ⌝ }
 {
-    let part = part_of(message, address);
+    let part = part_of(message, segment, address);
     let Part::At { start, end } = part else {
         return Element {
             state: State::Absent,
@@ -78,26 +77,41 @@ fn element_of(message: &[u8], address: Address) -> Element
     }
 }
 
+// The answer where a question is refused: the element stands nowhere.
+fn refused(check: Check) -> Found
+    ensures { λ r. ⌜ r ≡ record { answer = answered check; element = nowhere } ⌝ }
+{
+    let answer = alphabet::answer_of(check);
+    let element = Element {
+        state: State::Absent,
+        start: 0,
+        end: 0,
+    };
+    Found {
+        answer: answer,
+        element: element,
+    }
+}
+
 // The element at an address, or why it cannot be asked for.
 pub fn find(message: &[u8], address: Address) -> Found
     ensures { λ r. ⌜ r ≡ found (now (message .entry)) address ⌝ }
 {
-    let check = check_lookup(message, address);
-    let answer = alphabet::answer_of(check);
+    let check = check_question(message, address);
     let Check::Passes = check else {
-        let element = Element {
-            state: State::Absent,
-            start: 0,
-            end: 0,
-        };
-        return Found {
-            answer: answer,
-            element: element,
-        };
+        return refused(check);
     };
-    let element = element_of(message, address);
+    // No such segment is 19 as well: its start alone tells.
+    let segment = reading::segment_start(message, address.segment);
+    if let Start::Missing = segment {
+        return refused(Check::Fails {
+            kind: Refusal::Address,
+            place: 0,
+        });
+    }
+    let element = element_of(message, segment, address);
     Found {
-        answer: answer,
+        answer: alphabet::answer_of(check),
         element: element,
     }
 }
@@ -134,7 +148,8 @@ pub fn raw(message: &[u8], address: Address) -> &[u8]
     if message.len() < 4 {
         return &message[..0];
     }
-    let part = part_of(message, address);
+    let segment = reading::segment_start(message, address.segment);
+    let part = part_of(message, segment, address);
     let Part::At { start, end } = part else {
         return &message[..0];
     };

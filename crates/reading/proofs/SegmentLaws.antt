@@ -3,17 +3,20 @@ use mathlib.Core.Path.{_≡_, refl, sym, ap, _∙_}
 use mathlib.Core.List.{List, [], _∷_}
 use mathlib.Core.Bool.{Bool, true, false}
 use mathlib.Core.Logic.{⊎-elim}
-use lib.Dec.{eqb}
-use borrow.Author.Tests.{eqb-true, eqb-false}
+use lib.Dec.{eqb, ltb}
+use borrow.Author.Tests.{eqb-true, eqb-false, eq-eqb, ltb-true, ltb-false, lt-ltb, le-ltb}
 use Prim.Native.Nat.{ℕ, zero, suc, _+_, _-_, _≤_, _<_}
 use native.Mathlib.Omega.{arith}
 use lib.ListN.{length, getD, take, drop, length-drop}
-use lib.Seq.{length-take-le}
+use lib.Seq.{length-take-le, getD-drop}
 use Rattle.alphabet.specs.Bytes.{carriageReturn}
 use Rattle.alphabet.specs.Lists.{find}
-use Rattle.alphabet.specs.Parts.{split, standing, partAt}
+use Rattle.alphabet.specs.Parts.{split, standing, partAt, endedBy}
 use Rattle.alphabet.specs.declared.parts.Part.{Part}
 use Rattle.alphabet.specs.declared.parts.Part.the-variants.{At, Absent}
+use Rattle.alphabet.specs.declared.parts.Start.{Start}
+use Rattle.alphabet.specs.declared.parts.Start.the-variants.{From, Missing}
+use Rattle.alphabet.proofs.ListLaws.{first-least}
 use Rattle.alphabet.proofs.PartLaws.{split-walk, split-last, split-cons, split-some, join-split, joined-end, standing-absent, absent-past, part-bytes}
 use Rattle.reading.specs.Segments.{allButLast, segments, segmentAt}
 use Rattle.reading.specs.Reading.{segmentCheck, segmentChecks}
@@ -79,6 +82,40 @@ module _ (m : List ℕ) (k : ℕ) where
         (λ w. w .0)
         (joined-end carriageReturn 0 (split carriageReturn m) k s e q) in
         but-last-standing 0 (split carriageReturn m) k l ∙ q
+
+-- whether a CR stands at `start` or behind: the last byte may tell
+module _ (m : List ℕ) (start : ℕ) where
+  pub ended-past : length m ≤ start → false ≡ ltb (start + find carriageReturn (drop start m)) (length m)
+  ended-past h = sym (le-ltb (start + find carriageReturn (drop start m)) (length m) (omega arith))
+
+  pub ended-last : start < length m → getD m (length m - 1) 0 ≡ carriageReturn → true ≡ ltb (start + find carriageReturn (drop start m)) (length m)
+  ended-last h e =
+      let n = length-drop start m in
+      let i = length m - 1 - start in
+      let at : start + i ≡ length m - 1 = omega arith in
+      let q = getD-drop start m i 0 ∙ ap (λ (j : ℕ). getD m j 0) at ∙ e in
+      let f = first-least (eqb carriageReturn) (drop start m) i (omega arith) (eq-eqb carriageReturn (getD (drop start m) i 0) (sym q)) in
+      sym (lt-ltb (start + find carriageReturn (drop start m)) (length m) (omega arith))
+
+-- from where part k begins
+module _ (m : List ℕ) (k : ℕ) (line : Start) (q : endedBy (eqb carriageReturn) m line ≡ partAt carriageReturn m k) where
+  pub start-none : line ≡ Missing → Absent ≡ segmentAt m k
+  start-none e = sym (segment-absent m k (sym q ∙ ap (endedBy (eqb carriageReturn) m) e))
+
+  module _ (s : ℕ) (e : line ≡ From s) where
+    stands : partAt carriageReturn m k ≡ At s (s + find carriageReturn (drop s m))
+    stands = sym q ∙ ap (endedBy (eqb carriageReturn) m) e
+
+    pub start-open : ltb (s + find carriageReturn (drop s m)) (length m) ≡ false → Absent ≡ segmentAt m k
+    start-open f =
+        let n = ltb-false (s + find carriageReturn (drop s m)) (length m) f in
+        let l = part-bytes carriageReturn m k s _ stands .2 in
+        sym (segment-none m k s _ stands (omega arith))
+
+    pub start-ended : ltb (s + find carriageReturn (drop s m)) (length m) ≡ true → At s (s + find carriageReturn (drop s m)) ≡ segmentAt m k
+    start-ended f =
+        let n = ltb-true (s + find carriageReturn (drop s m)) (length m) f in
+        sym (segment-some m k s _ stands (λ z. omega arith))
 
 -- ---- what stands at segment k
 

@@ -13,6 +13,7 @@ pub use segments::delimiters_of;
 pub use segments::name_of;
 pub use segments::segment_at;
 pub use segments::segment_end;
+pub use segments::segment_start;
 
 // Accepts a message, or refuses it with its first fault and the place.
 pub fn read(message: &[u8]) -> Answer

@@ -1,12 +1,14 @@
 // The delimiters of a message and where its segments stand. They are read from the message and never assumed.
 use alphabet::Delimiters;
 use alphabet::Part;
+use alphabet::Start;
 ghost use mathlib.Core.Path.{_≡_};
 ghost use Prim.Native.Nat.{_+_};
-ghost use lib.ListN.{drop};
+ghost use lib.Dec.{eqb, ltb};
+ghost use lib.ListN.{length, drop};
 ghost use Rattle.alphabet.specs.Bytes.{carriageReturn};
 ghost use Rattle.alphabet.specs.Lists.{find};
-ghost use Rattle.alphabet.specs.Parts.{partAt};
+ghost use Rattle.alphabet.specs.Parts.{partAt, endedBy};
 ghost use Rattle.reading.specs.Segments.{delimitersOf, segmentAt, nameOf};
 
 // Bytes 3 to 7; 0 stands for a byte that is not there, and 0 is no delimiter.
@@ -34,26 +36,48 @@ pub fn segment_end(message: &[u8], start: usize) -> usize
     start + alphabet::find_far(&message[start..], alphabet::CARRIAGE_RETURN)
 }
 
-// Where the part of the given index, from 0, stands at CR: as `alphabet::nth_part` tells it, but each CR is sought as
-// what stands far off.
-fn line_at(message: &[u8], index: usize) -> Part
-    ensures { λ r. ⌜ r ≡ partAt carriageReturn (now (message .entry)) index ⌝ }
+// Where the part of the given index, from 0, begins at CR; each CR is sought as what stands far off.
+fn line_start(message: &[u8], index: usize) -> Start
+    ensures { λ r. ⌜ endedBy (eqb carriageReturn) (now (message .entry)) r ≡ partAt carriageReturn (now (message .entry)) index ⌝ }
 {
     let mut begin = 0;
     let mut passed = 0;
-    loop {
+    while passed < index {
         let end = segment_end(message, begin);
-        if passed == index {
-            return Part::At {
-                start: begin,
-                end: end,
-            };
-        }
         if message.len() <= end {
-            return Part::Absent;
+            return Start::Missing;
         }
         begin = end + 1;
         passed += 1;
+    }
+    Start::From { start: begin }
+}
+
+// Whether a CR stands at `start` or behind. Each message that can be read ends in CR, and then none is sought.
+fn is_ended(message: &[u8], start: usize) -> bool
+    ensures { λ r. ⌜ r ≡ ltb (start + find carriageReturn (drop start (now (message .entry)))) (length (now (message .entry))) ⌝ }
+{
+    if message.len() <= start {
+        return false;
+    }
+    if message[message.len() - 1] == alphabet::CARRIAGE_RETURN {
+        return true;
+    }
+    segment_end(message, start) < message.len()
+}
+
+// Where the segment of the given index, from 0, begins. What stands behind the last CR is no segment.
+pub fn segment_start(message: &[u8], index: usize) -> Start
+    ensures { λ r. ⌜ endedBy (eqb carriageReturn) (now (message .entry)) r ≡ segmentAt (now (message .entry)) index ⌝ }
+{
+    let line = line_start(message, index);
+    let Start::From { start } = line else {
+        return Start::Missing;
+    };
+    if is_ended(message, start) {
+        line
+    } else {
+        Start::Missing
     }
 }
 
@@ -61,19 +85,16 @@ fn line_at(message: &[u8], index: usize) -> Part
 pub fn segment_at(message: &[u8], index: usize) -> Part
     ensures { λ r. ⌜ r ≡ segmentAt (now (message .entry)) index ⌝ }
 {
-    let part = line_at(message, index);
-    match part {
-        Part::At { start, end } => {
-            // What stands behind the last CR is no segment.
-            if end == message.len() {
-                return Part::Absent;
-            }
+    let segment = segment_start(message, index);
+    match segment {
+        Start::From { start } => {
+            let end = segment_end(message, start);
             Part::At {
                 start: start,
                 end: end,
             }
         }
-        Part::Absent => Part::Absent,
+        Start::Missing => Part::Absent,
     }
 }
 

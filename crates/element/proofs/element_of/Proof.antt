@@ -19,7 +19,7 @@ returns c = sym (ap (elementIn (now (c .before .before .before .before .args .me
 inside : (c : tie.After-known-told) → (c .before .part .given .0 .0 ≤ c .before .part .given .0 .1 .0) × (c .before .part .given .0 .1 .0 ≤ length (now (c .before .before .before .before .before .args .message)))
 inside c =
     let a = c .before .before .before .before .before .args in
-    let l = c .before .before .before .before .before .pre in
+    let l = c .before .before .before .before .before .pre .0 in
     within-at (now (a .message)) _ _ _ (within-element (now (a .message)) (a .address) (omega arith)) (sym (c .before .before .before .part-of .ensures) ∙ c .before .part .given .1)
 
 returns-2 : tie.Need-returns-2
@@ -32,7 +32,7 @@ pub element-of-spec : {M : Type 1} → statement M
 element-of-spec =
     tie.close
     (tie.spec
-    (λ c κs. omega arith)
+    (λ c κs. c .before .pre .1)
     (λ c. search needs)
     (λ c. search needs)
     returns

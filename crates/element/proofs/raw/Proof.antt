@@ -15,18 +15,18 @@ returns c = let a = c .before .before .before .args in sym (raw-short (now (a .m
 
 returns-2 : tie.Need-returns-2
 returns-2 c =
-    let a = c .before .before .before .before .before .before .args in
+    let a = c .before .before .before .before .before .before .before .args in
     sym (raw-absent (now (a .message)) (a .address) (omega arith) (sym (c .before .before .before .part-of .ensures) ∙ c .before .enum-told .given .1))
 
 -- the part lies within the message
-inside : (c : tie.After-known-told) → (c .before .part .given .0 .0 ≤ c .before .part .given .0 .1 .0) × (c .before .part .given .0 .1 .0 ≤ length (now (c .before .before .before .before .before .before .args .message)))
+inside : (c : tie.After-known-told) → (c .before .part .given .0 .0 ≤ c .before .part .given .0 .1 .0) × (c .before .part .given .0 .1 .0 ≤ length (now (c .before .before .before .before .before .before .before .args .message)))
 inside c =
-    let a = c .before .before .before .before .before .before .args in
+    let a = c .before .before .before .before .before .before .before .args in
     within-at (now (a .message)) _ _ _ (within-element (now (a .message)) (a .address) (omega arith)) (sym (c .before .before .before .part-of .ensures) ∙ c .before .part .given .1)
 
 returns-3 : tie.Need-returns-3
 returns-3 c =
-    let a = c .before .before .before .before .before .before .before .args in
+    let a = c .before .before .before .before .before .before .before .before .args in
     let g = c .before .before .part .given in
     sym (raw-at (now (a .message)) (a .address) (omega arith) (g .0 .0) (g .0 .1 .0) (sym (c .before .before .before .before .part-of .ensures) ∙ g .1))
 
@@ -36,7 +36,8 @@ raw-spec =
     (tie.spec
     (λ c. search needs)
     returns
-    (λ c κs. omega arith)
+    (λ c κs. search needs)
+    (λ c κs. c .segment-start .ensures)
     (λ c. search needs)
     (λ c. search needs)
     (λ c. search needs)

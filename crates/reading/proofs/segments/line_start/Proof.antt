@@ -1,7 +1,6 @@
 -- Rests on the laws of where parts stand, as `alphabet::nth_part` does.
 use Prim.Native.Nat.{ℕ, _≤_, _+_, _-_}
 use mathlib.Core.Path.{_≡_, refl, sym, ap, _∙_}
-use lib.Dec.{eqb}
 use lib.ListN.{length, drop, length-drop}
 use native.Mathlib.Omega.{arith}
 use borrow.Author.Needs.{needs}
@@ -9,11 +8,9 @@ use denote.Ref.{now}
 use Rattle.alphabet.specs.Bytes.{carriageReturn}
 use Rattle.alphabet.specs.Lists.{find}
 use Rattle.alphabet.specs.Parts.{split, standing, partAt}
-use Rattle.alphabet.specs.declared.parts.Part.the-variants.{At}
-use Rattle.alphabet.proofs.ListLaws.{first-le}
 use Rattle.alphabet.proofs.PartLaws.{standing-first, standing-walk, standing-none}
-use Rattle.reading.proofs.segments.line_at.Statement.{statement}
-use Rattle.reading.proofs.segments.line_at.Tie as tie
+use Rattle.reading.proofs.segments.line_start.Statement.{statement}
+use Rattle.reading.proofs.segments.line_start.Tie as tie
 
 abbrev Inv-loop : tie.InvT-loop
 Inv-loop message index begin₀ passed₀ begin passed =
@@ -27,32 +24,13 @@ loop-holds : tie.Need-loop-holds Inv-loop μ-loop
 unfolding partAt
 loop-holds c = (omega arith, omega arith, omega arith, ap (standing 0 (split _ _)) (omega arith))
 
-inside : (c : tie.After-segment-end Inv-loop μ-loop) → c .segment-end .result ≤ length (now (c .before .before .before .args .message))
-inside c =
-    let l = c .before in
-    let m = now (l .before .before .args .message) in
-    let e = c .segment-end .ensures in
-    let u = first-le (eqb carriageReturn) (drop (l .loop .begin) m) in
-    let n = length-drop (l .loop .begin) m in
-    omega arith
-
 returns : tie.Need-returns Inv-loop μ-loop
 returns c =
-    let l = c .before .before in
-    let a = l .before .before .args in
-    let r = drop (l .loop .begin) (now (a .message)) in
-    let n : a .index - l .loop .passed ≡ 0 = omega arith in
-    ap (At (l .loop .begin)) (c .before .segment-end .ensures)
-    ∙ sym (l .loop .inv .3 ∙ ap (standing (l .loop .begin) (split carriageReturn r)) n ∙ standing-first carriageReturn (l .loop .begin) r)
-
-returns-2 : tie.Need-returns-2 Inv-loop μ-loop
-returns-2 c =
     let l = c .before .before .before in
     let a = l .before .before .args in
     let r = drop (l .loop .begin) (now (a .message)) in
     let n : a .index - l .loop .passed ≡ (a .index - l .loop .passed - 1) + 1 = omega arith in
-    let e = c .before .before .segment-end .ensures in
-    let i = inside (c .before .before) in
+    let e = c .before .segment-end .ensures in
     let d = length-drop (l .loop .begin) (now (a .message)) in
     sym (l .loop .inv .3 ∙ ap (standing (l .loop .begin) (split carriageReturn r)) n ∙ standing-none carriageReturn (l .loop .begin) r (a .index - l .loop .passed - 1) (omega arith))
 
@@ -64,7 +42,7 @@ loop-again c =
     let r = drop (l .loop .begin) m in
     let k = a .index - (l .loop .passed + 1) in
     let n : a .index - l .loop .passed ≡ k + 1 = omega arith in
-    let e = c .before .before .segment-end .ensures in
+    let e = c .before .segment-end .ensures in
     let d = length-drop (l .loop .begin) m in (
       omega arith,
       omega arith,
@@ -74,8 +52,16 @@ loop-again c =
           ∙ ap (λ (x : ℕ). standing (x + 1) (split carriageReturn (drop (x + 1) m)) k) (sym e),
     )
 
-pub line-at-spec : {M : Type 1} → statement M
-line-at-spec =
+returns-2 : tie.Need-returns-2 Inv-loop μ-loop
+returns-2 c =
+    let l = c .before in
+    let a = l .before .before .args in
+    let r = drop (l .loop .begin) (now (a .message)) in
+    let n : a .index - l .loop .passed ≡ 0 = omega arith in
+    sym (l .loop .inv .3 ∙ ap (standing (l .loop .begin) (split carriageReturn r)) n ∙ standing-first carriageReturn (l .loop .begin) r)
+
+pub line-start-spec : {M : Type 1} → statement M
+line-start-spec =
     tie.close
     (tie.spec
     Inv-loop
@@ -83,8 +69,8 @@ line-at-spec =
     loop-holds
     (λ c κs. search needs)
     returns
-    returns-2
     (λ c. omega arith)
     (λ c. omega arith)
-    (λ c. let e = c .before .before .segment-end .ensures in omega arith)
-    loop-again)
+    (λ c. let e = c .before .segment-end .ensures in omega arith)
+    loop-again
+    returns-2)
