@@ -188,9 +188,11 @@ const FRAME: usize = 32_768;
 /// What a packet of Ethernet carries of a line.
 const PACKET: usize = 1_460;
 
-/// Two admissions that are alike up to PV1-2, and what stands behind it in the second.
+/// Three admissions that are alike up to PV1-2, and how many bytes stand behind it in the second, in
+/// several segments, and in the third, in PV1 alone.
 const BRIEF: &str = "brief-admission";
 const FULL: &str = "full-admission";
+const LONG: &str = "long-visit";
 const BEHIND: usize = 10_000;
 
 #[derive(Clone, Copy, PartialEq)]
@@ -246,8 +248,9 @@ impl Job {
         match (self.entry, self.size) {
             (Entry::Feed(PACKET), _) => "feed, by 1,460",
             (Entry::Read, "small-visit" | "largest-visit") => "read, with a visit",
-            (Entry::Read, BRIEF | FULL) => "read, an admission",
+            (Entry::Read, BRIEF | FULL | LONG) => "read, an admission",
             (Entry::Find(_), BRIEF | FULL) => "find PV1-2 of an admission",
+            (Entry::Find(_), LONG) => "find PV1-2 of a long visit",
             (Entry::Find(address), _) if address.field == 2 => "find PV1-2",
             (Entry::Find(_), _) => "find PV1-50",
             _ => self.name(),
@@ -426,9 +429,12 @@ fn add_lookups(jobs: &mut Vec<Job>) {
     add(Entry::Read, "largest-visit", &bytes);
     add(field(2, 2), "largest-visit-2", &bytes);
     add(field(2, 50), "largest-visit-50", &bytes);
-    for (size, bytes) in
-        [(BRIEF, reports::brief_admission()), (FULL, reports::full_admission(BEHIND))]
-    {
+    let admissions = [
+        (BRIEF, reports::brief_admission()),
+        (FULL, reports::full_admission(BEHIND)),
+        (LONG, reports::long_visit(BEHIND)),
+    ];
+    for (size, bytes) in admissions {
         add(Entry::Read, size, &bytes);
         add(field(3, 2), size, &bytes);
     }
@@ -618,12 +624,14 @@ fn tell_without_reading(jobs: &[Job], counts: &HashMap<String, u64>) {
             println!("{title}, {bytes} bytes: {ours} instructions without those of read (baseline: {theirs})");
         }
     }
-    let growth = |side: &str| {
+    let growth = |side: &str, size: &str| {
         let rest_of = |size: &str| rest(side, lookups().find(|job| job.size == size)?);
-        Some(100.0 * (rest_of(FULL)? / rest_of(BRIEF)? - 1.0))
+        Some(100.0 * (rest_of(size)? / rest_of(BRIEF)? - 1.0))
     };
-    if let (Some(ours), Some(theirs)) = (growth("library"), growth("baseline")) {
-        println!("find PV1-2 with {BEHIND} bytes behind it in place of 10: {ours:+.2} % instructions without those of read (baseline: {theirs:+.2} %)");
+    for (size, place) in [(FULL, "in several segments"), (LONG, "in its own segment")] {
+        if let (Some(ours), Some(theirs)) = (growth("library", size), growth("baseline", size)) {
+            println!("find PV1-2 with {BEHIND} bytes behind it, {place}, in place of 10: {ours:+.2} % instructions without those of read (baseline: {theirs:+.2} %)");
+        }
     }
 }
 
