@@ -163,6 +163,25 @@ module _ (sep : ℕ) where
       rw (split-walk l start n e h, add-one k)
       (ap (λ (m : ℕ). standing (start + m + 1) (split sep (drop (start + n + 1) l)) k) (length-take-le n (drop start l) (omega arith)))
 
+  -- a part ends at the first separator from its start on, or where the whole does
+  pub standing-end : (l : List ℕ) (start k s e : ℕ) → standing start (split sep (drop start l)) k ≡ At s e → e ≡ s + find sep (drop s l)
+  standing-end l start zero s e q =
+      let p = at-same (sym (standing-first start (drop start l)) ∙ q) in
+      sym (p .1) ∙ ap (λ (x : ℕ). x + find sep (drop x l)) (p .0)
+  standing-end l start (suc k) s e q = at (ltb (find sep (drop start l)) (length (drop start l))) refl (standing-end l (start + find sep (drop start l) + 1) k s e)
+    where
+      next : standing start (split sep (drop start l)) (k + 1) ≡ At s e
+      next = let n : k + 1 ≡ suc k = omega arith in ap (standing start (split sep (drop start l))) n ∙ q
+
+      at : (t : Bool) → ltb (find sep (drop start l)) (length (drop start l)) ≡ t
+          → (standing (start + find sep (drop start l) + 1) (split sep (drop (start + find sep (drop start l) + 1) l)) k ≡ At s e → e ≡ s + find sep (drop s l)) → e ≡ s + find sep (drop s l)
+      at true t ih = ih (sym (standing-walk l start (find sep (drop start l)) k refl (ltb-true _ _ t)) ∙ next)
+      at false t ih = let z : Absent ≡ At s e = sym (standing-none start (drop start l) k (ltb-false _ _ t)) ∙ next in absurd (let y : _≡_ {A = ℕ} 0 1 = cc in omega arith)
+
+  pub part-end : (l : List ℕ) (k s e : ℕ) → partAt sep l k ≡ At s e → e ≡ s + find sep (drop s l)
+  unfolding partAt
+  part-end l = standing-end l 0
+
   -- ---- what stands there
 
   join-one : (p : List ℕ) → join sep (p ∷ []) ≡ p

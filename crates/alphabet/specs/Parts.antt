@@ -36,7 +36,12 @@ standing at (p ∷ ps) (suc k) = standing (at + length p + 1) ps k
 unfoldable pub partAt : ℕ → List ℕ → ℕ → Part
 partAt sep bytes k = standing 0 (split sep bytes) k
 
--- for functions inside the library: the part that begins there and goes on up to the first byte that ends it
+-- where a part begins
+abbrev pub began : Part → Start
+began (At s e) = From s
+began Absent = Missing
+
+-- for private functions alone: the part that begins there and goes on up to the first byte that ends it
 abbrev pub endedBy : (ℕ → Bool) → List ℕ → Start → Part
 endedBy ends bytes (From start) = At start (start + first ends (drop start bytes))
 endedBy ends bytes Missing = Absent

@@ -1,5 +1,5 @@
 // How bytes fall into parts at a separator: segments, fields, repetitions, components and subcomponents alike. Walks
-// that go from part to part step by `find` instead, and cite the same laws.
+// that go from part to part step by `find` instead, and cite the same laws; a lookup walks by starts (crate `element`).
 use crate::bytes::find;
 ghost use mathlib.Core.Path.{_≡_};
 ghost use Rattle.alphabet.specs.Parts.{partAt};

@@ -8,7 +8,7 @@ use lib.ListN.{length}
 use borrow.Author.Tests.{le-leb, lt-leb}
 use Rattle.alphabet.specs.Answers.{failsIf, orElse, inOrder, answered}
 use Rattle.alphabet.specs.Bytes.{carriageReturn}
-use Rattle.alphabet.specs.Parts.{endedBy}
+use Rattle.alphabet.specs.Parts.{began, endedBy}
 use Rattle.alphabet.specs.declared.answers.Refusal.{Refusal}
 use Rattle.alphabet.specs.declared.answers.Check.{Check}
 use Rattle.alphabet.specs.declared.answers.Check.the-variants.{Passes, Fails}
@@ -20,15 +20,16 @@ use Rattle.alphabet.proofs.CheckLaws.{both-pass, passes-or}
 use Rattle.reading.specs.Segments.{delimitersOf, segmentAt}
 use Rattle.reading.specs.Reading.{reading}
 use Rattle.reading.specs.Message.{Message}
+use Rattle.reading.proofs.SegmentLaws.{segment-stands}
 use Rattle.reading.proofs.Accepted.{accepted}
 use Rattle.element.specs.Addresses.{addressCheck}
 use Rattle.element.specs.States.{stateOf}
 use Rattle.element.specs.declared.states.State.{State}
-use Rattle.element.specs.Levels.{between, Within, elementAt}
+use Rattle.element.specs.Levels.{between, elementAt}
 use Rattle.element.specs.Finding.{isAbsent, lookupCheck, elementIn, elementOf, elementIf, nowhere, found, bytesAt, elementBytes, rawBytes}
 use Rattle.element.specs.declared.Element.{Element}
 use Rattle.element.specs.declared.address.Address.{Address}
-use Rattle.element.proofs.LevelLaws.{within-element}
+use Rattle.element.proofs.LevelLaws.{Within, within-element}
 
 -- a lookup that passes is of a message that was read
 pub lookup-read : (m : List ℕ) (a : Address) → lookupCheck m a ≡ Passes → Message m
@@ -76,13 +77,13 @@ module _ (m : List ℕ) (a : Address) (c : Check) (q : c ≡ inOrder (reading m 
       at Passes (Fails k p) e = e
       at Passes Passes e = absurd (let z : _≡_ {A = ℕ} 0 1 = cc in omega arith)
 
-  module _ (p : c ≡ Passes) (segment : Start) (s : endedBy (eqb carriageReturn) m segment ≡ segmentAt m (a .segment)) where
+  module _ (p : c ≡ Passes) (segment : Start) (s : segment ≡ began (segmentAt m (a .segment))) where
     by-segment : lookupCheck m a ≡ orElse (failsIf (isAbsent (endedBy (eqb carriageReturn) m segment)) Refusal.Address 0) Passes
     unfolding lookupCheck
     by-segment =
         let b = both-pass (reading m) _ (sym q ∙ p) in
         passes-or (b .0) _ ∙ passes-or (both-pass (addressCheck a) Passes (b .1) .0) _
-        ∙ ap (λ (x : Part). orElse (failsIf (isAbsent x) Refusal.Address 0) Passes) (sym s)
+        ∙ ap (λ (x : Part). orElse (failsIf (isAbsent x) Refusal.Address 0) Passes) (sym (ap (endedBy (eqb carriageReturn) m) s ∙ segment-stands m (a .segment)))
 
     pub lookup-missing : segment ≡ Missing → Fails Refusal.Address 0 ≡ lookupCheck m a
     lookup-missing e = sym (by-segment ∙ ap (λ (x : Start). orElse (failsIf (isAbsent (endedBy (eqb carriageReturn) m x)) Refusal.Address 0) Passes) e)

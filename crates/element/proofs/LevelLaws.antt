@@ -15,8 +15,14 @@ use Rattle.alphabet.proofs.BoolLaws.{false-true, and-both, both-and}
 use Rattle.alphabet.proofs.PartLaws.{part-bytes}
 use Rattle.reading.specs.Segments.{fieldSeparator, segmentAt}
 use Rattle.reading.proofs.SegmentLaws.{segment-bytes}
-use Rattle.element.specs.Levels.{between, Within, moved, partIn, fieldIn, fieldAt, below, repetitionAt, componentAt, subcomponentAt, fixed, unsplit, elementAt}
+use Rattle.element.specs.Levels.{between, moved, partIn, fieldIn, fieldAt, below, repetitionAt, componentAt, subcomponentAt, fixed, unsplit, elementAt}
+use Rattle.element.specs.Ends.{fieldIndex}
 use Rattle.element.specs.declared.address.Address.{Address}
+
+-- a part lies within the message
+abbrev pub Within : List ℕ → Part → Type 0
+Within m Absent = Unit {0}
+Within m (At s e) = (s ≤ e) × (e ≤ length m)
 
 -- what stands between s and e has so many bytes
 pub between-length : (m : List ℕ) (s e : ℕ) → s ≤ e → e ≤ length m → length (between m s e) ≡ e - s
@@ -42,7 +48,7 @@ module _ (sep : ℕ) (m : List ℕ) (part : Part) (k : ℕ) where
     in-none r = rw (q, r)
 
 -- it lies within the part, so within the message
-pub inner : (sep : ℕ) (m : List ℕ) (s e k : ℕ) → s ≤ e → e ≤ length m → (a b : ℕ) → partAt sep (between m s e) k ≡ At a b → (s + a ≤ s + b) × (s + b ≤ e)
+inner : (sep : ℕ) (m : List ℕ) (s e k : ℕ) → s ≤ e → e ≤ length m → (a b : ℕ) → partAt sep (between m s e) k ≡ At a b → (s + a ≤ s + b) × (s + b ≤ e)
 inner sep m s e k h l a b q =
     let i = part-bytes sep (between m s e) k a b q in
     let n = between-length m s e h l in
@@ -70,7 +76,7 @@ module _ (m : List ℕ) (segment : ℕ) (part : Part) (f : ℕ) where
   unfolding fieldIn
   field-separator h = let e = and-both (eqb segment 0) (eqb f 1) h in rw (e .0, e .1)
 
-  pub field-part : (eqb segment 0 && eqb f 1) ≡ false → fieldIn m segment part f ≡ partIn (fieldSeparator m) m part (cond (eqb segment 0) (f - 1) f)
+  pub field-part : (eqb segment 0 && eqb f 1) ≡ false → fieldIn m segment part f ≡ partIn (fieldSeparator m) m part (fieldIndex segment f)
   unfolding fieldIn
   field-part h = at (eqb segment 0) (eqb f 1) h
     where
@@ -96,10 +102,10 @@ separator-fixed segment f h =
     both-and (e .0) (le-leb f 2 (omega arith))
 
 module _ (segment f : ℕ) where
-  pub index-other : (segment ≡ 0 → ⊥) → f ≡ cond (eqb segment 0) (f - 1) f
+  pub index-other : (segment ≡ 0 → ⊥) → f ≡ fieldIndex segment f
   index-other h = rw (ne-eqb segment 0 h)
 
-  pub index-header : segment ≡ 0 → f - 1 ≡ cond (eqb segment 0) (f - 1) f
+  pub index-header : segment ≡ 0 → f - 1 ≡ fieldIndex segment f
   index-header h = rw (eq-eqb segment 0 h)
 
 -- ---- a level below

@@ -11,14 +11,15 @@ use lib.Seq.{drop-drop, getD-drop}
 use borrow.Author.Tests.{eqb-true, eqb-false, eq-eqb, ne-eqb, lt-ltb}
 use Rattle.alphabet.specs.Bytes.{carriageReturn}
 use Rattle.alphabet.specs.Lists.{first, find, among}
-use Rattle.alphabet.specs.Parts.{grown, split, standing, partAt, endedBy}
+use Rattle.alphabet.specs.Parts.{grown, split, standing, partAt, began, endedBy}
 use Rattle.alphabet.specs.declared.parts.Part.{Part}
 use Rattle.alphabet.specs.declared.parts.Part.the-variants.{At, Absent}
 use Rattle.alphabet.specs.declared.parts.Start.{Start}
 use Rattle.alphabet.specs.declared.parts.Start.the-variants.{From, Missing}
 use Rattle.alphabet.proofs.ListLaws.{drop-next, first-here, first-past, first-end, first-le, first-before}
-use Rattle.alphabet.proofs.PartLaws.{split-some, standing-first}
+use Rattle.alphabet.proofs.PartLaws.{split-some, split-nothing, standing-first}
 use Rattle.reading.specs.Segments.{fieldSeparator, segmentAt}
+use Rattle.reading.proofs.SegmentLaws.{segment-stands}
 use Rattle.element.specs.Levels.{moved, partIn, fieldAt, below, repetitionAt, componentAt, subcomponentAt}
 use Rattle.element.specs.Ends.{orAt, levelEnds, endOf, fieldEnds}
 use Rattle.element.specs.declared.address.Address.{Address}
@@ -140,10 +141,6 @@ module _ (sep : ℕ) (m : List ℕ) (ends : ℕ → Bool) where
 -- ---- a block on the way, without a stop and with fewer separators than are left
 
 module _ (sep : ℕ) where
-  pub count-none : length (split sep []) ≡ 1
-  unfolding split
-  count-none = refl
-
   pub count-at : (b : ℕ) (l : List ℕ) → b ≡ sep → length (split sep (b ∷ l)) ≡ suc (length (split sep l))
   unfolding split
   count-at b l e = rw (eq-eqb sep b (sym e))
@@ -161,7 +158,7 @@ module _ (sep : ℕ) (m : List ℕ) (ends : ℕ → Bool) where
       → partIn sep m (endedBy ends m (From i)) k ≡ partIn sep m (endedBy ends m (From (i + n))) (k - c)
   walk-block zero i k c h w e l =
       let z : i ≡ i + 0 = omega arith in
-      let one = count-none sep in
+      let one = ap length (split-nothing sep) in
       let y : k ≡ k - c = omega arith in
       ap (λ (x : ℕ). partIn sep m (endedBy ends m (From x)) k) z ∙ ap (partIn sep m (endedBy ends m (From (i + 0)))) y
   walk-block (suc n) i k c h w e l = at (eqb (getD m i 0) sep) refl (λ j d. walk-block n (i + 1) j d)
@@ -292,7 +289,7 @@ module _ (sep : ℕ) (p q : List ℕ) (n : length p + length q ≡ 3) (m : List 
   five : (x : ℕ) → length (carriageReturn ∷ p ++ x ∷ q) ≡ 5
   five x = let l = length-append p (x ∷ q) in omega arith
 
-  pub part-ends : endedBy (among (carriageReturn ∷ p ++ sep ∷ q)) m part ≡ endedBy (orAt sep (among (carriageReturn ∷ p ++ carriageReturn ∷ q))) m part
+  part-ends : endedBy (among (carriageReturn ∷ p ++ sep ∷ q)) m part ≡ endedBy (orAt sep (among (carriageReturn ∷ p ++ carriageReturn ∷ q))) m part
   part-ends =
       ends-alike _ _
       (λ b.
@@ -301,7 +298,7 @@ module _ (sep : ℕ) (p q : List ℕ) (n : length p + length q ≡ 3) (m : List 
       m part
 
 -- and of a level that may not be split
-pub level-ends : (sep k x : ℕ) (p q : List ℕ) → length p + length q ≡ 3 → x ≡ endOf sep k → (m : List ℕ) (part : Start)
+level-ends : (sep k x : ℕ) (p q : List ℕ) → length p + length q ≡ 3 → x ≡ endOf sep k → (m : List ℕ) (part : Start)
     → endedBy (among (carriageReturn ∷ p ++ x ∷ q)) m part ≡ endedBy (levelEnds sep k (among (carriageReturn ∷ p ++ carriageReturn ∷ q))) m part
 level-ends sep zero x p q n e m part = ap (λ (y : ℕ). endedBy (among (carriageReturn ∷ p ++ y ∷ q)) m part) e
 level-ends sep (suc k) x p q n e m part = ap (λ (y : ℕ). endedBy (among (carriageReturn ∷ p ++ y ∷ q)) m part) e ∙ part-ends sep p q n m part
@@ -325,13 +322,13 @@ module _ (sep : ℕ) (ends : ℕ → Bool) (m : List ℕ) (part : Start) where
 -- ---- a field, from where its segment begins
 
 -- part k of a segment ends at CR or the field separator
-pub field-begins : (m : List ℕ) (sep k s : ℕ) (segment field : Start) → sep ≡ fieldSeparator m → endedBy (eqb carriageReturn) m segment ≡ segmentAt m s
+pub field-begins : (m : List ℕ) (sep k s : ℕ) (segment field : Start) → sep ≡ fieldSeparator m → segment ≡ began (segmentAt m s)
     → endedBy (orAt sep (eqb carriageReturn)) m field ≡ partIn sep m (endedBy (eqb carriageReturn) m segment) k
     → endedBy (among (carriageReturn ∷ sep ∷ carriageReturn ∷ carriageReturn ∷ carriageReturn ∷ [])) m field ≡ partIn (fieldSeparator m) m (segmentAt m s) k
 field-begins m sep k s segment field e q f =
     part-ends sep [] (carriageReturn ∷ carriageReturn ∷ carriageReturn ∷ []) refl m field
     ∙ ends-alike _ _ (λ b. ap (λ (t : Bool). t || eqb sep b) (all-alike carriageReturn b)) m field ∙ f
-    ∙ ap (λ (p : Part). partIn sep m p k) q ∙ ap (λ (x : ℕ). partIn x m (segmentAt m s) k) e
+    ∙ ap (λ (p : Part). partIn sep m p k) (ap (endedBy (eqb carriageReturn) m) q ∙ segment-stands m s) ∙ ap (λ (x : ℕ). partIn x m (segmentAt m s) k) e
 
 -- ---- the three levels of a field, each with one stop more, where r, c and s are those stops
 

@@ -1,9 +1,9 @@
 -- From a segment down to a subcomponent, by document 01, 'Elements': "Each level splits the part above it at its own
 -- separator".
-use Prim.Native.Nat.{ℕ, zero, suc, _+_, _-_, _≤_}
+use Prim.Native.Nat.{ℕ, zero, suc, _+_, _-_}
 use mathlib.Core.List.{List}
 use mathlib.Core.Bool.{Bool, cond, _&&_}
-use lib.ListN.{length, getD, take, drop}
+use lib.ListN.{getD, take, drop}
 use lib.Dec.{leb, eqb}
 use Rattle.alphabet.specs.Parts.{partAt}
 use Rattle.alphabet.specs.declared.parts.Part.{Part}
@@ -14,11 +14,6 @@ use Rattle.element.specs.declared.address.Address.{Address}
 -- the bytes of the message from s up to e
 abbrev pub between : List ℕ → ℕ → ℕ → List ℕ
 between m s e = take (e - s) (drop s m)
-
--- a part lies within the message
-abbrev pub Within : List ℕ → Part → Type 0
-Within m Absent = Unit {0}
-Within m (At s e) = (s ≤ e) × (e ≤ length m)
 
 -- a part's part, counted from where the whole begins
 abbrev pub moved : ℕ → Part → Part

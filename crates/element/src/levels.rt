@@ -1,23 +1,19 @@
-// From a segment down to a subcomponent: each level splits the part above it at its own separator. A part above is known
-// by where it begins and by the bytes that end it. Only the element itself has its end sought, so that nothing behind it
-// is looked at, but for the rest of a block.
+// From a segment down to a subcomponent: each level splits the part above it at its own separator. A part above is
+// known by where it begins and by the bytes that end it. Only the element itself has its end sought, so that nothing
+// behind it is looked at, but for the rest of a block.
 use crate::address::Address;
 use crate::walking::field_start;
 use alphabet::CARRIAGE_RETURN;
 use alphabet::Part;
 use alphabet::Start;
 ghost use mathlib.Core.Path.{_≡_};
-ghost use mathlib.Core.Bool.{cond};
-ghost use Prim.Native.Nat.{_-_};
-ghost use lib.Dec.{eqb};
 ghost use lib.ListN.{drop};
-ghost use Rattle.alphabet.specs.Bytes.{carriageReturn};
 ghost use Rattle.alphabet.specs.Lists.{first, among};
-ghost use Rattle.alphabet.specs.Parts.{endedBy};
+ghost use Rattle.alphabet.specs.Parts.{began, endedBy};
 ghost use Rattle.alphabet.specs.declared.parts.Start.the-variants.{From};
 ghost use Rattle.reading.specs.Segments.{segmentAt};
-ghost use Rattle.element.specs.Levels.{partIn, fieldAt, below, subcomponentAt, unsplit, elementAt};
-ghost use Rattle.element.specs.Ends.{orAt, levelEnds, endOf, fieldEnds};
+ghost use Rattle.element.specs.Levels.{fieldAt, below, subcomponentAt, unsplit, elementAt};
+ghost use Rattle.element.specs.Ends.{levelEnds, endOf, fieldEnds, StartsPart, fieldIndex};
 
 // How many bytes are looked at one by one for an element's end, before blocks are: most elements are short.
 const NEAR: usize = 8;
@@ -32,10 +28,10 @@ fn rest_from(message: &[u8], start: usize) -> &[u8]
     &message[start..]
 }
 
-// Where part `index`, from 0, begins of the part at the front of `bytes`, which ends at the first of `stops`. They are
-// asked for first: where no message was read, the separator may be one of them.
+// Where part `index`, from 0, of the part at the front of `bytes` begins. That part ends at the first of `stops`. They are
+// asked for before the separator, which may be one of them where no message was read.
 fn start_in(bytes: &[u8], stops: [u8; 5], separator: u8, index: usize) -> Start
-    ensures { λ r. ⌜ endedBy (orAt separator (among stops)) (now (bytes .entry)) r ≡ partIn separator (now (bytes .entry)) (endedBy (among stops) (now (bytes .entry)) (From 0)) index ⌝ }
+    ensures { λ r. ⌜ StartsPart separator (among stops) (now (bytes .entry)) (From 0) index r ⌝ }
 {
     let mut i = 0;
     let mut left = index;
@@ -53,33 +49,35 @@ fn start_in(bytes: &[u8], stops: [u8; 5], separator: u8, index: usize) -> Start
     Start::From { start: i }
 }
 
-// Where part `index`, from 0, begins of a part of the message: the bytes from there on are handed to the splitter.
-fn part_start(message: &[u8], part: Start, stops: [u8; 5], separator: u8, index: usize) -> Start
-    ensures { λ r. ⌜ endedBy (orAt separator (among stops)) (now (message .entry)) r ≡ partIn separator (now (message .entry)) (endedBy (among stops) (now (message .entry)) part) index ⌝ }
+// Where part `index`, from 0, of a part of the message begins. The splitter is handed the bytes from that part's start
+// on.
+fn part_start(message: &[u8], above: Start, stops: [u8; 5], separator: u8, index: usize) -> Start
+    ensures { λ r. ⌜ StartsPart separator (among stops) (now (message .entry)) above index r ⌝ }
 {
-    let Start::From { start } = part else {
+    let Start::From { start } = above else {
         return Start::Missing;
     };
     let found = start_in(rest_from(message, start), stops, separator, index);
     match found {
-        Start::From { start: further } => Start::From {
-            start: start + further,
-        },
+        Start::From { start: further } => {
+            let begin = start + further;
+            Start::From { start: begin }
+        }
         Start::Missing => Start::Missing,
     }
 }
 
-// Number `number`, from 1, of a level below a part; 0 is the whole, which begins where the part does.
-fn start_below(message: &[u8], part: Start, stops: [u8; 5], separator: u8, number: usize) -> Start
-    ensures { λ r. ⌜ endedBy (levelEnds separator number (among stops)) (now (message .entry)) r ≡ below separator (now (message .entry)) (endedBy (among stops) (now (message .entry)) part) number ⌝ }
+// Where number `number`, from 1, of a level below a part begins; 0 is the whole, which begins where the part does.
+fn start_below(message: &[u8], above: Start, stops: [u8; 5], separator: u8, number: usize) -> Start
+    ensures { λ r. ⌜ endedBy (levelEnds separator number (among stops)) (now (message .entry)) r ≡ below separator (now (message .entry)) (endedBy (among stops) (now (message .entry)) above) number ⌝ }
 {
     if number == 0 {
-        return part;
+        return above;
     }
-    part_start(message, part, stops, separator, number - 1)
+    part_start(message, above, stops, separator, number - 1)
 }
 
-// The byte that ends a level: its separator, or CR, which ends all, where the level is not split.
+// The stop that a level adds: its separator; or CR, a stop already, where the address leaves the level out.
 fn end_of(separator: u8, number: usize) -> u8
     ensures { λ r. ⌜ r ≡ endOf separator number ⌝ }
 {
@@ -110,10 +108,10 @@ fn end_in(bytes: &[u8], stops: [u8; 5]) -> usize
 }
 
 // The part that begins there and ends at the first of `stops`.
-fn part_from(message: &[u8], part: Start, stops: [u8; 5]) -> Part
-    ensures { λ r. ⌜ r ≡ endedBy (among stops) (now (message .entry)) part ⌝ }
+fn part_from(message: &[u8], begin: Start, stops: [u8; 5]) -> Part
+    ensures { λ r. ⌜ r ≡ endedBy (among stops) (now (message .entry)) begin ⌝ }
 {
-    let Start::From { start } = part else {
+    let Start::From { start } = begin else {
         return Part::Absent;
     };
     let end = start + end_in(rest_from(message, start), stops);
@@ -134,31 +132,23 @@ fn split_field(message: &[u8], field: Start, address: Address) -> Part
     let component = alphabet::byte_at(message, 4);
     let repetition = alphabet::byte_at(message, 5);
     let subcomponent = alphabet::byte_at(message, 7);
-    let second = end_of(repetition, address.repetition);
-    let third = end_of(component, address.component);
-    let fourth = end_of(subcomponent, address.subcomponent);
-    let part = start_below(
-        message,
-        field,
-        [cr, separator, cr, cr, cr],
-        repetition,
-        address.repetition,
-    );
-    let part = start_below(
-        message,
-        part,
-        [cr, separator, second, cr, cr],
-        component,
-        address.component,
-    );
-    let part = start_below(
-        message,
-        part,
-        [cr, separator, second, third, cr],
-        subcomponent,
-        address.subcomponent,
-    );
-    part_from(message, part, [cr, separator, second, third, fourth])
+    let repetition_end = end_of(repetition, address.repetition);
+    let component_end = end_of(component, address.component);
+    let subcomponent_end = end_of(subcomponent, address.subcomponent);
+    let stops = [cr, separator, cr, cr, cr];
+    let first = start_below(message, field, stops, repetition, address.repetition);
+    let stops = [cr, separator, repetition_end, cr, cr];
+    let second = start_below(message, first, stops, component, address.component);
+    let stops = [cr, separator, repetition_end, component_end, cr];
+    let third = start_below(message, second, stops, subcomponent, address.subcomponent);
+    let stops = [
+        cr,
+        separator,
+        repetition_end,
+        component_end,
+        subcomponent_end,
+    ];
+    part_from(message, third, stops)
 }
 
 // MSH-1 and MSH-2 are not split: repetition, component and subcomponent 0 or 1 give the whole, and there are no more.
@@ -170,10 +160,10 @@ fn header_element(field: Part, address: Address) -> Part
     if whole { field } else { Part::Absent }
 }
 
-// Which part of its segment a field is. MSH, the first segment, has its fields counted from the separator itself: here
-// and, for a walk along a segment, in `fields`.
+// Which part of its segment a field is. MSH, the first segment, has its fields counted from the separator itself: here,
+// and once more in `fields`.
 fn index_of(segment: usize, field: usize) -> usize
-    ensures { λ r. ⌜ r ≡ cond (eqb segment 0) (field - 1) field ⌝ }
+    ensures { λ r. ⌜ r ≡ fieldIndex segment field ⌝ }
 {
     if segment != 0 {
         return field;
@@ -181,9 +171,9 @@ fn index_of(segment: usize, field: usize) -> usize
     if field == 0 { 0 } else { field - 1 }
 }
 
-// Where an element stands, of which the segment's start is known.
+// Where an element stands. `segment` is where its segment begins.
 pub fn part_of(message: &[u8], segment: Start, address: Address) -> Part
-    requires { ⌜ endedBy (eqb carriageReturn) (now message) segment ≡ segmentAt (now message) (address .segment) ⌝ }
+    requires { ⌜ segment ≡ began (segmentAt (now message) (address .segment)) ⌝ }
     ensures { λ r. ⌜ r ≡ elementAt (now (message .entry)) address ⌝ }
 {
     if (address.segment == 0) & (address.field == 1) {

@@ -15,11 +15,9 @@ use levels::part_of;
 ghost use mathlib.Core.Path.{_≡_};
 ghost use mathlib.Core.List.{[], _∷_};
 ghost use Prim.Native.Nat.{_≤_};
-ghost use lib.Dec.{eqb};
 ghost use lib.ListN.{length};
 ghost use Rattle.alphabet.specs.Answers.{inOrder, answered};
-ghost use Rattle.alphabet.specs.Bytes.{carriageReturn};
-ghost use Rattle.alphabet.specs.Parts.{endedBy};
+ghost use Rattle.alphabet.specs.Parts.{began};
 ghost use Rattle.reading.specs.Segments.{segmentAt};
 ghost use Rattle.reading.specs.Reading.{reading};
 ghost use Rattle.element.specs.Addresses.{addressCheck};
@@ -44,7 +42,7 @@ pub struct Found {
     pub element: Element,
 }
 
-// What stands before a lookup: a reading fault, then 19 for a bad address.
+// What is asked before the segment is sought: a reading fault, then 19 for a bad address.
 fn check_question(message: &[u8], address: Address) -> Check
     ensures { λ r. ⌜ r ≡ inOrder (reading (now (message .entry)) ∷ addressCheck address ∷ []) ⌝ }
 {
@@ -55,9 +53,9 @@ fn check_question(message: &[u8], address: Address) -> Check
     check_address(address)
 }
 
-// The element at an address of a message that was read, of which the segment's start is known.
+// The element at an address of a message that was read. `segment` is where its segment begins.
 fn element_of(message: &[u8], segment: Start, address: Address) -> Element
-    requires { ⌜ (8 ≤ length (now message)) × (endedBy (eqb carriageReturn) (now message) segment ≡ segmentAt (now message) (address .segment)) ⌝ }
+    requires { ⌜ (8 ≤ length (now message)) × (segment ≡ began (segmentAt (now message) (address .segment))) ⌝ }
     ensures { λ r. ⌜ r ≡ elementOf (now (message .entry)) address ⌝ }
 {
     let part = part_of(message, segment, address);

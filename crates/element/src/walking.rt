@@ -8,11 +8,10 @@ ghost use Prim.Native.Nat.{_+_, _≤_};
 ghost use lib.Dec.{eqb};
 ghost use lib.ListN.{length};
 ghost use Rattle.alphabet.specs.Bytes.{carriageReturn};
-ghost use Rattle.alphabet.specs.Parts.{split, endedBy};
-ghost use Rattle.element.specs.Levels.{partIn};
-ghost use Rattle.element.specs.Ends.{orAt, OnTheWay};
+ghost use Rattle.alphabet.specs.Parts.{split};
+ghost use Rattle.element.specs.Ends.{StartsPart, OnTheWay};
 
-// From which field on blocks are passed over on the way to it.
+// From which part of a segment on the walk to it passes over blocks.
 const FAR: usize = 8;
 
 // How many separators a block has, one fewer than it has parts: counted in a byte and without a branch, so that the
@@ -37,14 +36,20 @@ struct Walk {
     left: usize,
 }
 
-// The walk from `start` to field `index` over whole blocks: those without CR and with fewer separators than are left.
+// The walk from `start` to part `index` over whole blocks: those without CR and with fewer separators than are left.
 fn pass_blocks(message: &[u8], start: usize, separator: u8, index: usize) -> Walk
-    requires { ⌜ (start ≤ length (now message)) × (1 ≤ index) ⌝ }
+    requires { ⌜ 1 ≤ index ⌝ }
     ensures { λ r. ⌜ OnTheWay separator (now (message .entry)) start index (r .place) (r .left) ⌝ }
 {
     let mut i = start;
     let mut left = index;
-    while BLOCK <= message.len() - i {
+    while i < message.len() {
+        if message.len() - i < BLOCK {
+            return Walk {
+                place: i,
+                left: left,
+            };
+        }
         let block = &message[i..i + BLOCK];
         if !alphabet::is_without(block, CARRIAGE_RETURN) {
             return Walk {
@@ -68,7 +73,7 @@ fn pass_blocks(message: &[u8], start: usize, separator: u8, index: usize) -> Wal
     }
 }
 
-// The beginning of that walk: fields of low numbers stand near, and no block is worth its cost there.
+// The beginning of that walk: parts of low numbers stand near, and no block is worth its cost there.
 fn begin_walk(message: &[u8], start: usize, separator: u8, index: usize) -> Walk
     requires { ⌜ 1 ≤ index ⌝ }
     ensures { λ r. ⌜ OnTheWay separator (now (message .entry)) start index (r .place) (r .left) ⌝ }
@@ -79,18 +84,12 @@ fn begin_walk(message: &[u8], start: usize, separator: u8, index: usize) -> Walk
             left: index,
         };
     }
-    if message.len() <= start {
-        return Walk {
-            place: start,
-            left: index,
-        };
-    }
     pass_blocks(message, start, separator, index)
 }
 
 // Where part `index`, from 0, of a segment begins: a field, or the name.
 pub fn field_start(message: &[u8], segment: Start, separator: u8, index: usize) -> Start
-    ensures { λ r. ⌜ endedBy (orAt separator (eqb carriageReturn)) (now (message .entry)) r ≡ partIn separator (now (message .entry)) (endedBy (eqb carriageReturn) (now (message .entry)) segment) index ⌝ }
+    ensures { λ r. ⌜ StartsPart separator (eqb carriageReturn) (now (message .entry)) segment index r ⌝ }
 {
     let Start::From { start } = segment else {
         return Start::Missing;

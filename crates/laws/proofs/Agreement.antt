@@ -24,9 +24,9 @@ use Rattle.reading.specs.Reading.{reading}
 use Rattle.reading.proofs.Accepted.{accepted}
 use Rattle.reading.proofs.SegmentLaws.{segment-bytes}
 use Rattle.reading.specs.Segments.{delimitersOf, segments, segmentAt, nameOf, name}
-use Rattle.element.specs.Levels.{between, Within, partIn, fieldIn, fixed, below, repetitionAt, componentAt, subcomponentAt, elementAt}
+use Rattle.element.specs.Levels.{between, partIn, fieldIn, fixed, below, repetitionAt, componentAt, subcomponentAt, elementAt}
 use Rattle.element.specs.Finding.{partBytes, found, elementBytes}
-use Rattle.element.proofs.LevelLaws.{in-absent, within-field, within-in, within-segment, element-split}
+use Rattle.element.proofs.LevelLaws.{Within, in-absent, within-field, within-in, within-segment, element-split}
 use Rattle.laws.specs.Elements.{address, Asks, whole-repetition, whole-component}
 use Rattle.laws.specs.Held.{HeldAgainst, RowFinds, own, other, numbersFrom, JudgedByElements}
 use Rattle.laws.proofs.ElementLaws.{absent-means, means-absent}

@@ -19,14 +19,14 @@ use Rattle.alphabet.proofs.ListLaws.{piece-of-piece, first-before, first-none}
 use Rattle.alphabet.proofs.PartLaws.{part-bytes, standing-first, standing-absent, absent-past}
 use Rattle.reading.specs.Segments.{fieldSeparator, segmentAt}
 use Rattle.element.specs.States.{blank, isEmpty, stateOf}
-use Rattle.element.specs.Levels.{between, Within, moved, partIn, fieldIn, fieldAt, below, repetitionAt, componentAt, subcomponentAt, fixed, unsplit, elementAt}
+use Rattle.element.specs.Levels.{between, moved, partIn, fieldIn, fieldAt, below, repetitionAt, componentAt, subcomponentAt, fixed, unsplit, elementAt}
 use Rattle.element.specs.declared.address.Address.{Address}
 use Rattle.element.specs.declared.states.State.{State}
 use Rattle.element.specs.declared.states.State.the-variants.{Empty, Null, Present}
 use Rattle.reading.specs.Message.{Message}
 use Rattle.laws.specs.Means.{Separator, component, subcomponent, repetition, OnlySeparators, Means, null, empty, present}
 use Rattle.laws.proofs.HeaderLaws.{first-segment}
-use Rattle.element.proofs.LevelLaws.{between-length, in-absent, within-segment, within-field, within-below}
+use Rattle.element.proofs.LevelLaws.{Within, between-length, in-absent, within-segment, within-field, within-below}
 use Rattle.element.proofs.StateLaws.{state-null, state-empty, state-present}
 
 -- ---- the states and their bytes

@@ -13,7 +13,7 @@ use Rattle.reading.specs.Message.{Message}
 use Rattle.reading.specs.Segments.{delimitersOf, segmentAt}
 use Rattle.reading.proofs.SegmentLaws.{segment-past}
 use Rattle.element.specs.Finding.{elementIn, elementOf, found, elementBytes, partBytes}
-use Rattle.element.specs.Levels.{between, Within, elementAt}
+use Rattle.element.specs.Levels.{between, elementAt}
 use Rattle.element.specs.States.{stateOf}
 use Rattle.element.specs.declared.Element.{Element}
 use Rattle.element.specs.declared.Found.{Found}
@@ -21,7 +21,7 @@ use Rattle.element.specs.declared.address.Address.{Address}
 use Rattle.element.specs.declared.states.State.{State}
 use Rattle.element.specs.declared.states.State.the-variants.{Absent as no-part}
 use Rattle.element.proofs.FindingLaws.{lookup-read, found-passes, shown}
-use Rattle.element.proofs.LevelLaws.{between-length, within-element}
+use Rattle.element.proofs.LevelLaws.{Within, between-length, within-element}
 use Rattle.laws.specs.Elements.{levels, startOf, Past, SplitFurther}
 use Rattle.laws.specs.Means.{Means, null, empty, present}
 use Rattle.laws.proofs.Asking.{answered-exactly, lookup-passes}

@@ -14,9 +14,9 @@ use Rattle.alphabet.specs.declared.parts.Part.{Part}
 use Rattle.alphabet.specs.declared.parts.Part.the-variants.{At, Absent}
 use Rattle.reading.specs.Segments.{delimitersOf, fieldSeparator, segmentAt}
 use Rattle.element.specs.Finding.{partBytes}
-use Rattle.element.specs.Levels.{Within, fixed, partIn, fieldIn, below, repetitionAt, componentAt, subcomponentAt, elementAt}
+use Rattle.element.specs.Levels.{fixed, partIn, fieldIn, below, repetitionAt, componentAt, subcomponentAt, elementAt}
 use Rattle.element.specs.declared.address.Address.{Address}
-use Rattle.element.proofs.LevelLaws.{in-absent, field-header, field-other, within-segment, within-field, within-below, element-split}
+use Rattle.element.proofs.LevelLaws.{Within, in-absent, field-header, field-other, within-segment, within-field, within-below, element-split}
 use Rattle.laws.specs.Elements.{level, segmentBytes, fieldPlace, fieldBytes, repetitionBytes, componentBytes, levels, before, beforeLevel, segmentStart, fieldStart, repetitionStart, componentStart, startOf, Past, no-field, no-repetition, no-component, no-subcomponent, SplitFurther}
 use Rattle.laws.proofs.ElementLaws.{absent-means, means-absent}
 use Rattle.laws.proofs.LevelStarts.{Begins, begins-segment, begins-in, begins-below}

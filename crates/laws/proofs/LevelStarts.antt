@@ -1,6 +1,6 @@
 -- Where a part of a part begins: behind the parts of lower number, each with its separator. Assumes nothing.
-use mathlib.Core.Path.{_≡_, refl, sym, ap, subst, _∙_}
-use mathlib.Core.Bool.{Bool}
+use mathlib.Core.Path.{_≡_, refl, sym, ap, subst}
+use mathlib.Core.Bool.{Bool, true, false, cond}
 use mathlib.Core.List.{List, [], _∷_}
 use Prim.Native.Nat.{ℕ, zero, suc, _+_, _-_}
 use native.Mathlib.Nat.{add-zero, zero-add}
@@ -9,11 +9,9 @@ use lib.Dec.{eqb}
 use lib.ListN.{length, take, length-append}
 use borrow.Author.Tests.{ne-eqb}
 use Rattle.alphabet.specs.Bytes.{carriageReturn}
-use Rattle.alphabet.specs.Parts.{split, standing, partAt, endedBy}
+use Rattle.alphabet.specs.Parts.{split, standing, partAt}
 use Rattle.alphabet.specs.declared.parts.Part.{Part}
 use Rattle.alphabet.specs.declared.parts.Part.the-variants.{At, Absent}
-use Rattle.alphabet.specs.declared.parts.Start.{Start}
-use Rattle.alphabet.specs.declared.parts.Start.the-variants.{From, Missing}
 use Rattle.reading.specs.Message.{ended}
 use Rattle.reading.specs.Segments.{segments, segmentAt}
 use Rattle.element.specs.Finding.{partBytes}
@@ -73,14 +71,3 @@ module _ (sep : ℕ) (m : List ℕ) where
   begins-below p (suc k) n h =
       let e : suc k - 1 ≡ k = omega arith in
       rw (ne-eqb (suc k) 0 (λ z. omega arith), e) (begins-in p k n h)
-
--- ---- the start of a segment, as `reading::segment_start` tells it, has no second answer
-
-one-start : (ends : ℕ → Bool) (m : List ℕ) (r s : Start) → endedBy ends m r ≡ endedBy ends m s → r ≡ s
-one-start ends m Missing Missing e = refl
-one-start ends m Missing (From a) e = absurd (let z : _≡_ {A = ℕ} 0 1 = cc in omega arith)
-one-start ends m (From a) Missing e = absurd (let z : _≡_ {A = ℕ} 0 1 = cc in omega arith)
-one-start ends m (From a) (From b) e = let q : a ≡ b = cc in ap From q
-
-pub segment-start-once : (m : List ℕ) (k : ℕ) (r s : Start) → endedBy (eqb carriageReturn) m r ≡ segmentAt m k → endedBy (eqb carriageReturn) m s ≡ segmentAt m k → r ≡ s
-segment-start-once m k r s e f = one-start (eqb carriageReturn) m r s (e ∙ sym f)

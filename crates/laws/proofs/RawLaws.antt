@@ -11,10 +11,10 @@ use Rattle.alphabet.specs.declared.parts.Part.{Part}
 use Rattle.alphabet.specs.declared.parts.Part.the-variants.{At, Absent}
 use Rattle.reading.specs.Segments.{delimitersOf, fieldSeparator, segments, segmentAt}
 use Rattle.reading.proofs.SegmentLaws.{segment-bytes, segment-past}
-use Rattle.element.specs.Levels.{between, Within, partIn, fieldIn, below, repetitionAt, componentAt, subcomponentAt, fixed, unsplit, elementAt}
+use Rattle.element.specs.Levels.{between, partIn, fieldIn, below, repetitionAt, componentAt, subcomponentAt, fixed, unsplit, elementAt}
 use Rattle.element.specs.Finding.{partBytes, rawBytes}
 use Rattle.element.specs.declared.address.Address.{Address}
-use Rattle.element.proofs.LevelLaws.{within-segment, within-field, within-in, field-header, field-other}
+use Rattle.element.proofs.LevelLaws.{Within, within-segment, within-field, within-in, field-header, field-other}
 use Rattle.laws.proofs.ElementLaws.{part-means, absent-means}
 
 -- a part's part, by its bytes

@@ -11,13 +11,13 @@ use lib.ListN.{length, getD, take, drop, length-drop}
 use lib.Seq.{length-take-le, getD-drop}
 use Rattle.alphabet.specs.Bytes.{carriageReturn}
 use Rattle.alphabet.specs.Lists.{find}
-use Rattle.alphabet.specs.Parts.{split, standing, partAt, endedBy}
+use Rattle.alphabet.specs.Parts.{split, standing, partAt, began, endedBy}
 use Rattle.alphabet.specs.declared.parts.Part.{Part}
 use Rattle.alphabet.specs.declared.parts.Part.the-variants.{At, Absent}
 use Rattle.alphabet.specs.declared.parts.Start.{Start}
 use Rattle.alphabet.specs.declared.parts.Start.the-variants.{From, Missing}
 use Rattle.alphabet.proofs.ListLaws.{first-least}
-use Rattle.alphabet.proofs.PartLaws.{split-walk, split-last, split-cons, split-some, join-split, joined-end, standing-absent, absent-past, part-bytes}
+use Rattle.alphabet.proofs.PartLaws.{split-walk, split-last, split-cons, split-some, join-split, joined-end, standing-absent, absent-past, part-bytes, part-end}
 use Rattle.reading.specs.Segments.{allButLast, segments, segmentAt}
 use Rattle.reading.specs.Reading.{segmentCheck, segmentChecks}
 use Rattle.reading.specs.Message.{ended}
@@ -53,7 +53,7 @@ but-last-absent at (p ∷ ps) k h l = let n = but-last-length p ps in standing-a
 -- ---- where segment k stands, from where part k stands
 
 module _ (m : List ℕ) (k : ℕ) where
-  pub segment-absent : partAt carriageReturn m k ≡ Absent → segmentAt m k ≡ Absent
+  segment-absent : partAt carriageReturn m k ≡ Absent → segmentAt m k ≡ Absent
   unfolding segmentAt segments partAt
   segment-absent q =
       let h = absent-past 0 (split carriageReturn m) k q in
@@ -61,7 +61,7 @@ module _ (m : List ℕ) (k : ℕ) where
 
   module _ (s e : ℕ) (q : partAt carriageReturn m k ≡ At s e) where
     -- what ends where the message ends is behind the last CR
-    pub segment-none : e ≡ length m → segmentAt m k ≡ Absent
+    segment-none : e ≡ length m → segmentAt m k ≡ Absent
     unfolding segmentAt segments partAt
     segment-none h =
         let j = ap length (join-split carriageReturn m) in
@@ -97,25 +97,36 @@ module _ (m : List ℕ) (start : ℕ) where
       let f = first-least (eqb carriageReturn) (drop start m) i (omega arith) (eq-eqb carriageReturn (getD (drop start m) i 0) (sym q)) in
       sym (lt-ltb (start + find carriageReturn (drop start m)) (length m) (omega arith))
 
--- from where part k begins
-module _ (m : List ℕ) (k : ℕ) (line : Start) (q : endedBy (eqb carriageReturn) m line ≡ partAt carriageReturn m k) where
-  pub start-none : line ≡ Missing → Absent ≡ segmentAt m k
-  start-none e = sym (segment-absent m k (sym q ∙ ap (endedBy (eqb carriageReturn) m) e))
+-- from where part k begins, and so does the segment, if it is ended
+began-absent : (p : Part) → began p ≡ Missing → p ≡ Absent
+began-absent Absent e = refl
+began-absent (At a b) e = absurd (let z : _≡_ {A = ℕ} 0 1 = cc in omega arith)
+
+module _ (m : List ℕ) (k : ℕ) (line : Start) (q : line ≡ began (partAt carriageReturn m k)) where
+  pub start-none : line ≡ Missing → Missing ≡ began (segmentAt m k)
+  start-none e = ap began (sym (segment-absent m k (began-absent (partAt carriageReturn m k) (sym q ∙ e))))
 
   module _ (s : ℕ) (e : line ≡ From s) where
     stands : partAt carriageReturn m k ≡ At s (s + find carriageReturn (drop s m))
-    stands = sym q ∙ ap (endedBy (eqb carriageReturn) m) e
+    stands = at (partAt carriageReturn m k) refl
+      where
+        at : (p : Part) → partAt carriageReturn m k ≡ p → p ≡ At s (s + find carriageReturn (drop s m))
+        at Absent r = absurd (let z : _≡_ {A = ℕ} 0 1 = cc in omega arith)
+        at (At a b) r =
+            let h : a ≡ s = cc in
+            let n = part-end carriageReturn m k a b r in
+            ap (At a) n ∙ ap (λ (x : ℕ). At x (x + find carriageReturn (drop x m))) h
 
-    pub start-open : ltb (s + find carriageReturn (drop s m)) (length m) ≡ false → Absent ≡ segmentAt m k
+    pub start-open : ltb (s + find carriageReturn (drop s m)) (length m) ≡ false → Missing ≡ began (segmentAt m k)
     start-open f =
         let n = ltb-false (s + find carriageReturn (drop s m)) (length m) f in
         let l = part-bytes carriageReturn m k s _ stands .2 in
-        sym (segment-none m k s _ stands (omega arith))
+        ap began (sym (segment-none m k s _ stands (omega arith)))
 
-    pub start-ended : ltb (s + find carriageReturn (drop s m)) (length m) ≡ true → At s (s + find carriageReturn (drop s m)) ≡ segmentAt m k
+    pub start-ended : ltb (s + find carriageReturn (drop s m)) (length m) ≡ true → From s ≡ began (segmentAt m k)
     start-ended f =
         let n = ltb-true (s + find carriageReturn (drop s m)) (length m) f in
-        sym (segment-some m k s _ stands (λ z. omega arith))
+        ap began (sym (segment-some m k s _ stands (λ z. omega arith)))
 
 -- ---- what stands at segment k
 
@@ -143,6 +154,14 @@ segment-part m k s e q = at (partAt carriageReturn m k) refl
             let n = segment-some m k a b r h in
             let g : b ≡ e = cc in
             (cc, omega arith)
+
+-- a segment ends at the first CR from its start on
+pub segment-stands : (m : List ℕ) (k : ℕ) → endedBy (eqb carriageReturn) m (began (segmentAt m k)) ≡ segmentAt m k
+segment-stands m k = at (segmentAt m k) refl
+  where
+    at : (p : Part) → segmentAt m k ≡ p → endedBy (eqb carriageReturn) m (began p) ≡ p
+    at Absent q = refl
+    at (At s e) q = ap (At s) (sym (part-end carriageReturn m k s e (segment-part m k s e q .0)))
 
 -- a part that ends before the message does is not the last
 not-last : (m : List ℕ) (k s e : ℕ) → partAt carriageReturn m k ≡ At s e → e < length m → k + 1 < length (split carriageReturn m)

@@ -4,11 +4,11 @@ use alphabet::Part;
 use alphabet::Start;
 ghost use mathlib.Core.Path.{_≡_};
 ghost use Prim.Native.Nat.{_+_};
-ghost use lib.Dec.{eqb, ltb};
+ghost use lib.Dec.{ltb};
 ghost use lib.ListN.{length, drop};
 ghost use Rattle.alphabet.specs.Bytes.{carriageReturn};
 ghost use Rattle.alphabet.specs.Lists.{find};
-ghost use Rattle.alphabet.specs.Parts.{partAt, endedBy};
+ghost use Rattle.alphabet.specs.Parts.{partAt, began};
 ghost use Rattle.reading.specs.Segments.{delimitersOf, segmentAt, nameOf};
 
 // Bytes 3 to 7; 0 stands for a byte that is not there, and 0 is no delimiter.
@@ -36,9 +36,9 @@ pub fn segment_end(message: &[u8], start: usize) -> usize
     start + alphabet::find_far(&message[start..], alphabet::CARRIAGE_RETURN)
 }
 
-// Where the part of the given index, from 0, begins at CR; each CR is sought as what stands far off.
+// Where the part of the given index, from 0, of the bytes split at CR begins; each CR is sought as what stands far off.
 fn line_start(message: &[u8], index: usize) -> Start
-    ensures { λ r. ⌜ endedBy (eqb carriageReturn) (now (message .entry)) r ≡ partAt carriageReturn (now (message .entry)) index ⌝ }
+    ensures { λ r. ⌜ r ≡ began (partAt carriageReturn (now (message .entry)) index) ⌝ }
 {
     let mut begin = 0;
     let mut passed = 0;
@@ -53,7 +53,7 @@ fn line_start(message: &[u8], index: usize) -> Start
     Start::From { start: begin }
 }
 
-// Whether a CR stands at `start` or behind. Each message that can be read ends in CR, and then none is sought.
+// Whether a CR stands at `start` or behind. A message that was read ends in CR: its last byte tells, and none is sought.
 fn is_ended(message: &[u8], start: usize) -> bool
     ensures { λ r. ⌜ r ≡ ltb (start + find carriageReturn (drop start (now (message .entry)))) (length (now (message .entry))) ⌝ }
 {
@@ -68,7 +68,7 @@ fn is_ended(message: &[u8], start: usize) -> bool
 
 // Where the segment of the given index, from 0, begins. What stands behind the last CR is no segment.
 pub fn segment_start(message: &[u8], index: usize) -> Start
-    ensures { λ r. ⌜ endedBy (eqb carriageReturn) (now (message .entry)) r ≡ segmentAt (now (message .entry)) index ⌝ }
+    ensures { λ r. ⌜ r ≡ began (segmentAt (now (message .entry)) index) ⌝ }
 {
     let line = line_start(message, index);
     let Start::From { start } = line else {

@@ -19,11 +19,11 @@ returns c =
     let a = c .before .before .before .args in
     sym (in-absent (a .separator) (now (a .message)) _ (a .index) (ap (endedBy (among (a .stops)) (now (a .message))) (c .enum-told .given .1)))
 
-add-further : tie.Need-add-t11
-add-further c =
+add-begin : tie.Need-add-begin
+add-begin c =
     let rest = c .before .before .before .before in
     let a = c .before .before .before .before .before .before .before .before .before .args in
-    let s = c .before .before .before .before .before .before .part .given .0 .0 in
+    let s = c .before .before .before .before .before .before .above .given .0 .0 in
     let e = rest .rest-from .ensures in
     let u = start-within (a .separator) _ (among (a .stops)) (a .index) _ _ (sym (ap (endedBy (orAt (a .separator) (among (a .stops))) _) (c .before .found .given .1)) ∙ c .before .before .before .start-in .ensures) in
     let n = length-drop s (now (a .message)) in
@@ -35,7 +35,7 @@ returns-2 c =
     let rest = c .before .before .before .before .rest-from .ensures in
     let a = c .before .before .before .before .before .before .before .before .before .args in
     let m = now (a .message) in
-    let g = c .before .before .before .before .before .before .part .given in
+    let g = c .before .before .before .before .before .before .above .given in
     let f = c .before .found .given in
     let ends = orAt (a .separator) (among (a .stops)) in
     ended-moved m (g .0 .0) _ rest ends (f .0 .0)
@@ -48,7 +48,7 @@ returns-3 c =
     let rest = c .before .before .before .rest-from .ensures in
     let a = c .before .before .before .before .before .before .before .before .args in
     let m = now (a .message) in
-    let g = c .before .before .before .before .before .part .given in
+    let g = c .before .before .before .before .before .above .given in
     ap (moved (g .0 .0)) (sym (ap (endedBy (orAt (a .separator) (among (a .stops))) _) (c .enum-told2 .given .1)) ∙ c .before .before .start-in .ensures)
     ∙ part-moved m (g .0 .0) _ rest (among (a .stops)) (a .separator) (a .index)
     ∙ ap (λ (p : Start). partIn (a .separator) m (endedBy (among (a .stops)) m p) (a .index)) (sym (g .1))
@@ -63,7 +63,7 @@ part-start-spec =
     (λ c κs. search needs)
     (λ c κs. search needs)
     (λ c. search needs)
-    add-further
+    add-begin
     (λ c. search needs)
     returns-2
     returns-3)

@@ -8,7 +8,8 @@ use native.Mathlib.Omega.{arith}
 use denote.Ref.{now}
 use Rattle.alphabet.specs.Parts.{split}
 use Rattle.alphabet.proofs.ListLaws.{drop-next}
-use Rattle.element.proofs.StartLaws.{count-none, count-at, count-past}
+use Rattle.alphabet.proofs.PartLaws.{split-nothing}
+use Rattle.element.proofs.StartLaws.{count-at, count-past}
 use Rattle.element.proofs.walking.separators_in.Statement.{statement}
 use Rattle.element.proofs.walking.separators_in.Tie as tie
 
@@ -50,7 +51,7 @@ returns c =
     let l = c .before in
     let a = l .before .args in
     let h : length (now (a .block)) ≤ l .loop .i = omega arith in
-    let z = ap (λ (x : List ℕ). length (split (a .separator) x)) (drop-of-length-le (now (a .block)) h) ∙ count-none (a .separator) in
+    let z = ap (λ (x : List ℕ). length (split (a .separator) x)) (drop-of-length-le (now (a .block)) h) ∙ ap length (split-nothing (a .separator)) in
     omega arith
 
 pub separators-in-spec : {M : Type 1} → statement M

@@ -7,7 +7,7 @@ use borrow.Author.Needs.{needs}
 use denote.Ref.{now}
 use Rattle.alphabet.specs.Bytes.{carriageReturn}
 use Rattle.alphabet.specs.Lists.{find}
-use Rattle.alphabet.specs.Parts.{split, standing, partAt}
+use Rattle.alphabet.specs.Parts.{split, standing, partAt, began}
 use Rattle.alphabet.proofs.PartLaws.{standing-first, standing-walk, standing-none}
 use Rattle.reading.proofs.segments.line_start.Statement.{statement}
 use Rattle.reading.proofs.segments.line_start.Tie as tie
@@ -32,7 +32,7 @@ returns c =
     let n : a .index - l .loop .passed ≡ (a .index - l .loop .passed - 1) + 1 = omega arith in
     let e = c .before .segment-end .ensures in
     let d = length-drop (l .loop .begin) (now (a .message)) in
-    sym (l .loop .inv .3 ∙ ap (standing (l .loop .begin) (split carriageReturn r)) n ∙ standing-none carriageReturn (l .loop .begin) r (a .index - l .loop .passed - 1) (omega arith))
+    ap began (sym (l .loop .inv .3 ∙ ap (standing (l .loop .begin) (split carriageReturn r)) n ∙ standing-none carriageReturn (l .loop .begin) r (a .index - l .loop .passed - 1) (omega arith)))
 
 loop-again : tie.Need-loop-again Inv-loop μ-loop
 loop-again c =
@@ -58,7 +58,7 @@ returns-2 c =
     let a = l .before .before .args in
     let r = drop (l .loop .begin) (now (a .message)) in
     let n : a .index - l .loop .passed ≡ 0 = omega arith in
-    sym (l .loop .inv .3 ∙ ap (standing (l .loop .begin) (split carriageReturn r)) n ∙ standing-first carriageReturn (l .loop .begin) r)
+    ap began (sym (l .loop .inv .3 ∙ ap (standing (l .loop .begin) (split carriageReturn r)) n ∙ standing-first carriageReturn (l .loop .begin) r))
 
 pub line-start-spec : {M : Type 1} → statement M
 line-start-spec =
