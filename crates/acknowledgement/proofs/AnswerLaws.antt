@@ -1,7 +1,7 @@
 -- What holds of every answer: that no second one meets the contract, and demand 2 of each acknowledgement that is written. Assumes nothing.
-use mathlib.Core.Path.{_≡_, refl, sym, ap, ap₂, _∙_, subst}
+use mathlib.Core.Path.{_≡_, refl, sym, ap, _∙_, subst}
 use mathlib.Core.Bool.{Bool, true, false, cond, not, _&&_}
-use mathlib.Core.List.{List}
+use mathlib.Core.List.{List, [], _++_}
 use Prim.Native.Nat.{ℕ, _≤_}
 use native.Mathlib.Omega.{arith}
 use lib.Dec.{leb}
@@ -20,16 +20,21 @@ use Rattle.acknowledgement.specs.Acknowledgement.Acknowledges.{not-writt
 use Rattle.verdict.specs.Verdicts.{Verdicts}
 use Rattle.fault.specs.declared.FaultRecord.{FaultRecord}
 use Rattle.verdict.proofs.VerdictLaws.{one-verdict}
+use Rattle.reading.specs.Message.{ended}
+use Rattle.error_segment.specs.Errors.{errorLines}
+use Rattle.acknowledgement.proofs.PieceLaws.{lines-behind}
 use Rattle.acknowledgement_code.specs.Codes.{codeOf}
 use Rattle.acknowledgement_code.specs.declared.Code.{Code}
 
 module _ (m time id lent : List ℕ) where
-  -- the contract, from what the writer gives of the header that was taken and of the code that was chosen
-  pub meets : (h : List ℕ) (code : Code) (found : FaultRecord) (r : Answer) (x : List ℕ) → refusing m time id ≡ None → Verdicts m found → h ≡ header m → code ≡ codeOf found
-      → r ≡ answer (roomy (length lent) (acknowledgement h time id code)) → x ≡ filled (roomy (length lent) (acknowledgement h time id code)) lent
+  -- the contract, from what the writer gives of the header that was taken, of the code that was chosen and of the lines behind MSA
+  pub meets : (h e : List ℕ) (code : Code) (found : FaultRecord) (r : Answer) (x : List ℕ) → refusing m time id ≡ None → Verdicts m found → h ≡ header m → code ≡ codeOf found → e ≡ ended (errorLines m found)
+      → r ≡ answer (roomy (length lent) (acknowledgement h time id code [] ++ e)) → x ≡ filled (roomy (length lent) (acknowledgement h time id code [] ++ e)) lent
       → Acknowledges m time id lent r x
-  meets h code found r x n v e k a f =
-      let o = ap₂ (λ (z : List ℕ) (c : Code). roomy (length lent) (acknowledgement z time id c)) e k in
+  meets h e code found r x n v q k l a f =
+      let w : acknowledgement h time id code [] ++ e ≡ answerTo m time id found =
+      (λ i. acknowledgement (q i) time id (k i) [] ++ l i) ∙ lines-behind (header m) time id (codeOf found) (errorLines m found) in
+      let o = ap (roomy (length lent)) w in
       subst (λ (y : Answer). Acknowledges m time id lent y x) (sym (a ∙ ap answer o))
       (subst (λ (y : List ℕ). Acknowledges m time id lent (answer (roomy (length lent) (answerTo m time id found))) y) (sym (f ∙ ap (λ (y : Outcome). filled y lent) o))
       (written n found v))

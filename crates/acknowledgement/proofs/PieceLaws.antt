@@ -1,15 +1,12 @@
--- Laws of pieces that stand one behind another, and that the pieces of an acknowledgement together are it. Assumes nothing.
+-- Laws of the pieces of an acknowledgement, of their room, and that together they are it. Assumes nothing.
 use mathlib.Core.Path.{_≡_, refl, sym, ap, _∙_}
 use mathlib.Core.Bool.{Bool, true, false, cond, _&&_}
-use mathlib.Core.List.{List, [], _∷_, _++_, map, append-assoc}
+use mathlib.Core.List.{List, [], _∷_, _++_, append-assoc, append-nil}
 use Prim.Native.Nat.{ℕ, _+_, _≤_, _<_}
-use native.Mathlib.Numerals.{add-one}
 use native.Mathlib.Omega.{arith}
-use lib.ListN.{length, getD, take, drop, length-append, drop-of-length-le}
+use lib.ListN.{length, getD, take, drop}
 use lib.Dec.{leb, ltb, eqb}
-use lib.Seq.{drop-cons}
 use borrow.Author.Tests.{eqb-true, ne-eqb, ltb-true, ltb-false, le-leb, lt-leb}
-use denote.Ref.{RefT, now}
 use Rattle.alphabet.proofs.BoolLaws.{false-true, and-both}
 use Rattle.alphabet.proofs.LimitLaws.{id-limit-small}
 use Rattle.alphabet.proofs.ListLaws.{drop-next}
@@ -28,32 +25,10 @@ use Rattle.escaping.specs.Outcomes.{text, fault}
 use Rattle.escaping.specs.Outcomes.{escaping}
 use Rattle.escaping.proofs.OutcomeLaws.{escape-most, escaping-fits}
 use Rattle.acknowledgement.specs.Acknowledgement.{sent, typePart, present, encoding, typeSent, version, headerParts, answerParts, acknowledgement, roomy}
-use Rattle.acknowledgement.specs.Pieces.{together, least, eventMark, event, fixedText, pieces}
+use Rattle.together.specs.Together.{together}
+use Rattle.acknowledgement.specs.Pieces.{least, eventMark, event, fixedText, pieces}
 use Rattle.acknowledgement_code.specs.declared.Code.{Code}
 use Rattle.acknowledgement_code.specs.declared.Code.the-variants.{Accept, Error, Reject}
-
--- ---- pieces that are references, as a loop goes over them
-
-abbrev Piece : Type 0
-Piece = RefT (List ℕ)
-
--- what stands for a piece past the last
-abbrev pub none : Piece
-none = record { ptr = (0, 0); name = 0; now = [] }
-
-abbrev pub bytes : List Piece → List ℕ
-bytes l = together (map now l)
-
-pub pieces-next : (l : List Piece) (i : ℕ) → i < length l → bytes (drop i l) ≡ now (getD l i none) ++ bytes (drop (i + 1) l)
-unfolding together
-pieces-next l i h = rw (add-one, drop-cons l i none h)
-
-pub pieces-end : (l : List Piece) (i : ℕ) → length l ≤ i → bytes (drop i l) ≡ []
-unfolding together
-pieces-end l i h = ap bytes (drop-of-length-le l h)
-
-pub count-next : (l : List Piece) (i : ℕ) → i < length l → length (bytes (drop i l)) ≡ length (now (getD l i none)) + length (bytes (drop (i + 1) l))
-count-next l i h = ap length (pieces-next l i h) ∙ length-append (now (getD l i none)) (bytes (drop (i + 1) l))
 
 -- ---- parts of the header
 
@@ -143,31 +118,42 @@ module _ (h time id : List ℕ) where
   abbrev names : List ℕ → List ℕ
   names z = sep ∷ (sent h 5 ++ sep ∷ (sent h 6 ++ sep ∷ (sent h 3 ++ sep ∷ (sent h 4 ++ sep ∷ (time ++ sep ∷ sep ∷ z)))))
 
-  -- what stands behind the type
-  abbrev second : Code → List ℕ
-  second code = spread sep (answerParts h code) (carriageReturn ∷ [])
+  -- what stands behind the type, with e behind MSA
+  abbrev second : Code → List ℕ → List ℕ
+  second code e = spread sep (answerParts h code) (carriageReturn ∷ e)
 
-  abbrev rest : Code → List ℕ
-  rest code = sep ∷ (escape (delimitersOf h) id ++ sep ∷ (sent h 11 ++ sep ∷ (version ++ carriageReturn ∷ second code)))
+  abbrev rest : Code → List ℕ → List ℕ
+  rest code e = sep ∷ (escape (delimitersOf h) id ++ sep ∷ (sent h 11 ++ sep ∷ (version ++ carriageReturn ∷ second code e)))
 
-  spread-is : (code : Code) → spread sep (headerParts h time id) (carriageReturn ∷ second code) ≡ acknowledgement h time id code
+  spread-is : (code : Code) (e : List ℕ) → spread sep (headerParts h time id) (carriageReturn ∷ second code e) ≡ acknowledgement h time id code [] ++ e
   unfolding acknowledgement ended
-  spread-is code =
+  spread-is code e =
       sym
-      (join-spread sep (headerParts h time id) _
-      ∙ ap (λ (z : List ℕ). spread sep (headerParts h time id) (carriageReturn ∷ z)) (join-spread sep (answerParts h code) (carriageReturn ∷ [])))
+      (append-assoc (join sep (headerParts h time id)) (carriageReturn ∷ (join sep (answerParts h code) ++ (carriageReturn ∷ []))) e
+      ∙ join-spread sep (headerParts h time id) _
+      ∙ ap (λ (z : List ℕ). spread sep (headerParts h time id) (carriageReturn ∷ z))
+      (append-assoc (join sep (answerParts h code)) (carriageReturn ∷ []) e ∙ join-spread sep (answerParts h code) (carriageReturn ∷ e)))
 
   -- the pieces one behind another, with the fixed texts where they stand
-  cut : (code : Code) → together (pieces h time (escape (delimitersOf h) id) (fixedText code)) ≡ take 8 h ++ names (ascii "ACK" ++ (eventMark h (event h) ++ (event h ++ rest code)))
+  cut : (code : Code) (e : List ℕ)
+      → together (pieces h time (escape (delimitersOf h) id) (fixedText code) e) ≡ take 8 h ++ names (ascii "ACK" ++ (eventMark h (event h) ++ (event h ++ rest code (e ++ []))))
   unfolding together pieces answerParts spread
-  cut Accept = refl
-  cut Error = refl
-  cut Reject = refl
+  cut Accept e = refl
+  cut Error e = refl
+  cut Reject e = refl
 
-  pub pieces-together : (code : Code) → 8 ≤ length h → isHeader h ≡ true → together (pieces h time (escape (delimitersOf h) id) (fixedText code)) ≡ acknowledgement h time id code
+  pub pieces-together : (code : Code) (e : List ℕ) → 8 ≤ length h → isHeader h ≡ true
+      → together (pieces h time (escape (delimitersOf h) id) (fixedText code) e) ≡ acknowledgement h time id code [] ++ e
   unfolding headerParts typeSent spread
-  pieces-together code l is =
-      cut code
-      ∙ ap (λ (z : List ℕ). z ++ names (ascii "ACK" ++ (eventMark h (event h) ++ (event h ++ rest code)))) (front-bytes h l is)
-      ∙ ap (λ (z : List ℕ). (ascii "MSH" ++ sep ∷ encoding h) ++ names (ascii "ACK" ++ z)) (event-whole h (rest code))
-      ∙ spread-is code
+  pieces-together code e l is =
+      cut code e
+      ∙ ap (λ (z : List ℕ). z ++ names (ascii "ACK" ++ (eventMark h (event h) ++ (event h ++ rest code (e ++ []))))) (front-bytes h l is)
+      ∙ ap (λ (z : List ℕ). (ascii "MSH" ++ sep ∷ encoding h) ++ names (ascii "ACK" ++ z)) (event-whole h (rest code (e ++ [])))
+      ∙ spread-is code (e ++ []) ∙ ap (λ (z : List ℕ). acknowledgement h time id code [] ++ z) (append-nil e)
+
+  -- lines behind MSA stand behind what is written without them
+  pub lines-behind : (code : Code) (es : List (List ℕ)) → acknowledgement h time id code [] ++ ended es ≡ acknowledgement h time id code es
+  unfolding acknowledgement ended
+  lines-behind code es =
+      append-assoc (join sep (headerParts h time id)) (carriageReturn ∷ (join sep (answerParts h code) ++ (carriageReturn ∷ []))) (ended es)
+      ∙ ap (λ (z : List ℕ). join sep (headerParts h time id) ++ (carriageReturn ∷ z)) (append-assoc (join sep (answerParts h code)) (carriageReturn ∷ []) (ended es))

@@ -1,5 +1,5 @@
--- The acknowledgement, by document 01, 'The acknowledgement', as a list of bytes that is put together of parts; and
--- when it is refused.
+-- The acknowledgement, by document 01, 'The acknowledgement', and document 02, W4, as a list of bytes that is put
+-- together of parts; and when it is refused.
 use Prim.Native.Nat.{ℕ, _+_}
 use mathlib.Core.Path.{_≡_}
 use mathlib.Core.List.{List, [], _∷_, _++_}
@@ -30,6 +30,7 @@ use Rattle.verdict.specs.Verdicts.{Verdicts}
 use Rattle.fault.specs.declared.FaultRecord.{FaultRecord}
 use Rattle.acknowledgement_code.specs.Codes.{codeOf, lettersOf}
 use Rattle.acknowledgement_code.specs.declared.Code.{Code}
+use Rattle.error_segment.specs.Errors.{errorLines}
 
 -- ---- the sender's header
 
@@ -78,10 +79,10 @@ headerParts h time id =
 unfoldable pub answerParts : List ℕ → Code → List (List ℕ)
 answerParts h letters = ascii "MSA" ∷ lettersOf letters ∷ sent h 10 ∷ []
 
--- the two segments, each ended by CR
-unfoldable pub acknowledgement : List ℕ → List ℕ → List ℕ → Code → List ℕ
-acknowledgement h time id letters =
-    ended (join (fieldSeparator h) (headerParts h time id) ∷ join (fieldSeparator h) (answerParts h letters) ∷ [])
+-- the two segments, and those behind them, each ended by CR
+unfoldable pub acknowledgement : (h time id : List ℕ) → Code → (errors : List (List ℕ)) → List ℕ
+acknowledgement h time id letters errors =
+    ended (join (fieldSeparator h) (headerParts h time id) ∷ join (fieldSeparator h) (answerParts h letters) ∷ errors)
 
 -- ---- the refusals
 
@@ -116,9 +117,9 @@ refusing m time id =
 
 -- ---- what is answered
 
--- the acknowledgement of a message, by the verdict on it
+-- the acknowledgement of a message, by the verdict on it: "an ERR segment after MSA when we answer AE or AR"
 abbrev pub answerTo : List ℕ → List ℕ → List ℕ → FaultRecord → List ℕ
-answerTo m time id r = acknowledgement (header m) time id (codeOf r)
+answerTo m time id r = acknowledgement (header m) time id (codeOf r) (errorLines m r)
 
 -- the answer, and what is left in the buffer that was lent: a refusal gives number and place 0, length 0, and writes
 -- nothing; what is written "fills the front of the buffer, its length is given, the bytes behind it stay"

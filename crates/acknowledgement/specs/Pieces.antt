@@ -11,11 +11,6 @@ use Rattle.acknowledgement.specs.Acknowledgement.{sent, typePart, presen
 use Rattle.acknowledgement_code.specs.Codes.{lettersOf}
 use Rattle.acknowledgement_code.specs.declared.Code.{Code}
 
--- pieces one behind another
-unfoldable pub together : List (List ℕ) → List ℕ
-together [] = []
-together (p ∷ ps) = p ++ together ps
-
 -- the smaller of two lengths
 abbrev pub least : ℕ → ℕ → ℕ
 least a b = cond (ltb a b) a b
@@ -35,11 +30,13 @@ mark h = fieldSeparator h ∷ []
 abbrev pub fixedText : Code → List ℕ
 fixedText code = ascii "ACK" ++ version ++ ascii "MSA" ++ lettersOf code ++ (carriageReturn ∷ [])
 
--- the pieces of MSH and those of MSA, the fixed texts being cut out of one; id is escaped already
-unfoldable pub pieces : (h time id fixed : List ℕ) → List (List ℕ)
-pieces h time id fixed =
+-- the pieces of MSH and those of MSA, the fixed texts being cut out of one, and what stands behind them; id is escaped
+-- already
+unfoldable pub pieces : (h time id fixed errors : List ℕ) → List (List ℕ)
+pieces h time id fixed errors =
     take 8 h
     ∷ mark h ∷ sent h 5 ∷ mark h ∷ sent h 6 ∷ mark h ∷ sent h 3 ∷ mark h ∷ sent h 4
     ∷ mark h ∷ time ∷ mark h ∷ mark h ∷ take 3 fixed ∷ eventMark h (event h) ∷ event h
     ∷ mark h ∷ id ∷ mark h ∷ sent h 11 ∷ mark h ∷ take 3 (drop 3 fixed) ∷ take 1 (drop 11 fixed)
-    ∷ take 3 (drop 6 fixed) ∷ mark h ∷ take 2 (drop 9 fixed) ∷ mark h ∷ sent h 10 ∷ take 1 (drop 11 fixed) ∷ []
+    ∷ take 3 (drop 6 fixed) ∷ mark h ∷ take 2 (drop 9 fixed) ∷ mark h ∷ sent h 10 ∷ take 1 (drop 11 fixed)
+    ∷ errors ∷ []

@@ -7,6 +7,7 @@ use acknowledgement_code::code_of;
 use alphabet::Answer;
 use alphabet::Refusal;
 ghost use mathlib.Core.Path.{_≡_};
+ghost use lib.ListN.{length};
 ghost use Rattle.acknowledgement.specs.Acknowledgement.{badId, refusing, Acknowledges};
 
 // Whether the caller's ID is too short or too long.
@@ -34,8 +35,15 @@ fn refusal_of(message: &[u8], time: &[u8], id: &[u8]) -> Refusal
     Refusal::None
 }
 
+// A buffer for the ERR segment. By a call of its own it is no list of so many bytes in the caller's proof.
+fn error_buffer() -> [u8; 80]
+    ensures { λ r. ⌜ length r ≡ 80 ⌝ }
+{
+    [0; 80]
+}
+
 // Writes the acknowledgement of a message to the front of the buffer: with the caller's time and his ID, and the code
-// by the verdict.
+// and the ERR segment by the verdict.
 pub fn acknowledge<'a>(message: &'a [u8], time: &'a [u8], id: &[u8], buffer: &mut [u8]) -> Answer
     ensures { λ r. ⌜ Acknowledges (now (message .entry)) (now (time .entry)) (now (id .entry)) (now (buffer .entry)) r
         (now (buffer .exit)) ⌝ }
@@ -49,5 +57,14 @@ pub fn acknowledge<'a>(message: &'a [u8], time: &'a [u8], id: &[u8], buffer: &mu
         };
     }
     let found = verdict::verdict(message);
-    write(header_of(message), time, id, code_of(found), buffer)
+    let mut line = error_buffer();
+    let n = error_segment::error_line(message, found, &mut line);
+    write(
+        header_of(message),
+        time,
+        id,
+        code_of(found),
+        &line[..n],
+        buffer,
+    )
 }

@@ -1,7 +1,7 @@
-// An acknowledgement as pieces that stand one behind another: bytes of the sender's header, bytes of the caller's, and
-// fixed texts. All are measured before the first is written, so that one that does not fit writes nothing. The pieces
-// share a lifetime, so that one array can hold them; the fixed texts are handed down as one, since a text of a
-// function's own ends with the function.
+// An acknowledgement as pieces that stand one behind another: bytes of the sender's header, bytes of the caller's, fixed
+// texts, and the segments behind MSA. All are measured before the first is written, so that one that does not fit writes
+// nothing. The pieces share a lifetime, so that one array can hold them; the fixed texts are handed down as one, since a
+// text of a function's own ends with the function.
 use crate::sender::field_of;
 use crate::sender::is_present;
 use crate::sender::type_part;
@@ -13,46 +13,14 @@ ghost use mathlib.Core.Path.{_≡_};
 ghost use Rattle.alphabet.specs.Delimiters.{firstWrongDelimiter};
 ghost use Rattle.alphabet.specs.Limits.{idLimit};
 ghost use mathlib.Core.Bool.{true};
-ghost use mathlib.Core.List.{map};
+ghost use mathlib.Core.List.{[], _++_, map};
 ghost use Prim.Native.Nat.{_≤_};
 ghost use lib.ListN.{length};
-ghost use Rattle.alphabet.specs.Filling.{over};
 ghost use Rattle.reading.specs.Segments.{isHeader, delimitersOf};
-ghost use Rattle.escaping.specs.Outcomes.{roomFor, answer, filled};
+ghost use Rattle.escaping.specs.Outcomes.{answer, filled};
 ghost use Rattle.acknowledgement.specs.Acknowledgement.{roomy, acknowledgement};
-ghost use Rattle.acknowledgement.specs.Pieces.{together, least, eventMark, event, fixedText, pieces};
-
-// The length of all pieces, where that is at most `room`. It is counted against the room, since a sum of lengths need
-// not be a usize.
-fn measure(pieces: &[&[u8]], room: usize) -> Room
-    ensures { λ r. ⌜ r ≡ roomFor room (length (together (map now (now (pieces .entry))))) ⌝ }
-{
-    let mut n = 0;
-    let mut i = 0;
-    while i < pieces.len() {
-        let piece = pieces[i];
-        if room - n < piece.len() {
-            return Room::Short;
-        }
-        n += piece.len();
-        i += 1;
-    }
-    Room::Takes(n)
-}
-
-// Writes all pieces to the front of the buffer.
-fn put_pieces(pieces: &[&[u8]], buffer: &mut [u8])
-    requires { ⌜ length (together (map now (now pieces))) ≤ length (now buffer) ⌝ }
-    ensures { λ _. ⌜ now (buffer .exit) ≡ over (together (map now (now (pieces .entry)))) (now (buffer .entry)) ⌝ }
-{
-    let mut place = 0;
-    let mut i = 0;
-    while i < pieces.len() {
-        let piece = pieces[i];
-        place = alphabet::put(buffer, place, piece);
-        i += 1;
-    }
-}
+ghost use Rattle.together.specs.Together.{together};
+ghost use Rattle.acknowledgement.specs.Pieces.{least, eventMark, event, fixedText, pieces};
 
 // The event of the sender's type; none where it is not present.
 fn event_of<'a>(header: &'a [u8]) -> &'a [u8]
@@ -76,13 +44,20 @@ fn event_mark<'a>(header: &'a [u8], event: &[u8]) -> &'a [u8]
     &header[4..5]
 }
 
-// All pieces, in order: MSH with its twelve fields, then MSA. MSH and the delimiters are the front of the sender's
-// header.
-fn pieces_of<'a>(header: &'a [u8], time: &'a [u8], id: &'a [u8], fixed: &'a [u8]) -> [&'a [u8]; 29]
+// All pieces, in order: MSH with its twelve fields, MSA, and what stands behind it. MSH and the delimiters are the front
+// of the sender's header.
+fn pieces_of<'a>(
+    header: &'a [u8],
+    time: &'a [u8],
+    id: &'a [u8],
+    fixed: &'a [u8],
+    errors: &'a [u8],
+) -> [&'a [u8]; 30]
     requires { ⌜ 8 ≤ length (now header) ⌝ }
     requires { ⌜ 12 ≤ length (now fixed) ⌝ }
     ensures { λ r. ⌜ map now r
-        ≡ pieces (now (header .entry)) (now (time .entry)) (now (id .entry)) (now (fixed .entry)) ⌝ }
+        ≡ pieces (now (header .entry)) (now (time .entry)) (now (id .entry)) (now (fixed .entry))
+        (now (errors .entry)) ⌝ }
 {
     let front = &header[..8];
     let mark = &header[3..4];
@@ -129,6 +104,7 @@ fn pieces_of<'a>(header: &'a [u8], time: &'a [u8], id: &'a [u8], fixed: &'a [u8]
         mark,
         ten,
         end,
+        errors,
     ]
 }
 
@@ -148,21 +124,23 @@ fn write_pieces<'a>(
     time: &'a [u8],
     id: &'a [u8],
     fixed: &'a [u8],
+    errors: &'a [u8],
     buffer: &mut [u8],
 ) -> Answer
     requires { ⌜ 8 ≤ length (now header) ⌝ }
     requires { ⌜ 12 ≤ length (now fixed) ⌝ }
     ensures { λ r. ⌜ r ≡ answer
         (roomy (length (now (buffer .entry)))
-        (together (pieces (now (header .entry)) (now (time .entry)) (now (id .entry)) (now (fixed .entry))))) ⌝ }
+        (together (pieces (now (header .entry)) (now (time .entry)) (now (id .entry)) (now (fixed .entry))
+        (now (errors .entry))))) ⌝ }
     ensures { λ _. ⌜ now (buffer .exit)
         ≡ filled (roomy (length (now (buffer .entry)))
-        (together (pieces (now (header .entry)) (now (time .entry)) (now (id .entry)) (now (fixed .entry)))))
-        (now (buffer .entry)) ⌝ }
+        (together (pieces (now (header .entry)) (now (time .entry)) (now (id .entry)) (now (fixed .entry))
+        (now (errors .entry))))) (now (buffer .entry)) ⌝ }
 {
-    let pieces = pieces_of(header, time, id, fixed);
+    let pieces = pieces_of(header, time, id, fixed, errors);
     let room = smaller(buffer.len(), alphabet::message_limit());
-    let size = measure(&pieces, room);
+    let size = together::measure(&pieces, room);
     match size {
         Room::Short => Answer {
             kind: Refusal::AcknowledgementTooLong,
@@ -170,7 +148,7 @@ fn write_pieces<'a>(
             length: 0,
         },
         Room::Takes(n) => {
-            put_pieces(&pieces, buffer);
+            together::put(&pieces, buffer);
             Answer {
                 kind: Refusal::None,
                 place: 0,
@@ -199,12 +177,13 @@ fn id_buffer() -> [u8; 1000]
     [0; 1000]
 }
 
-// Writes an acknowledgement to the front of the buffer.
+// Writes an acknowledgement, with the segments behind MSA, to the front of the buffer.
 pub fn write<'a>(
     header: &'a [u8],
     time: &'a [u8],
     id: &[u8],
     code: Code,
+    errors: &'a [u8],
     buffer: &mut [u8],
 ) -> Answer
     requires { ⌜ 8 ≤ length (now header) ⌝ }
@@ -213,15 +192,16 @@ pub fn write<'a>(
     requires { ⌜ length (now id) ≤ idLimit ⌝ }
     ensures { λ r. ⌜ r ≡ answer
         (roomy (length (now (buffer .entry)))
-        (acknowledgement (now (header .entry)) (now (time .entry)) (now (id .entry)) code)) ⌝ }
+        (acknowledgement (now (header .entry)) (now (time .entry)) (now (id .entry)) code [] ++ now (errors .entry))) ⌝ }
     ensures { λ _. ⌜ now (buffer .exit)
         ≡ filled (roomy (length (now (buffer .entry)))
-        (acknowledgement (now (header .entry)) (now (time .entry)) (now (id .entry)) code)) (now (buffer .entry)) ⌝ }
+        (acknowledgement (now (header .entry)) (now (time .entry)) (now (id .entry)) code [] ++ now (errors .entry)))
+        (now (buffer .entry)) ⌝ }
 {
     let delimiters = reading::delimiters_of(header);
     let mut escaped = id_buffer();
     let written = escaping::escape(delimiters, id, &mut escaped);
     let n = written.length;
     let fixed = fixed_text(code);
-    write_pieces(header, time, &escaped[..n], &fixed, buffer)
+    write_pieces(header, time, &escaped[..n], &fixed, errors, buffer)
 }

@@ -3,10 +3,10 @@ use Prim.Native.Nat.{_≤_}
 use lib.Dec.{lit≤}
 use Rattle.alphabet.specs.Limits.{segmentLimit, idLimit}
 
--- an acknowledgement has two segments
-pub segment-limit-two : 2 ≤ segmentLimit
+-- an acknowledgement has two segments or three
+pub segment-limit-three : 3 ≤ segmentLimit
 unfolding segmentLimit
-segment-limit-two = lit≤ tt
+segment-limit-three = lit≤ tt
 
 -- an ID that is escaped byte by byte, five for one, goes into a buffer of a thousand
 pub id-limit-small : idLimit ≤ 200

@@ -3,7 +3,7 @@
 use mathlib.Core.Path.{_≡_, refl, sym, ap, ap₂, _∙_, subst}
 use mathlib.Core.Logic.{_↔_}
 use mathlib.Core.Bool.{Bool, true, false, cond, not, _&&_, _||_}
-use mathlib.Core.List.{List, [], _∷_, _++_}
+use mathlib.Core.List.{List, [], _∷_, _++_, map}
 use Prim.Native.Nat.{ℕ, _+_, _-_, _≤_, _<_}
 use native.Mathlib.Nat.{zero-add, sub-zero}
 use native.Mathlib.Omega.{arith}
@@ -21,7 +21,7 @@ use Rattle.alphabet.specs.Parts.{split}
 use Rattle.alphabet.specs.declared.answers.Answer.{Answer}
 use Rattle.alphabet.specs.declared.answers.Check.the-variants.{Passes}
 use Rattle.alphabet.specs.declared.answers.Refusal.the-variants.{None, NotAcknowledgeable, AcknowledgementTooLong}
-use Rattle.reading.specs.Segments.{segments, delimitersOf, fieldSeparator, name}
+use Rattle.reading.specs.Segments.{segments, delimitersOf, fieldSeparator, name, nameOf}
 use Rattle.reading.specs.Reading.{reading, opening}
 use Rattle.reading.specs.Message.{Opened, Message}
 use Rattle.reading.proofs.Accepted.{opening-if}
@@ -48,10 +48,15 @@ use Rattle.structure.specs.SegmentNames.{segmentNames}
 use Rattle.structure.specs.Structures.{ack, chosen, structureFor, builtIn, acknowledgement as ackListed}
 use Rattle.fault.specs.Faults.{plain}
 use Rattle.structure.specs.Judged.{Judged, Answers}
-use Rattle.verdict.specs.Verdicts.{Accepts}
+use Rattle.verdict.specs.Verdicts.{Accepts, Verdicts}
 use Rattle.verdict.proofs.VerdictLaws.{one-verdict, accepts-exactly as verdict-accepts}
 use Rattle.acknowledgement.specs.Acknowledgement.{header, fieldAddress, sent, typePart, present, typeSent, acknowledgement, badId, passes, acknowledgeable, roomy, answerTo, Acknowledges}
 use Rattle.acknowledgement.specs.Acknowledgement.Acknowledges.{not-written, written}
+use Rattle.error_segment.specs.Errors.{errorParts, errorLine, errorLines}
+use Rattle.fault.specs.declared.FaultRecord.{FaultRecord}
+use Rattle.alphabet.specs.Answers.{numberOf}
+use Rattle.alphabet.proofs.CheckLaws.{number-none}
+use Rattle.laws.specs.Told.{TellsCode, TellsPlace}
 use Rattle.acknowledgement_code.specs.Codes.{codeOf, lettersOf}
 use Rattle.acknowledgement_code.specs.declared.Code.{Code}
 use Rattle.acknowledgement.proofs.HeaderLaws.{nothing-against, return-inside, header-find, header-ends, sound-header}
@@ -59,6 +64,8 @@ use Rattle.laws.proofs.SenderLaws.{segments-header}
 use Rattle.laws.specs.Rejected.{Rejects, Rejected}
 use Rattle.laws.proofs.CodeLaws.{letters-accept, letters-reject, letters-error}
 use Rattle.laws.proofs.WrittenLaws as W
+use Rattle.laws.proofs.ErrorLines as E
+use Rattle.laws.proofs.ErrorTold.{told-as, place-tells, code-tells}
 use Rattle.acknowledgement.proofs.AnswerLaws.{Writes, zero-writes, nine-unacknowledgeable}
 
 -- ---- the header's fields are the message's
@@ -132,6 +139,10 @@ length-told m time id lent (written e found v) zero = at (leb (length w) (length
 abbrev pub answerAddress : ℕ → Address
 answerAddress f = record { segment = 1; field = f; repetition = 0; component = 0; subcomponent = 0 }
 
+-- ERR-1, which stands behind MSA: whole at 0, 0, or component c of repetition 1
+abbrev pub errorAddress : ℕ → ℕ → Address
+errorAddress repetition c = record { segment = 2; field = 1; repetition = repetition; component = c; subcomponent = 0 }
+
 -- each number is a byte, as in every slice that is handed in
 module _ (m time id lent : List ℕ) (small : AreBytes id) {r : Answer} {x : List ℕ} (a : Acknowledges m time id lent r x) (done : r .kind ≡ None) where
   -- the bytes that were written
@@ -153,6 +164,16 @@ module _ (m time id lent : List ℕ) (small : AreBytes id) {r : Answer} {x : Lis
 
   sound : Opened h × (find carriageReturn h + 1 ≡ length h)
   sound = (sound-header m (against .2), header-ends m (return-inside m (against .2)))
+
+  -- the lines behind MSA, by the verdict
+  abbrev es : List (List ℕ)
+  es = errorLines m (writes .found)
+
+  alike : delimitersOf h ≡ delimitersOf m
+  alike = same-delimiters m (return-inside m (against .2)) (sound .0)
+
+  behind : W.Behind (fieldSeparator h) es
+  behind = E.lines-behind h (sound .0) (sound .1) m alike (writes .verdict)
 
   of-message : (f : ℕ) → (f ≡ 1 → ⊥) → sent h f ≡ sent m f
   of-message = sent-whole m (return-inside m (against .2)) (sound .0)
@@ -179,61 +200,61 @@ module _ (m time id lent : List ℕ) (small : AreBytes id) {r : Answer} {x : Lis
 
   -- "reads back through our reader"
   pub reads-back : reading w ≡ Passes
-  reads-back = ap reading (writes .bytes) ∙ W.reads-back h (sound .0) (sound .1) time id (against .0) small code (writes .most)
+  reads-back = ap reading (writes .bytes) ∙ W.reads-back h (sound .0) (sound .1) time id (against .0) small code es behind (writes .most)
 
   -- "fits the ACK structure": the structure judge accepts it
   pub fits-ack : Answers w (plain None 0)
-  fits-ack = subst (λ (b : List ℕ). Answers b (plain None 0)) (sym (writes .bytes)) (W.judged-written h (sound .0) (sound .1) time id (against .0) small code (writes .most))
+  fits-ack = subst (λ (b : List ℕ). Answers b (plain None 0)) (sym (writes .bytes)) (W.judged-written h (sound .0) (sound .1) time id (against .0) small code es behind (writes .most))
 
   -- "carries the sender's own control ID": MSA-2, the whole field, is byte for byte the sender's MSH-10, the whole field
   pub carries-id : rawBytes w (answerAddress 2) ≡ rawBytes m (fieldAddress 10)
   carries-id =
-      ap (λ (b : List ℕ). rawBytes b (answerAddress 2)) (writes .bytes) ∙ W.carries-id h (sound .0) (sound .1) time id (against .0) small code
+      ap (λ (b : List ℕ). rawBytes b (answerAddress 2)) (writes .bytes) ∙ W.carries-id h (sound .0) (sound .1) time id (against .0) small code es behind
       ∙ of-message 10 (λ e. omega arith)
 
-  crossing : (f g : ℕ) → (g ≡ 1 → ⊥) → rawBytes (acknowledgement h time id code) (fieldAddress f) ≡ sent h g → rawBytes w (fieldAddress f) ≡ rawBytes m (fieldAddress g)
+  crossing : (f g : ℕ) → (g ≡ 1 → ⊥) → rawBytes (acknowledgement h time id code es) (fieldAddress f) ≡ sent h g → rawBytes w (fieldAddress f) ≡ rawBytes m (fieldAddress g)
   crossing f g n e = ap (λ (b : List ℕ). rawBytes b (fieldAddress f)) (writes .bytes) ∙ e ∙ of-message g n
 
   -- its MSH-3 to MSH-6 are the sender's 5, 6, 3, 4
   pub crossed : (rawBytes w (fieldAddress 3) ≡ rawBytes m (fieldAddress 5)) × (rawBytes w (fieldAddress 4) ≡ rawBytes m (fieldAddress 6))
       × (rawBytes w (fieldAddress 5) ≡ rawBytes m (fieldAddress 3)) × (rawBytes w (fieldAddress 6) ≡ rawBytes m (fieldAddress 4))
   crossed =
-      let c = W.crossed h (sound .0) (sound .1) time id (against .0) small code in
+      let c = W.crossed h (sound .0) (sound .1) time id (against .0) small code es behind in
       (crossing 3 5 (λ e. omega arith) (c .0), crossing 4 6 (λ e. omega arith) (c .1), crossing 5 3 (λ e. omega arith) (c .2), crossing 6 4 (λ e. omega arith) (c .3))
 
   -- its delimiters are the sender's
   pub own-delimiters : delimitersOf w ≡ delimitersOf m
   own-delimiters =
-      ap delimitersOf (writes .bytes) ∙ W.same-delimiters h (sound .0) (sound .1) time id (against .0) small code
+      ap delimitersOf (writes .bytes) ∙ W.same-delimiters h (sound .0) (sound .1) time id (against .0) small code es behind
       ∙ same-delimiters m (return-inside m (against .2)) (sound .0)
 
-  -- its type is ACK's, and its segments are MSH and MSA, in so many parts
+  -- its type is ACK's, and its first segments are MSH and MSA, in so many parts
   pub of-type : structureFor builtIn w ≡ chosen ackListed
-  of-type = ap (structureFor builtIn) (writes .bytes) ∙ W.structure-written h (sound .0) (sound .1) time id (against .0) small code
+  of-type = ap (structureFor builtIn) (writes .bytes) ∙ W.structure-written h (sound .0) (sound .1) time id (against .0) small code es behind
 
-  pub named-so : segmentNames w ≡ name "MSH" ∷ name "MSA" ∷ []
-  named-so = ap segmentNames (writes .bytes) ∙ W.names-written h (sound .0) (sound .1) time id (against .0) small code
+  named-so : segmentNames w ≡ name "MSH" ∷ name "MSA" ∷ map nameOf es
+  named-so = ap segmentNames (writes .bytes) ∙ W.names-written h (sound .0) (sound .1) time id (against .0) small code es behind
 
   pub yields-ack : Judged ack (segmentNames w) (plain None 0)
   yields-ack =
       subst (λ (b : List ℕ). Judged ack (segmentNames b) (plain None 0)) (sym (writes .bytes))
-      (W.fits-ack h (sound .0) (sound .1) time id (against .0) small code)
+      (W.fits-ack h (sound .0) (sound .1) time id (against .0) small code es behind)
 
   pub counted : (length (split (fieldSeparator w) (getD (segments w) 0 [])) ≡ 12) × (length (split (fieldSeparator w) (getD (segments w) 1 [])) ≡ 3)
   counted =
-      let c = W.parts-counted h (sound .0) (sound .1) time id (against .0) small code in (
+      let c = W.parts-counted h (sound .0) (sound .1) time id (against .0) small code es behind in (
         ap (λ (b : List ℕ). length (split (fieldSeparator b) (getD (segments b) 0 []))) (writes .bytes) ∙ c .0,
         ap (λ (b : List ℕ). length (split (fieldSeparator b) (getD (segments b) 1 []))) (writes .bytes) ∙ c .1,
       )
 
-  written-field : (f : ℕ) (l : List ℕ) → rawBytes (acknowledgement h time id code) (fieldAddress f) ≡ l → rawBytes w (fieldAddress f) ≡ l
+  written-field : (f : ℕ) (l : List ℕ) → rawBytes (acknowledgement h time id code es) (fieldAddress f) ≡ l → rawBytes w (fieldAddress f) ≡ l
   written-field f l e = ap (λ (b : List ℕ). rawBytes b (fieldAddress f)) (writes .bytes) ∙ e
 
   -- its MSH-7, 8, 9, 11 and 12
   pub stamped : (rawBytes w (fieldAddress 7) ≡ time) × (rawBytes w (fieldAddress 8) ≡ []) × (rawBytes w (fieldAddress 9) ≡ typeSent m)
       × (rawBytes w (fieldAddress 11) ≡ rawBytes m (fieldAddress 11)) × (rawBytes w (fieldAddress 12) ≡ ascii "2.4")
   stamped =
-      let c = W.stamped h (sound .0) (sound .1) time id (against .0) small code in (
+      let c = W.stamped h (sound .0) (sound .1) time id (against .0) small code es behind in (
         written-field 7 time (c .0),
         written-field 8 [] (c .1),
         written-field 9 (typeSent m) (c .2 ∙ type-sent m (return-inside m (against .2)) (sound .0)),
@@ -253,7 +274,7 @@ module _ (m time id lent : List ℕ) (small : AreBytes id) {r : Answer} {x : Lis
   -- its MSH-10 is the caller's ID, escaped
   pub own-id : rawBytes w (fieldAddress 10) ≡ escape (delimitersOf m) id
   own-id =
-      written-field 10 _ (W.own-id h (sound .0) (sound .1) time id (against .0) small code)
+      written-field 10 _ (W.own-id h (sound .0) (sound .1) time id (against .0) small code es behind)
       ∙ ap (λ (ds : List ℕ). escape ds id) (ap delimitersOf (sym (writes .bytes)) ∙ own-delimiters)
 
   -- its MSH-10, unescaped, is the caller's ID
@@ -262,13 +283,13 @@ module _ (m time id lent : List ℕ) (small : AreBytes id) {r : Answer} {x : Lis
   callers-id room l =
       let b = writes .bytes in
       ap (λ (z : List ℕ). unescaping (delimitersOf z) (rawBytes z (fieldAddress 10)) room) b
-      ∙ ap (λ (z : List ℕ). unescaping (delimitersOf (acknowledgement h time id code)) z room) (W.own-id h (sound .0) (sound .1) time id (against .0) small code)
-      ∙ round-trip (delimitersOf (acknowledgement h time id code)) refl (W.message-written h (sound .0) (sound .1) time id (against .0) small code (writes .most) .opened .delimiters-right) id room small
+      ∙ ap (λ (z : List ℕ). unescaping (delimitersOf (acknowledgement h time id code es)) z room) (W.own-id h (sound .0) (sound .1) time id (against .0) small code es behind)
+      ∙ round-trip (delimitersOf (acknowledgement h time id code es)) refl (W.message-written h (sound .0) (sound .1) time id (against .0) small code es behind (writes .most) .opened .delimiters-right) id room small
       ∙ rw (le-leb (length id) room l)
 
   -- MSA-1 is the code
   code-told : rawBytes w (answerAddress 1) ≡ lettersOf code
-  code-told = ap (λ (b : List ℕ). rawBytes b (answerAddress 1)) (writes .bytes) ∙ W.carries-code h (sound .0) (sound .1) time id (against .0) small code
+  code-told = ap (λ (b : List ℕ). rawBytes b (answerAddress 1)) (writes .bytes) ∙ W.carries-code h (sound .0) (sound .1) time id (against .0) small code es behind
 
   -- "Code AA exactly when reading, structure and fields all accept"
   pub accepts-exactly : (rawBytes w (answerAddress 1) ≡ ascii "AA") ↔ Accepts m
@@ -295,6 +316,70 @@ module _ (m time id lent : List ℕ) (small : AreBytes id) {r : Answer} {x : Lis
         λ q. let n = l .0 (sym code-told ∙ q) in (λ a. n .0 (v .1 a), λ j. n .1 (own-fault j)),
         λ n. code-told ∙ l .1 (λ e. n .0 (v .0 e), λ j. n .1 (record { fault = writes .found; first = writes .verdict; rejects = j })),
       )
+
+  -- ---- ERR
+
+  -- "an ERR segment after MSA when we answer AE or AR": where the letters are AA there is none
+  pub two-segments : rawBytes w (answerAddress 1) ≡ ascii "AA" → segmentNames w ≡ name "MSH" ∷ name "MSA" ∷ []
+  two-segments aa =
+      let none = letters-accept (writes .found) .0 (sym code-told ∙ aa) in
+      named-so ∙ ap (λ (l : List (List ℕ)). name "MSH" ∷ name "MSA" ∷ map nameOf l) (E.lines-none m (writes .found) none)
+
+  module _ (other : rawBytes w (answerAddress 1) ≡ ascii "AA" → ⊥) where
+    -- the record tells a fault
+    faulted : numberOf (writes .found .kind) ≡ 0 → ⊥
+    faulted e = other (code-told ∙ letters-accept (writes .found) .1 (number-none (writes .found .kind) e))
+
+    -- one line stands behind MSA
+    one-line : es ≡ errorLine m (writes .found) ∷ []
+    one-line = E.lines-one m (writes .found) faulted
+
+    pub three-segments : segmentNames w ≡ name "MSH" ∷ name "MSA" ∷ name "ERR" ∷ []
+    three-segments =
+        named-so ∙ ap (λ (l : List (List ℕ)). name "MSH" ∷ name "MSA" ∷ map nameOf l) one-line
+        ∙ ap (λ (n : ℕ). name "MSH" ∷ name "MSA" ∷ n ∷ []) (E.line-name h (sound .0) (sound .1) m alike (writes .verdict))
+
+    -- ERR-1, whole
+    field-told : rawBytes w (errorAddress 0 0) ≡ E.told h (sound .0) (sound .1) m alike (writes .verdict)
+    field-told =
+        ap (λ (b : List ℕ). rawBytes b (errorAddress 0 0)) (writes .bytes) ∙ W.error-field h (sound .0) (sound .1) time id (against .0) small code es behind
+        ∙ ap (λ (l : List (List ℕ)). getD (split (fieldSeparator h) (getD l 0 [])) 1 []) one-line
+        ∙ ap (λ (ps : List (List ℕ)). getD ps 1 []) (E.line-parts h (sound .0) (sound .1) m alike (writes .verdict))
+
+    -- component c of ERR-1 is the part of that number
+    component-told : (c : ℕ) → 1 ≤ c → rawBytes w (errorAddress 1 c) ≡ getD (errorParts m (writes .found)) (c - 1) []
+    component-told c l =
+        ap (λ (b : List ℕ). rawBytes b (errorAddress 1 c)) (writes .bytes) ∙ W.error-component h (sound .0) (sound .1) time id (against .0) small code es behind c l
+        ∙ ap (λ (ls : List (List ℕ)). getD (split (getD (delimitersOf h) 1 0) (getD (split (getD (delimitersOf h) 2 0) (getD (split (fieldSeparator h) (getD ls 0 [])) 1 [])) 0 [])) (c - 1) []) one-line
+        ∙ E.told-component h (sound .0) (sound .1) m alike (writes .verdict) c
+
+    -- one field, of one repetition and four components, of which the last has one subcomponent
+    pub error-counted : (length (split (fieldSeparator w) (getD (segments w) 2 [])) ≡ 2)
+        × (length (split (getD (delimitersOf w) 2 0) (rawBytes w (errorAddress 0 0))) ≡ 1)
+        × (length (split (getD (delimitersOf w) 1 0) (rawBytes w (errorAddress 0 0))) ≡ 4)
+        × (length (split (getD (delimitersOf w) 4 0) (rawBytes w (errorAddress 1 4))) ≡ 1)
+    error-counted =
+        let d = own-delimiters ∙ sym alike in
+        let third =
+        ap (λ (b : List ℕ). getD (segments b) 2 []) (writes .bytes)
+        ∙ ap (λ (ss : List (List ℕ)). getD ss 2 []) (W.segments-written h (sound .0) (sound .1) time id (against .0) small code es behind) ∙ ap (λ (ls : List (List ℕ)). getD ls 0 []) one-line in (
+          ap₂ (λ (x l : List ℕ). length (split (getD x 0 0) l)) d third ∙ ap length (E.line-parts h (sound .0) (sound .1) m alike (writes .verdict)),
+          ap₂ (λ (x l : List ℕ). length (split (getD x 2 0) l)) d field-told ∙ ap length (E.told-once h (sound .0) (sound .1) m alike (writes .verdict)),
+          ap₂ (λ (x l : List ℕ). length (split (getD x 1 0) l)) d field-told ∙ ap length (E.told-parts h (sound .0) (sound .1) m alike (writes .verdict)) ∙ E.four m (writes .found),
+          ap₂ (λ (x l : List ℕ). length (split (getD x 4 0) l)) d (component-told 4 (omega arith)) ∙ ap length (E.part-alone h (sound .0) (sound .1) m alike (writes .verdict) 3),
+        )
+
+    -- what the parts tell, of the message and of any record that is the verdict on it
+    pub tells : {found : FaultRecord} → Verdicts m found
+        → TellsPlace m found (rawBytes w (errorAddress 1 1)) (rawBytes w (errorAddress 1 2)) (rawBytes w (errorAddress 1 3)) × TellsCode found (rawBytes w (errorAddress 1 4))
+    tells {found = found} v =
+        let e = one-verdict m (writes .verdict) v in
+        let some : numberOf (found .kind) ≡ 0 → ⊥ = λ q. faulted (ap (λ (z : FaultRecord). numberOf (z .kind)) e ∙ q) in
+        let at : (c : ℕ) → 1 ≤ c → getD (errorParts m found) (c - 1) [] ≡ rawBytes w (errorAddress 1 c) =
+        λ c l. sym (component-told c l ∙ ap (λ (z : FaultRecord). getD (errorParts m z) (c - 1) []) e) in (
+          told-as (λ (x y z : List ℕ). TellsPlace m found x y z) (at 1 (omega arith)) (at 2 (omega arith)) (at 3 (omega arith)) (place-tells m v some),
+          subst (TellsCode found) (at 4 (omega arith)) (code-tells m v some),
+        )
 
 -- ---- 9 for an accepted message
 

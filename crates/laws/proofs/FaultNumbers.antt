@@ -1,9 +1,10 @@
--- Every fault has a number from 31 to 37, so that what is answered without one is sound; and those of later segments have later places. Assumes nothing.
+-- Every fault has a number from 31 to 37, so that what is answered without one is sound; those of later segments have later places, and the place is that
+-- of a segment. Assumes nothing.
 use mathlib.Core.Path.{_≡_, refl, ap}
 use mathlib.Core.Logic.{_⊎_, inl, inr}
 use mathlib.Core.Bool.{Bool, true, false, cond, not, _&&_}
 use mathlib.Core.List.{List, [], _∷_, map}
-use Prim.Native.Nat.{ℕ, _+_, _≤_}
+use Prim.Native.Nat.{ℕ, _+_, _≤_, _<_}
 use native.Mathlib.Omega.{arith}
 use lib.Dec.{ltb, eqb}
 use lib.ListN.{length}
@@ -144,3 +145,41 @@ module _ (m : List ℕ) where
       at : (f : Fault) → FaultNumbered 0 f → faultAnswer f .kind ≡ None → f ≡ Sound
       at Sound n q = refl
       at (Faulty kind segment field repetition) n q = absurd (let z = ap numberOf q in omega (arith, n .0 .0))
+
+-- ---- the segment is one that there is
+
+abbrev pub FaultInside : ℕ → Fault → Type 0
+FaultInside last Sound = Unit {0}
+FaultInside last (Faulty kind segment field repetition) = segment < last
+
+or-inside : (last : ℕ) (f g : Fault) → FaultInside last f → FaultInside last g → FaultInside last (orFault f g)
+or-inside last Sound g p q = q
+or-inside last (Faulty kind segment field repetition) g p q = p
+
+located-inside : (last number field : ℕ) (c : Check) → number < last → FaultInside last (located number field c)
+located-inside last number field Passes h = tt
+located-inside last number field (Fails kind place) h = h
+
+module _ (m : List ℕ) (last : ℕ) where
+  row-inside : (number : ℕ) (part : Part) (s : List ℕ) (row : Row) → number < last → FaultInside last (rowFault m number part s row)
+  unfolding rowFault
+  row-inside number part s row h = at (eqb (row .segment) (nameAt number s))
+    where
+      at : (t : Bool) → FaultInside last (cond t (located number (row .field) (rowCheck (delimitersOf m) row (saidIn m number part (row .kind)) (repetitionsOf m number part (row .field)))) Sound)
+      at true = located-inside last number (row .field) (rowCheck (delimitersOf m) row (saidIn m number part (row .kind)) (repetitionsOf m number part (row .field))) h
+      at false = tt
+
+  rows-inside : (number : ℕ) (part : Part) (s : List ℕ) (rs : List Row) → number < last → FaultInside last (firstFault (map (rowFault m number part s) rs))
+  unfolding firstFault
+  rows-inside number part s [] h = tt
+  rows-inside number part s (row ∷ rest) h = or-inside last (rowFault m number part s row) _ (row-inside number part s row h) (rows-inside number part s rest h)
+
+  segments-inside : (rs : List Row) (number at : ℕ) (ss : List (List ℕ)) → number + length ss ≤ last → FaultInside last (firstFault (segmentFaults rs m number at ss))
+  unfolding firstFault segmentFaults
+  segments-inside rs number at [] h = tt
+  segments-inside rs number at (s ∷ rest) h =
+      or-inside last (segmentFault rs m number at s) _ (rows-inside number _ s rs (omega arith)) (segments-inside rs (number + 1) (at + length s + 1) rest (omega arith))
+
+pub judging-inside : (m : List ℕ) (rs : List Row) → FaultInside (length (segments m)) (judging rs m)
+unfolding judging
+judging-inside m rs = segments-inside m (length (segments m)) rs 0 0 (segments m) (omega arith)

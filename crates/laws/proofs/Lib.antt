@@ -24,6 +24,9 @@ pub mod LineLaws
 pub mod SenderLaws
 pub mod CodeLaws
 pub mod WrittenLaws
+pub mod NumeralReads
+pub mod ErrorLines
+pub mod ErrorTold
 pub mod Acknowledged
 pub mod RejectedLaws
 pub mod PresentLaws

@@ -5,7 +5,7 @@ use mathlib.Core.List.{List, []}
 use Prim.Native.Nat.{ℕ, zero, suc, _-_, _≤_}
 use native.Mathlib.Omega.{arith}
 use lib.ListN.{length, getD, List·getD-eq-default}
-use borrow.Author.Tests.{le-leb, lt-leb}
+use borrow.Author.Tests.{le-leb, lt-leb, ne-eqb}
 use Rattle.alphabet.specs.Parts.{split}
 use Rattle.alphabet.specs.declared.parts.Part.{Part}
 use Rattle.alphabet.specs.declared.parts.Part.the-variants.{At, Absent}
@@ -70,14 +70,24 @@ module _ (m : List ℕ) (long : 4 ≤ length m) where
       raw-whole k f ∙ ap (partBytes m) (field-other m k (segmentAt m k) f n) ∙ part-in-bytes (fieldSeparator m) m (segmentAt m k) f (within-segment m k)
       ∙ ap (λ (x : List ℕ). getD (split (fieldSeparator m) x) f []) (segment-part-bytes k)
 
-  -- component c of the first repetition of a field of MSH, which is not one of the first two
+  -- component c of the first repetition of a field that is split
+  component-of : (k f c : ℕ) → fixed k f ≡ false → 1 ≤ c
+      → rawBytes m (component k f c) ≡ getD (split (getD (delimitersOf m) 1 0) (getD (split (getD (delimitersOf m) 2 0) (rawBytes m (whole k f))) 0 [])) (c - 1) []
+  unfolding rawBytes elementAt subcomponentAt componentAt repetitionAt below
+  component-of k f zero h l = absurd (omega arith)
+  component-of k f (suc c) h l =
+      let repetition = part-in-bytes (getD (delimitersOf m) 2 0) m (fieldPart k f) 0 (field-within k f) in
+      let inner = part-in-bytes (getD (delimitersOf m) 1 0) m (partIn (getD (delimitersOf m) 2 0) m (fieldPart k f) 0) c (within-in (getD (delimitersOf m) 2 0) m (fieldPart k f) 0 (field-within k f)) in
+      let e : suc c - 1 ≡ c = omega arith in
+      rw (le-leb 4 (length m) long, h, e)
+      (inner ∙ ap (λ (x : List ℕ). getD (split (getD (delimitersOf m) 1 0) x) c []) repetition)
+
+  -- of a field of MSH, which is not one of the first two
   pub raw-component : (f c : ℕ) → 3 ≤ f → 1 ≤ c
       → rawBytes m (component 0 f c) ≡ getD (split (getD (delimitersOf m) 1 0) (getD (split (getD (delimitersOf m) 2 0) (rawBytes m (whole 0 f))) 0 [])) (c - 1) []
-  unfolding rawBytes elementAt subcomponentAt componentAt repetitionAt below
-  raw-component f zero h l = absurd (omega arith)
-  raw-component f (suc c) h l =
-      let repetition = part-in-bytes (getD (delimitersOf m) 2 0) m (fieldPart 0 f) 0 (field-within 0 f) in
-      let inner = part-in-bytes (getD (delimitersOf m) 1 0) m (partIn (getD (delimitersOf m) 2 0) m (fieldPart 0 f) 0) c (within-in (getD (delimitersOf m) 2 0) m (fieldPart 0 f) 0 (field-within 0 f)) in
-      let e : suc c - 1 ≡ c = omega arith in
-      rw (le-leb 4 (length m) long, lt-leb f 2 (omega arith), e)
-      (inner ∙ ap (λ (x : List ℕ). getD (split (getD (delimitersOf m) 1 0) x) c []) repetition)
+  raw-component f c h l = component-of 0 f c (lt-leb f 2 (omega arith)) l
+
+  -- of a field of any other segment
+  pub raw-component-other : (k f c : ℕ) → (k ≡ 0 → ⊥) → 1 ≤ c
+      → rawBytes m (component k f c) ≡ getD (split (getD (delimitersOf m) 1 0) (getD (split (getD (delimitersOf m) 2 0) (rawBytes m (whole k f))) 0 [])) (c - 1) []
+  raw-component-other k f c n l = component-of k f c (rw (ne-eqb k 0 n)) l

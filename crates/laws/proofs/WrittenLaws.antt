@@ -1,5 +1,7 @@
--- What holds of every acknowledgement that is written: it is a message, it fits ACK, and its fields are the sender's and the caller's. Assumes nothing.
+-- What holds of every acknowledgement that is written, with no line behind MSA or with one: it is a message, it fits ACK, and its fields are the sender's
+-- and the caller's. Assumes nothing.
 use mathlib.Core.Path.{_≡_, refl, sym, ap, ap₂, _∙_, subst}
+use mathlib.Core.Logic.{_⊎_, ⊎-elim}
 use mathlib.Core.Bool.{Bool, true, false, cond, _||_}
 use mathlib.Core.List.{List, [], _∷_, _++_, map}
 use Prim.Native.Nat.{ℕ, _+_, _-_, _≤_, _<_}
@@ -15,15 +17,15 @@ use Rattle.alphabet.specs.Parts.{split, join}
 use Rattle.alphabet.specs.declared.answers.Check.the-variants.{Passes}
 use Rattle.alphabet.proofs.BoolLaws.{from-to}
 use Rattle.alphabet.proofs.DelimiterLaws.{delimiter-own}
-use Rattle.alphabet.proofs.LimitLaws.{segment-limit-two}
+use Rattle.alphabet.proofs.LimitLaws.{segment-limit-three}
 use Rattle.laws.proofs.EachLaws.{Each, Every, each-append, at-each, each-weaken, each-free}
 use Rattle.alphabet.proofs.PartLaws.{split-cons, split-last}
-use Rattle.reading.specs.Segments.{segments, delimitersOf, fieldSeparator, named, name, nameOf}
+use Rattle.reading.specs.Segments.{segments, delimitersOf, fieldSeparator, named, isHeader, name, nameOf}
 use Rattle.reading.specs.Reading.{reading}
 use Rattle.reading.specs.Message.{ended, Opened, Message}
 use Rattle.reading.proofs.Accepted.{accepting}
 use Rattle.element.specs.Finding.{rawBytes}
-use Rattle.laws.proofs.RawLaws.{raw-component}
+use Rattle.laws.proofs.RawLaws.{raw-component, raw-component-other}
 use Rattle.forms.specs.declared.layouts.Form.the-variants.{Ts}
 use Rattle.times.specs.Times.{isTs}
 use Rattle.laws.proofs.ValueBytes.{time-each, digit-none}
@@ -32,10 +34,10 @@ use Rattle.laws.proofs.RoundTrip.{AreBytes}
 use Rattle.laws.proofs.Clean.{MayStand, never-separator}
 use Rattle.alphabet.specs.declared.answers.Refusal.the-variants.{None}
 use Rattle.structure.specs.Shapes.{Yields, names}
-use Rattle.structure.specs.Shapes.Spans.{stand, skip, ended as ended-shape}
+use Rattle.structure.specs.Shapes.Spans.{stand, skip, once, ended as ended-shape}
 use Rattle.structure.specs.SegmentNames.{segmentNames, among, passedOver, kept}
 use Rattle.element.specs.Addresses.{typeAddress}
-use Rattle.structure.specs.Structures.{ack, chosen, choose, structureFor, builtIn, acknowledgement as ackListed}
+use Rattle.structure.specs.Structures.{ack, chosen, structureFor, builtIn, acknowledgement as ackListed}
 use Rattle.fault.specs.Faults.{plain}
 use Rattle.structure.specs.Judged.{Judged, accepted, by, Answers, read}
 use Rattle.structure.proofs.ChoiceLaws.{is-acknowledgement}
@@ -49,6 +51,19 @@ use Rattle.laws.proofs.SenderLaws.{field-clean, event-clean, delimiter-
 or-true : (t : Bool) → (t || true) ≡ true
 or-true true = refl
 or-true false = refl
+
+-- what the lines behind MSA are: none, or one of the name ERR; es are printable and have good names
+pub record Behind (sep : ℕ) (es : List (List ℕ)) : Type 0 where
+  pub told : (map nameOf es ≡ []) ⊎ (map nameOf es ≡ name "ERR" ∷ [])
+  pub printed : Every (Each Printable) es
+  pub named-well : Every (λ (l : List ℕ). named sep l ≡ true) es
+  pub no-other : Every (λ (l : List ℕ). isHeader l ≡ false) es
+
+few : {sep : ℕ} {es : List (List ℕ)} → Behind sep es → length es ≤ 1
+few {sep = sep} {es = []} b = omega arith
+few {sep = sep} {es = e ∷ []} b = omega arith
+few {sep = sep} {es = e ∷ f ∷ rest} b =
+    ⊎-elim (λ q. absurd (let n = ap length q in omega arith)) (λ q. absurd (let n = ap length q in omega arith)) (b .told)
 
 module _ (h : List ℕ) (o : Opened h) (one : find carriageReturn h + 1 ≡ length h) where
   abbrev ds : List ℕ
@@ -122,7 +137,7 @@ module _ (h : List ℕ) (o : Opened h) (one : find carriageReturn h + 1 ≡ leng
   field : (f : ℕ) → (f ≡ 1 → ⊥) → Each Fine (sent h f)
   field = field-clean h o one
 
-  module _ (time id : List ℕ) (timed : isTs time ≡ true) (small : AreBytes id) (letters : Code) where
+  module _ (time id : List ℕ) (timed : isTs time ≡ true) (small : AreBytes id) (letters : Code) (es : List (List ℕ)) (behind : Behind sep es) where
     pub header-fine : Every (Each Fine) (headerParts h time id)
     unfolding Each Every headerParts
     header-fine = (
@@ -170,7 +185,7 @@ module _ (h : List ℕ) (o : Opened h) (one : find carriageReturn h + 1 ≡ leng
     unfolding Each Every answerParts
     answer-fine = ((sign 77 refl refl, (sign 83 refl refl, (sign 65 refl refl, tt))), (code-fine letters, (field 10 (λ e. omega arith), tt)))
 
-    -- ---- the two segments
+    -- ---- the lines
 
     abbrev first : List ℕ
     first = join sep (headerParts h time id)
@@ -179,7 +194,7 @@ module _ (h : List ℕ) (o : Opened h) (one : find carriageReturn h + 1 ≡ leng
     second = join sep (answerParts h letters)
 
     abbrev pub written : List ℕ
-    written = acknowledgement h time id letters
+    written = acknowledgement h time id letters es
 
     first-parts : split sep first ≡ headerParts h time id
     unfolding headerParts
@@ -197,28 +212,28 @@ module _ (h : List ℕ) (o : Opened h) (one : find carriageReturn h + 1 ≡ leng
     unfolding answerParts join
     second-named = rw (eq-eqb sep sep refl) (or-true (eqb (length second) 3))
 
-    -- the two are the lines of a message with the sender's delimiters
-    both-lines : Lines ds (first ∷ second ∷ [])
+    -- they are the lines of a message with the sender's delimiters
+    all-lines : Lines ds (first ∷ second ∷ es)
     unfolding headerParts answerParts join Every
-    both-lines = record {
+    all-lines = record {
       some = omega arith;
-      most = segment-limit-two;
+      most = let n = few behind in omega (arith, segment-limit-three);
       printed = (
         joined-printable sep (delimiter-printable h o one 0 (omega arith)) (headerParts h time id) header-fine,
-        (joined-printable sep (delimiter-printable h o one 0 (omega arith)) (answerParts h letters) answer-fine, tt),
+        (joined-printable sep (delimiter-printable h o one 0 (omega arith)) (answerParts h letters) answer-fine, behind .printed),
       );
-      named-well = (first-named, (second-named, tt));
+      named-well = (first-named, (second-named, behind .named-well));
       long = omega arith;
       header = refl;
       delimiters = refl;
       behind = rw (eq-eqb sep sep refl) (or-true (eqb (length first) 8));
-      no-other = (refl, tt);
+      no-other = (refl, behind .no-other);
       right = o .delimiters-right;
     }
 
-    pub segments-written : segments written ≡ first ∷ second ∷ []
+    pub segments-written : segments written ≡ first ∷ second ∷ es
     unfolding acknowledgement
-    segments-written = lines-segments both-lines
+    segments-written = lines-segments all-lines
 
     -- ---- it begins as the sender's does
 
@@ -235,7 +250,7 @@ module _ (h : List ℕ) (o : Opened h) (one : find carriageReturn h + 1 ≡ leng
     module _ (fits : length written ≤ messageLimit) where
       pub message-written : Message written
       unfolding acknowledgement
-      message-written = lines-message both-lines fits
+      message-written = lines-message all-lines fits
 
       -- "reads back through our reader"
       pub reads-back : reading written ≡ Passes
@@ -246,11 +261,22 @@ module _ (h : List ℕ) (o : Opened h) (one : find carriageReturn h + 1 ≡ leng
     -- "fields 3, 4, 5, 6 are the sender's 5, 6, 3, 4": field f of its MSH is the part of that number
     pub header-field : (f : ℕ) → (f ≡ 1 → ⊥) → rawBytes written (fieldAddress f) ≡ getD (headerParts h time id) (f - 1) []
     unfolding acknowledgement
-    header-field f n = lines-header-field both-lines f n ∙ ap (λ (ps : List (List ℕ)). getD ps (f - 1) []) first-parts
+    header-field f n = lines-header-field all-lines f n ∙ ap (λ (ps : List (List ℕ)). getD ps (f - 1) []) first-parts
 
     answer-field : (f : ℕ) → rawBytes written (record { segment = 1; field = f; repetition = 0; component = 0; subcomponent = 0 }) ≡ getD (answerParts h letters) f []
     unfolding acknowledgement
-    answer-field f = lines-field both-lines 1 f (λ e. omega arith) ∙ ap (λ (ps : List (List ℕ)). getD ps f []) second-parts
+    answer-field f = lines-field all-lines 1 f (λ e. omega arith) ∙ ap (λ (ps : List (List ℕ)). getD ps f []) second-parts
+
+    -- field 1 of the line behind MSA, and component c of its first repetition
+    pub error-field : rawBytes written (record { segment = 2; field = 1; repetition = 0; component = 0; subcomponent = 0 }) ≡ getD (split sep (getD es 0 [])) 1 []
+    unfolding acknowledgement
+    error-field = lines-field all-lines 2 1 (λ e. omega arith)
+
+    pub error-component : (c : ℕ) → 1 ≤ c
+        → rawBytes written (record { segment = 2; field = 1; repetition = 1; component = c; subcomponent = 0 }) ≡ getD (split (getD ds 1 0) (getD (split (getD ds 2 0) (getD (split sep (getD es 0 [])) 1 [])) 0 [])) (c - 1) []
+    error-component c l =
+        raw-component-other written (let n = is-long in omega arith) 2 1 c (λ e. omega arith) l
+        ∙ ap₂ (λ (d x : List ℕ). getD (split (getD d 1 0) (getD (split (getD d 2 0) x) 0 [])) (c - 1) []) same-delimiters error-field
 
     -- "carries the sender's own control ID": MSA-2 is the sender's MSH-10, byte for byte
     pub carries-id : rawBytes written (record { segment = 1; field = 2; repetition = 0; component = 0; subcomponent = 0 }) ≡ sent h 10
@@ -325,14 +351,18 @@ module _ (h : List ℕ) (o : Opened h) (one : find carriageReturn h + 1 ≡ leng
     unfolding structureFor same
     structure-written = is-acknowledgement (rawBytes written (typeAddress 1)) (rawBytes written (typeAddress 2)) (ap (λ (x : List ℕ). same x (ascii "ACK")) type-written)
 
-    pub names-written : segmentNames written ≡ name "MSH" ∷ name "MSA" ∷ []
+    pub names-written : segmentNames written ≡ name "MSH" ∷ name "MSA" ∷ map nameOf es
     unfolding segmentNames nameOf headerParts answerParts join
     names-written = ap (map nameOf) segments-written
 
     -- "fits the ACK structure": it yields the names
     pub fits-ack : Judged ack (segmentNames written) (plain None 0)
     unfolding kept passedOver among
-    fits-ack = accepted (subst (λ (ns : List ℕ). Yields ack (kept (names ack) ns)) (sym names-written) (stand (stand (skip ended-shape))))
+    fits-ack =
+        ⊎-elim
+        (λ q. accepted (subst (λ (ns : List ℕ). Yields ack (kept (names ack) ns)) (sym (names-written ∙ ap (λ (l : List ℕ). name "MSH" ∷ name "MSA" ∷ l) q)) (stand (stand (skip ended-shape)))))
+        (λ q. accepted (subst (λ (ns : List ℕ). Yields ack (kept (names ack) ns)) (sym (names-written ∙ ap (λ (l : List ℕ). name "MSH" ∷ name "MSA" ∷ l) q)) (stand (stand (once (stand ended-shape) ended-shape)))))
+        (behind .told)
 
     -- the structure judge accepts it
     pub judged-written : length written ≤ messageLimit → Answers written (plain None 0)

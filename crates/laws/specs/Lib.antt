@@ -5,3 +5,4 @@ pub mod Entries
 pub mod Types
 pub mod Framed
 pub mod Rejected
+pub mod Told

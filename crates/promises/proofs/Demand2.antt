@@ -5,9 +5,10 @@
 -- src/lib.rt say the same of slices, which hold nothing else. Assumes nothing.
 use mathlib.Core.Path.{_≡_}
 use mathlib.Core.Logic.{_↔_}
+use mathlib.Core.Bool.{true}
 use mathlib.Core.List.{List}
 use Prim.Native.Nat.{ℕ, _≤_}
-use lib.ListN.{length, take, drop}
+use lib.ListN.{length, getD, take, drop}
 use Rattle.alphabet.specs.Delimiters.{firstWrongDelimiter}
 use Rattle.alphabet.specs.Filling.{over}
 use Rattle.alphabet.specs.declared.answers.Answer.{Answer}
@@ -16,12 +17,19 @@ use Rattle.escaping.specs.Escape.{escape}
 use Rattle.escaping.specs.Outcomes.{escaping, answer, filled}
 use Rattle.text.specs.Unescape.{unescaping}
 use Rattle.acknowledgement.specs.Acknowledgement.{Acknowledges}
-use Rattle.laws.proofs.Acknowledged.{reads-back, of-type, yields-ack, fits-ack, named-so, counted, carries-id, identified-sender, told, own-delimiters, crossed, stamped, with-event, without-event, own-id, callers-id, accepts-exactly, rejects-exactly, errors-exactly}
+use Rattle.laws.proofs.Acknowledged.{reads-back, of-type, yields-ack, fits-ack, two-segments, three-segments, counted, carries-id, identified-sender, told, own-delimiters, crossed, stamped, with-event, without-event, own-id, callers-id, accepts-exactly, rejects-exactly, errors-exactly, error-counted, tells}
 use Rattle.laws.specs.Rejected.{Rejected, RejectedFor}
 use Rattle.laws.proofs.RejectedLaws.{rejected-bytes as laws-rejected-bytes}
 use Rattle.laws.proofs.Clean.{both-ways}
 use Rattle.laws.proofs.RoundTrip.{AreBytes}
-use Rattle.promises.specs.Acknowledgements.{Carries}
+use Rattle.laws.proofs.NumeralReads.{numeral-reads}
+use Rattle.error_segment.specs.Numerals.{numeral}
+use Rattle.fault.specs.declared.FaultRecord.{FaultRecord}
+use Rattle.verdict.specs.Verdicts.{Verdicts}
+use Rattle.element.specs.Finding.{rawBytes}
+use Rattle.alphabet.specs.Bytes.{ascii}
+use Rattle.alphabet.specs.Digits.{allDigits, decimal}
+use Rattle.promises.specs.Acknowledgements.{inAnswer, TellsError, Carries}
 
 -- ---- text
 
@@ -32,6 +40,13 @@ pub text-comes-back : (ds : List ℕ) → length ds ≡ 5 → firstWrongDelimite
 text-comes-back ds five fine t d e small h k = both-ways ds five fine t d e small h k
 
 -- ---- the acknowledgement
+
+error-tells : (m time id lent : List ℕ) → AreBytes id → {r : Answer} {x : List ℕ} → Acknowledges m time id lent r x → r .kind ≡ None
+    → (rawBytes (take (r .length) x) (inAnswer 1) ≡ ascii "AA" → ⊥) → {found : FaultRecord} → Verdicts m found → TellsError m (take (r .length) x) found
+error-tells m time id lent small a done other v =
+    let n = error-counted m time id lent small a done other in
+    let t = tells m time id lent small a done other v in
+    record { one-field = n .0; one-repetition = n .1; four-components = n .2; one-identifier = n .3; place = t .0; code = t .1 }
 
 -- every acknowledgement that was written, which is the front of the buffer as long as the answer says
 pub acknowledgement-carries : (m time id lent : List ℕ) → AreBytes id → {r : Answer} {x : List ℕ} → Acknowledges m time id lent r x → r .kind ≡ None → Carries m time id (take (r .length) x)
@@ -44,7 +59,8 @@ acknowledgement-carries m time id lent small a done =
       is-ack = of-type m time id lent small a done;
       yields-ack = yields-ack m time id lent small a done;
       fits-ack = fits-ack m time id lent small a done;
-      two-segments = named-so m time id lent small a done;
+      two-segments = two-segments m time id lent small a done;
+      three-segments = three-segments m time id lent small a done;
       header-parts = n .0;
       answer-parts = n .1;
       control-id = carries-id m time id lent small a done;
@@ -65,11 +81,16 @@ acknowledgement-carries m time id lent small a done =
       accepted-exactly = accepts-exactly m time id lent small a done;
       rejected-exactly = rejects-exactly m time id lent small a done;
       errored-exactly = errors-exactly m time id lent small a done;
+      tells-error = error-tells m time id lent small a done;
     }
 
 -- AR in the message's own bytes: a type that is not listed, or what stands at MSH-11 or MSH-12 is outside its list and nothing before it is wrong
 pub rejected-bytes : (m : List ℕ) → Rejected m ↔ RejectedFor m
 rejected-bytes m = laws-rejected-bytes m
+
+-- a numeral, as ERR-1 has two: digits, which alphabet's reader reads back as the number, and no 0 before them but for 0 itself
+pub numeral-comes-back : (n : ℕ) → (allDigits (numeral n) ≡ true) × (decimal (numeral n) ≡ n) × (1 ≤ n → 49 ≤ getD (numeral n) 0 0)
+numeral-comes-back n = numeral-reads n
 
 -- "A written text or acknowledgement fills the front of its buffer, its length is given, the bytes behind it stay.": a length that the buffer has, a buffer of
 -- the length that it had, and what stood behind

@@ -27,15 +27,36 @@ use Rattle.element.specs.Addresses.{typeAddress}
 use Rattle.structure.specs.Structures.{ack, chosen, structureFor, builtIn, acknowledgement as ackListed}
 use Rattle.fault.specs.Faults.{plain}
 use Rattle.structure.specs.Judged.{Judged, Answers}
-use Rattle.verdict.specs.Verdicts.{Accepts}
+use Rattle.fault.specs.declared.FaultRecord.{FaultRecord}
+use Rattle.verdict.specs.Verdicts.{Accepts, Verdicts}
 use Rattle.acknowledgement.specs.Acknowledgement.{header}
 use Rattle.acknowledgement.specs.Acknowledgement.{fieldAddress as inHeader}
 use Rattle.laws.specs.Rejected.{Rejected}
+use Rattle.laws.specs.Told.{TellsCode, TellsPlace}
 use Rattle.grammars.specs.SpeltTimes.{Ts}
 
 -- the whole of a field of the second segment, which is MSA; `inHeader` is that of a field of MSH
 abbrev pub inAnswer : ℕ → Address
 inAnswer f = record { segment = 1; field = f; repetition = 0; component = 0; subcomponent = 0 }
+
+-- the whole of ERR-1, and component c of its first repetition: the third segment is ERR
+abbrev pub errorField : Address
+errorField = record { segment = 2; field = 1; repetition = 0; component = 0; subcomponent = 0 }
+
+abbrev pub inError : ℕ → Address
+inError c = record { segment = 2; field = 1; repetition = 1; component = c; subcomponent = 0 }
+
+-- document 02, W4, of an acknowledgement w with an ERR segment, by the first fault r of the message m
+pub record TellsError (m w : List ℕ) (r : FaultRecord) : Type 0 where
+  -- "ERR-1 in v2.4: segment ID, sequence, field position, and a code": one field, of one repetition and four components
+  pub one-field : length (split (fieldSeparator w) (getD (segments w) 2 [])) ≡ 2
+  pub one-repetition : length (split (getD (delimitersOf w) 2 0) (rawBytes w errorField)) ≡ 1
+  pub four-components : length (split (getD (delimitersOf w) 1 0) (rawBytes w errorField)) ≡ 4
+  -- "a code as subcomponents", "The code is its identifier alone."
+  pub one-identifier : length (split (getD (delimitersOf w) 4 0) (rawBytes w (inError 4))) ≡ 1
+  -- where the fault stands, and its code
+  pub place : TellsPlace m r (rawBytes w (inError 1)) (rawBytes w (inError 2)) (rawBytes w (inError 3))
+  pub code : TellsCode r (rawBytes w (inError 4))
 
 pub record Carries (m time id w : List ℕ) : Type 0 where
   -- "reads back through our reader"
@@ -44,8 +65,10 @@ pub record Carries (m time id w : List ℕ) : Type 0 where
   pub is-ack : structureFor builtIn w ≡ chosen ackListed
   pub yields-ack : Judged ack (segmentNames w) (plain None 0)
   pub fits-ack : Answers w (plain None 0)
-  -- "MSH", "Then MSA": these two segments, of twelve parts and of three
-  pub two-segments : segmentNames w ≡ name "MSH" ∷ name "MSA" ∷ []
+  -- "MSH", "Then MSA", and by W4 "an ERR segment after MSA when we answer AE or AR": with AA these two segments, else
+  -- these three; MSH of twelve parts, MSA of three
+  pub two-segments : rawBytes w (inAnswer 1) ≡ ascii "AA" → segmentNames w ≡ name "MSH" ∷ name "MSA" ∷ []
+  pub three-segments : (rawBytes w (inAnswer 1) ≡ ascii "AA" → ⊥) → segmentNames w ≡ name "MSH" ∷ name "MSA" ∷ name "ERR" ∷ []
   pub header-parts : length (split (fieldSeparator w) (getD (segments w) 0 [])) ≡ 12
   pub answer-parts : length (split (fieldSeparator w) (getD (segments w) 1 [])) ≡ 3
   -- "and carries the sender's own control ID": MSA-2 is the sender's MSH-10
@@ -80,6 +103,8 @@ pub record Carries (m time id w : List ℕ) : Type 0 where
   pub rejected-exactly : (rawBytes w (inAnswer 1) ≡ ascii "AR") ↔ Rejected m
   -- "the rest stays AE"
   pub errored-exactly : (rawBytes w (inAnswer 1) ≡ ascii "AE") ↔ ((Accepts m → ⊥) × (Rejected m → ⊥))
+  -- W4: what ERR tells, where it stands
+  pub tells-error : (rawBytes w (inAnswer 1) ≡ ascii "AA" → ⊥) → {r : FaultRecord} → Verdicts m r → TellsError m w r
 
 -- ---- refusals
 

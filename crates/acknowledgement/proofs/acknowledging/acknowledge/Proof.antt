@@ -1,8 +1,9 @@
--- Rests on what stands against an acknowledgement, and on the header of a message that can be acknowledged being sound.
-use mathlib.Core.Path.{_≡_, sym, ap, _∙_, subst}
+-- Rests on what stands against an acknowledgement, on the header of a message that can be acknowledged being sound, and on the ERR segment having room.
+use mathlib.Core.Path.{_≡_, sym, ap, ap₂, _∙_, subst}
 use mathlib.Core.List.{List}
-use Prim.Native.Nat.{ℕ}
-use lib.ListN.{length}
+use Prim.Native.Nat.{ℕ, _≤_}
+use lib.ListN.{length, take, drop, length-append}
+use lib.Seq.{take-append-seam, length-take-le}
 use native.Mathlib.Omega.{arith}
 use borrow.Author.Needs.{needs}
 use denote.Ref.{now}
@@ -11,6 +12,8 @@ use Rattle.alphabet.specs.declared.answers.Refusal.{Refusal}
 use Rattle.alphabet.specs.declared.answers.Refusal.the-variants.{None}
 use Rattle.alphabet.specs.Delimiters.{firstWrongDelimiter}
 use Rattle.reading.specs.Segments.{isHeader, delimitersOf}
+use Rattle.reading.specs.Message.{ended}
+use Rattle.error_segment.specs.Errors.{errorLines}
 use Rattle.escaping.specs.Outcomes.{fault}
 use Rattle.escaping.specs.Outcomes.{answer}
 use Rattle.alphabet.proofs.CheckLaws.{number-none}
@@ -37,10 +40,27 @@ returns c =
     subst (λ (x : Refusal). Acknowledges (now (a .message)) (now (a .time)) (now (a .id)) (now (a .buffer)) (answer (fault x 0)) (now (a .buffer))) (sym (k .ensures))
     (not-written (λ e. c .if1 .taken (c .before .number .ensures ∙ ap numberOf (k .ensures ∙ e))))
 
+-- the ERR segment that was written, and the front of the small buffer that is handed on
+line : (c : tie.After-error-line)
+    → let v = c .before .before .before in
+    let m = now (v .before .before .before .before .before .before .before .before .args .message) in
+    let w = ended (errorLines m (v .verdict .result)) in
+    (take (c .error-line .result) (c .error-line .last .1 .1 .0) ≡ w) × (c .error-line .result ≤ length (c .error-line .last .1 .1 .0))
+line c =
+    let v = c .before .before .before in
+    let m = now (v .before .before .before .before .before .before .before .before .args .message) in
+    let w = ended (errorLines m (v .verdict .result)) in
+    let b = c .before .before .error-buffer .result in
+    let n = c .error-line .ensures .0 in
+    let d = c .error-line .ensures .1 in (
+      ap₂ (λ (k : ℕ) (x : List ℕ). take k x) n d ∙ take-append-seam w (drop (length w) b),
+      omega (arith, n, ap length d, length-append w (drop (length w) b)),
+    )
+
 write-requires : tie.Need-write-requires
 write-requires c κs =
-    let h = c .before .before in
-    let e = h .before .before in
+    let h = c .before .before .before in
+    let e = h .before .before .before .before .before in
     let a = e .before .before .before .before .before .before .before .args in
     let m = now (a .message) in
     let n = nothing-against m (now (a .time)) (now (a .id)) (nothing e) in
@@ -55,13 +75,14 @@ write-requires c κs =
 returns-2 : tie.Need-returns-2
 returns-2 c =
     let w = c .before .before in
-    let k = w .before .before in
+    let k = w .before .before .before in
     let h = k .before in
-    let v = h .before in
+    let l = h .before in
+    let v = l .before .before .before in
     let e = v .before in
     let a = e .before .before .before .before .before .before .before .args in
-    meets (now (a .message)) (now (a .time)) (now (a .id)) (now (a .buffer)) (now (h .header-of .result)) (k .code-of .result) (v .verdict .result) _ _ (nothing e) (v .verdict .ensures)
-    (h .header-of .ensures) (k .code-of .ensures) (w .write .ensures .0) (w .write .ensures .1)
+    meets (now (a .message)) (now (a .time)) (now (a .id)) (now (a .buffer)) (now (h .header-of .result)) _ (k .code-of .result) (v .verdict .result) _ _ (nothing e) (v .verdict .ensures)
+    (h .header-of .ensures) (k .code-of .ensures) (line l .0) (w .write .ensures .0) (w .write .ensures .1)
 
 pub acknowledge-spec : {M : Type 1} → statement M
 acknowledge-spec =
@@ -73,6 +94,10 @@ acknowledge-spec =
     (λ c κs. search needs)
     (λ c κs. search needs)
     (λ c κs. search needs)
+    (λ c κs. search needs)
+    (λ c κs. search needs)
+    (λ c. line (c .before .before) .1)
+    (λ c. sym (length-take-le _ _ (line (c .before .before .before) .1)))
     write-requires
     (λ c. search needs)
     returns-2)

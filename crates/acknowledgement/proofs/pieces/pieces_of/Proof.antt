@@ -17,7 +17,7 @@ returns c =
     let x = c .before .before .before .before .before in
     let e = x .before in
     let f = e .before in
-    let s = f .before .before .before .before .before .before .before .before .before .before .before .before in
+    let s = f .before .before .before .before .before .before .before .before .before .before .before .before .before in
     let a = s .args in
     let h = now (a .header) in
     let m = one-byte h 3 (omega (arith, s .pre)) in
@@ -32,13 +32,14 @@ returns c =
     let k = now (a .fixed) in
     λ i.
     take 8 h ∷ m i ∷ v i ∷ m i ∷ w i ∷ m i ∷ t i ∷ m i ∷ u i ∷ m i ∷ now (a .time) ∷ m i ∷ m i ∷ take 3 k ∷ b i ∷ ev i ∷ m i ∷ now (a .id) ∷ m i ∷ z i
-    ∷ m i ∷ take 3 (drop 3 k) ∷ take 1 (drop 11 k) ∷ take 3 (drop 6 k) ∷ m i ∷ take 2 (drop 9 k) ∷ m i ∷ y i ∷ take 1 (drop 11 k) ∷ []
+    ∷ m i ∷ take 3 (drop 3 k) ∷ take 1 (drop 11 k) ∷ take 3 (drop 6 k) ∷ m i ∷ take 2 (drop 9 k) ∷ m i ∷ y i ∷ take 1 (drop 11 k)
+    ∷ now (a .errors) ∷ []
 
 pub pieces-of-spec : {M : Type 1} → statement M
 pieces-of-spec =
     tie.close
     (tie.spec
-    (λ c. sym (length-take-le 8 (now (c .before .before .before .before .before .args .header)) (omega arith)))
+    (λ c. sym (length-take-le 8 (now (c .before .before .before .before .before .before .args .header)) (omega arith)))
     (λ c. search needs)
     (λ c. omega arith)
     (λ c. omega arith)
@@ -50,7 +51,7 @@ pieces-of-spec =
     (λ c κs. search needs)
     (λ c κs. search needs)
     (λ c κs. search needs)
-    (λ c. sym (length-take-le 3 (now (c .before .before .before .before .before .before .before .before .before .before .before .before .before .before .before .args .fixed)) (omega arith)))
+    (λ c. sym (length-take-le 3 (now (c .before .before .before .before .before .before .before .before .before .before .before .before .before .before .before .before .args .fixed)) (omega arith)))
     (λ c. search needs)
     (λ c. omega arith)
     (λ c. omega arith)

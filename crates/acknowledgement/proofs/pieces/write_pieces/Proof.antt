@@ -12,7 +12,8 @@ use Rattle.alphabet.specs.declared.answers.Answer.{Answer}
 use Rattle.alphabet.specs.declared.answers.Refusal.the-variants.{None}
 use Rattle.escaping.specs.Outcomes.{roomFor, answer, filled}
 use Rattle.escaping.proofs.OutcomeLaws.{ended, takes-is, short-is}
-use Rattle.acknowledgement.specs.Pieces.{together, least, pieces}
+use Rattle.together.specs.Together.{together}
+use Rattle.acknowledgement.specs.Pieces.{least, pieces}
 use Rattle.acknowledgement.proofs.PieceLaws.{least-first, roomy-takes, roomy-short}
 use Rattle.acknowledgement.proofs.pieces.write_pieces.Statement.{statement}
 use Rattle.acknowledgement.proofs.pieces.write_pieces.Tie as tie
@@ -20,13 +21,13 @@ use Rattle.acknowledgement.proofs.pieces.write_pieces.Tie as tie
 -- what was measured: all pieces, against the smaller of the two
 measured : (c : tie.After-measure)
     → let p = c .before .before .before .before in
-    let a = p .before .before .before .before .before .before .args in
+    let a = p .before .before .before .before .before .before .before .args in
     c .measure .result
     ≡ roomFor (least (length (now (a .buffer))) messageLimit)
-    (length (together (pieces (now (a .header)) (now (a .time)) (now (a .id)) (now (a .fixed)))))
+    (length (together (pieces (now (a .header)) (now (a .time)) (now (a .id)) (now (a .fixed)) (now (a .errors)))))
 measured c =
     let p = c .before .before .before .before in
-    let a = p .before .before .before .before .before .before .args in
+    let a = p .before .before .before .before .before .before .before .args in
     c .measure .ensures
     ∙ ap₂ (λ (n : ℕ) (l : List (List ℕ)). roomFor n (length (together l)))
     (c .before .before .smaller .ensures ∙ ap (least (length (now (a .buffer)))) (c .before .before .before .message-limit .ensures))
@@ -35,12 +36,12 @@ measured c =
 abbrev made : ℕ → Answer
 made n = record { kind = None; place = 0; length = n }
 
-put-pieces-requires : tie.Need-put-pieces-requires
-put-pieces-requires c κs =
+put-requires : tie.Need-put-requires
+put-requires c κs =
     let k = c .before .before .before in
     let m = k .before .before in
     let p = m .before .before .before .before in
-    let a = p .before .before .before .before .before .before .args in
+    let a = p .before .before .before .before .before .before .before .args in
     let t = takes-is (least (length (now (a .buffer))) messageLimit) _ (k .size .given .0 .0) (sym (k .size .given .1) ∙ measured m) in
     omega (arith, t .1, least-first (length (now (a .buffer))) messageLimit, ap (λ l. length (together l)) (p .pieces-of .ensures))
 
@@ -48,7 +49,7 @@ returns : tie.Need-returns
 unfolding answer filled
 returns c =
     let m = c .before .before in
-    let a = m .before .before .before .before .before .before .before .before .before .before .args in
+    let a = m .before .before .before .before .before .before .before .before .before .before .before .args in
     let d = now (a .buffer) in
     ended _ _ d (roomy-short (length d) _ (short-is (least (length d) messageLimit) _ (sym (c .enum-told .given .1) ∙ measured m)))
 
@@ -58,11 +59,11 @@ returns-2 c =
     let k = c .before .before .before .before .before .before in
     let m = k .before .before in
     let p = m .before .before .before .before in
-    let a = p .before .before .before .before .before .before .args in
+    let a = p .before .before .before .before .before .before .before .args in
     let d = now (a .buffer) in
     let t = takes-is (least (length d) messageLimit) _ (k .size .given .0 .0) (sym (k .size .given .1) ∙ measured m) in
     let r = ended _ _ d (roomy-takes (length d) _ (t .1)) in
-    (ap made (t .0) ∙ r .0, c .before .before .put-pieces .ensures ∙ ap (λ l. over (together l) d) (p .pieces-of .ensures) ∙ r .1)
+    (ap made (t .0) ∙ r .0, c .before .before .put .ensures .1 ∙ ap (λ l. over (together l) d) (p .pieces-of .ensures) ∙ r .1)
 
 pub write-pieces-spec : {M : Type 1} → statement M
 write-pieces-spec =
@@ -76,7 +77,7 @@ write-pieces-spec =
     (λ c. search needs)
     (λ c. search needs)
     (λ c. search needs)
-    put-pieces-requires
+    put-requires
     returns
     (λ c. search needs)
     returns-2)

@@ -9,10 +9,10 @@ use native.Mathlib.Nat.{zero-add}
 use denote.Ref.{now}
 use Rattle.escaping.specs.Outcomes.{roomFor}
 use Rattle.escaping.proofs.OutcomeLaws.{room-takes, room-short}
-use Rattle.acknowledgement.specs.Pieces.{together}
-use Rattle.acknowledgement.proofs.PieceLaws.{count-next, pieces-end}
-use Rattle.acknowledgement.proofs.pieces.measure.Statement.{statement}
-use Rattle.acknowledgement.proofs.pieces.measure.Tie as tie
+use Rattle.together.specs.Together.{together}
+use Rattle.together.proofs.PieceLaws.{count-next, pieces-end}
+use Rattle.together.proofs.measure.Statement.{statement}
+use Rattle.together.proofs.measure.Tie as tie
 
 abbrev Inv-loop : tie.InvT-loop
 Inv-loop pieces room n₀ i₀ n i = (i ≤ length pieces) × (n ≤ room) × (length (together (map now pieces)) ≡ n + length (together (map now (drop i pieces))))

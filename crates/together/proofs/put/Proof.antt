@@ -1,14 +1,14 @@
 -- Rests on the laws of a buffer that is filled from its front: the pieces that are left, at each turn.
 use Prim.Native.Nat.{_≤_, _-_}
-use mathlib.Core.Path.{_∙_}
+use mathlib.Core.Path.{ap, _∙_}
 use lib.ListN.{length, getD, drop}
 use native.Mathlib.Omega.{arith}
 use borrow.Author.Needs.{needs}
 use denote.Ref.{now}
 use Rattle.alphabet.proofs.FillingLaws.{Filling, fill-start, fill-more, fill-room, fill-length, fill-end, put-fits}
-use Rattle.acknowledgement.proofs.PieceLaws.{none, bytes, pieces-next, pieces-end, count-next}
-use Rattle.acknowledgement.proofs.pieces.put_pieces.Statement.{statement}
-use Rattle.acknowledgement.proofs.pieces.put_pieces.Tie as tie
+use Rattle.together.proofs.PieceLaws.{none, bytes, pieces-next, pieces-end, count-next}
+use Rattle.together.proofs.put.Statement.{statement}
+use Rattle.together.proofs.put.Tie as tie
 
 abbrev Inv-loop : tie.InvT-loop
 Inv-loop pieces buffer₀ place₀ i₀ buffer place i = (i ≤ length pieces) × Filling (bytes pieces) buffer₀ (bytes (drop i pieces)) buffer place
@@ -37,10 +37,12 @@ same-length c = fill-length (c .before .loop .inv .1) (c .before .before .before
 returns : tie.Need-returns Inv-loop μ-loop
 returns c =
     let l = c .before in
-    fill-end (l .loop .inv .1) (pieces-end (now (l .before .before .args .pieces)) (l .loop .i) (omega arith))
+    let f = l .loop .inv .1 in
+    let e = pieces-end (now (l .before .before .args .pieces)) (l .loop .i) (omega arith) in
+    (omega (arith, fill-room f, ap length e), fill-end f e)
 
-pub put-pieces-spec : {M : Type 1} → statement M
-put-pieces-spec =
+pub put-spec : {M : Type 1} → statement M
+put-spec =
     tie.close
     (tie.spec
     Inv-loop

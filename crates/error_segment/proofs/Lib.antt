@@ -1,0 +1,2 @@
+pub mod NumeralLaws
+pub mod ErrorLaws
