@@ -1,7 +1,9 @@
-//! The acknowledgement: what is sent back for a message, by document 01's chapter of that name, and
-//! its letter by W2 of document 02. "Acknowledging: 16, 17, 9, 10." The place of each is 0.
+//! The acknowledgement: what is sent back for a message, by document 01's chapter of that name, with
+//! its letter by W2 of document 02, and ERR by W4 where it is not AA. "Acknowledging: 16, 17, 9, 10."
+//! The place of each is 0.
 
 use crate::element::{self, Address, Element, State};
+use crate::error_segment::error_segment;
 use crate::reading::{self, refuse, Refusal, COMPONENT_SEPARATOR, CR, FIELD_SEPARATOR};
 use crate::reading::{LONGEST_MESSAGE, SUBCOMPONENT_SEPARATOR};
 use crate::text::{self, Delimiters};
@@ -23,8 +25,13 @@ pub fn acknowledge(
     check_id(id)?;
     let header = header_of(message)?;
     check_header(header)?;
-    let header_back = header_back(header, time, id)?;
-    let acknowledgement = [header_back, answer_back(header, code_of(message))?].concat();
+    let verdict = verdict::judge(message);
+    let mut acknowledgement = header_back(header, time, id)?;
+    acknowledgement.extend(answer_back(header, code_of(&verdict))?);
+    // "An ERR segment after MSA when we answer AE or AR" (W4).
+    if let Err(fault) = &verdict {
+        acknowledgement.extend(error_segment(message, fault));
+    }
     check_room(acknowledgement, room)
 }
 
@@ -70,10 +77,10 @@ fn check_header(header: &[u8]) -> Result<(), Refusal> {
 
 /// "Code AA exactly when reading, structure and fields all accept"; document 02 tells the others
 /// apart. "Where several faults stand, the first in the judges' order decides the letter" (W2).
-fn code_of(message: &[u8]) -> &'static [u8] {
-    match verdict::judge(message) {
+fn code_of(verdict: &Result<(), Fault>) -> &'static [u8] {
+    match verdict {
         Ok(()) => b"AA",
-        Err(fault) if rejects(&fault) => b"AR",
+        Err(fault) if rejects(fault) => b"AR",
         Err(_) => b"AE",
     }
 }
@@ -90,7 +97,8 @@ fn rejects(fault: &Fault) -> bool {
     }
 }
 
-/// 10: "acknowledgement longer than the buffer or 32,768".
+/// 10: "acknowledgement longer than the buffer or 32,768", which "now counts the ERR bytes" (W4): it
+/// is never written without its ERR to make it fit (W4's ruling 16).
 fn check_room(acknowledgement: Vec<u8>, room: usize) -> Result<Vec<u8>, Refusal> {
     if acknowledgement.len() > room || acknowledgement.len() > LONGEST_MESSAGE {
         return refuse(10, 0);

@@ -13,6 +13,7 @@ mod acknowledgement;
 mod ask;
 mod chance;
 mod element;
+mod error_segment;
 mod fields;
 mod frames;
 mod hex;

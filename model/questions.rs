@@ -5,6 +5,7 @@
 mod ack_fresh;
 mod ack_stored;
 mod ack_wide;
+mod error_places;
 mod filled;
 mod find_stored;
 mod frame_fresh;
@@ -105,7 +106,8 @@ pub fn limits() -> Vec<Bytes> {
     once_each(sets.concat())
 }
 
-/// One random question, a line without its LF: as many of each verb, and some damaged lines.
+/// One random question, a line without its LF: as many of each verb, but twice as many of `ack`, and
+/// some damaged lines.
 pub fn fresh(chance: &mut Chance) -> Bytes {
     if chance.one_in(12) {
         return no_question::fresh(chance);
@@ -114,7 +116,8 @@ pub fn fresh(chance: &mut Chance) -> Bytes {
 }
 
 fn fresh_question(chance: &mut Chance) -> Bytes {
-    let others = ["read", "structure", "verdict", "ack"];
+    // An acknowledgement tells of every fault that the judges find, so it has most to be asked for.
+    let others = ["read", "structure", "verdict", "ack", "ack"];
     let verbs = [&others, &LOOKUPS[..], &TEXTS[..], &FRAMES[..]].concat();
     match chance.pick(&verbs) {
         "read" => read_fresh::fresh(chance),

@@ -72,7 +72,8 @@ fn component_of_type(message: &[u8], component: u64) -> Result<&[u8], Refusal> {
     Ok(&message[element.part])
 }
 
-fn names_sent(message: &[u8]) -> Vec<&[u8]> {
+/// The names of all segments, in their order.
+pub fn names_sent(message: &[u8]) -> Vec<&[u8]> {
     let segments = element::segments(message);
     segments.iter().map(|segment| &message[segment.start..segment.start + 3]).collect()
 }

@@ -1,23 +1,28 @@
 //! Fresh questions of the verb `ack`: random messages of every kind, headers that are hard to
-//! acknowledge, and messages that are answered AR or nearly so; times and IDs mostly good; and
-//! buffers about as large as is enough.
+//! acknowledge, messages that are answered AR or nearly so, and such as have a fault at one of many
+//! segments of a name or a segment out of its place; times and IDs mostly good; and buffers about as
+//! large as is enough, or as would be enough with no ERR.
 
+use super::error_places::RESULT;
 use super::refused::{PROCESSING_IDS, TYPES, VERSIONS};
 use super::verdict_wide::TELLING;
 use super::{ack_question, latin, read_fresh, sound, structure_fresh, value_fresh, verdict_fresh};
-use super::{message, Bytes, USUAL_DELIMITERS};
+use super::{filled, message, Bytes, USUAL_DELIMITERS};
 use crate::acknowledgement::acknowledge;
 use crate::ask::MOST_ROOM;
 use crate::chance::Chance;
 use crate::reading::{CR, LONGEST_MESSAGE};
 
 pub fn fresh(chance: &mut Chance) -> Bytes {
-    if chance.one_in(1500) {
+    if chance.one_in(1000) {
         return of_a_long_header(chance);
     }
     let message = match chance.below(16) {
-        0..=4 => hard_header(chance),
-        5..=10 => to_be_rejected(chance),
+        0..=2 => hard_header(chance),
+        3..=6 => to_be_rejected(chance),
+        7..=10 => one_of_many(chance),
+        11..=12 => out_of_place(chance),
+        _ if chance.one_in(150) => long_message(chance),
         _ => verdict_fresh::random_message(chance),
     };
     let time = random_time(chance);
@@ -49,6 +54,102 @@ fn to_be_rejected(chance: &mut Chance) -> Bytes {
     if fault == 5 {
         damage_behind_the_header(chance, &mut message);
     }
+    message
+}
+
+/// Segments that are sound behind an OBR, in any order.
+const SOUND: [&str; 8] = [RESULT, RESULT, "NTE", "NTE", "OBR", "OBR|1", "ZZZ", "ZVI"];
+
+/// What may come up often in an ORU, and the same with a fault of a field, or where it cannot stand.
+const OFTEN: [(&str, &[&str]); 4] = [
+    (
+        RESULT,
+        &[
+            "OBX",
+            "OBX|||1",
+            "OBX|||\"\"||||||||F",
+            "OBX|x||1||||||||F",
+            "OBX||XX|1||||||||F",
+            "OBX||NM~|1||||||||F",
+            "OBX|||1||5||||||F",
+            "OBX||NM|1||x||||||F",
+            "OBX||NM|1||1234567890123456789||||||F",
+            "OBX|||1||||||||Q",
+            "OBX|||1||||||||\"\"",
+            "OBX|||1||||||||F|||x",
+            "OBX|||1||||||||F|||2024~",
+            "CTI\rOBX",
+        ],
+    ),
+    ("NTE", &["CTI\rNTE", "DSC\rNTE", "ORC\rNTE|x"]),
+    ("OBR", &["OBR|x", "OBR|1~2", "OBR|10000", "DSC\rOBR"]),
+    (
+        "PID|||1||A\rOBR",
+        &[
+            "PID|||||A\rOBR", "PID|||1||\"\"\rOBR", "PID|||1||A||x\rOBR", "PID|||1||A|||X\rOBR",
+            "PID|||1||A|||M~F\rOBR", "PID|||1||A\rPID",
+        ],
+    ),
+];
+
+/// Segments that cannot stand behind some others, or let what comes behind them no longer stand, or
+/// cannot be read.
+const FOREIGN: [&str; 16] = [
+    "ORC", "CTI", "DSC", "EVN", "PV1", "PV2", "PD1", "MRG", "ERR|x", "MSA|AA", "PID|||1||A",
+    "OBX|||1", "MSH", "obx|x", "OBX|\t", "",
+];
+
+/// An ORU of many segments, most of one name, with a fault or two: so a sequence may have two digits
+/// or three.
+fn one_of_many(chance: &mut Chance) -> Bytes {
+    let (often, faulty) = chance.pick(&OFTEN);
+    let count = match chance.below(20) {
+        0 => chance.between(110, 130),
+        1 => chance.between(110, 250),
+        2..=7 => chance.between(10, 40),
+        _ => chance.between(2, 12),
+    };
+    let header = filled::header_of_oru(&[]);
+    let mut segments = vec![&header[..], "OBR"];
+    for _ in 0..count {
+        segments.push(if chance.one_in(8) { chance.pick(&SOUND) } else { often });
+    }
+    for _ in 0..chance.pick(&[0, 1, 1, 1, 1, 1, 2, 2]) {
+        let first = if chance.one_in(4) { 1 } else { segments.len() - segments.len() / 8 };
+        let at = chance.between(first, segments.len());
+        let fault = if chance.one_in(3) { chance.pick(&FOREIGN) } else { chance.pick(faulty) };
+        segments.insert(at, fault);
+    }
+    let delimiters = sound::random_delimiters(chance);
+    let usual = message(&segments);
+    usual.iter().map(|&byte| structure_fresh::translated(byte, delimiters)).collect()
+}
+
+/// Names of any structure but ACK's that mostly cannot all stand, with Z segments every third time,
+/// and the fields of each filled.
+fn out_of_place(chance: &mut Chance) -> Bytes {
+    let (kind, event) = chance.pick(&[
+        ("ORU", "R01"),
+        ("ORU", "R01"),
+        ("ADT", "A40"),
+        ("ADT", "A01"),
+        ("ADT", "A01"),
+        ("ADT", "A02"),
+        ("ADT", "A12"),
+    ]);
+    let names = structure_fresh::random_names(chance, kind, event);
+    let segments = verdict_fresh::segments_of(chance, kind, event, &names);
+    verdict_fresh::sent(chance, segments)
+}
+
+/// A sound header, and so much behind it that the message is about as long as may be.
+fn long_message(chance: &mut Chance) -> Bytes {
+    let behind = chance.pick(&["OBR|1|", "OBR|x|", "OBX|", "obr", "OBR\rOBX|||"]);
+    let mut message = message(&[&filled::header_of_oru(&[]), behind]);
+    message.pop();
+    message.resize(LONGEST_MESSAGE - 1 + chance.below(3), b'x');
+    message.pop();
+    message.push(CR);
     message
 }
 
@@ -104,10 +205,10 @@ fn hard_field(chance: &mut Chance, field: usize) -> Bytes {
 
 /// A header about as long as may be, or with which the acknowledgement is, and so large a buffer.
 fn of_a_long_header(chance: &mut Chance) -> Bytes {
-    let length = LONGEST_MESSAGE - chance.between(15, 75);
+    let length = LONGEST_MESSAGE - chance.between(15, 90);
     let content: String = chance.pick(&["x", "xy~", "^"]).chars().cycle().take(length).collect();
     let header = format!(r"MSH|^~\&|{content}|||||||1|P");
-    let room = chance.between(LONGEST_MESSAGE - 1, LONGEST_MESSAGE + 1);
+    let room = LONGEST_MESSAGE - 1 + chance.pick(&[0, 1, 2, 20]);
     ack_question(&message(&[&header]), b"20240229", &random_id(chance), room)
 }
 
@@ -137,16 +238,17 @@ fn random_id(chance: &mut Chance) -> Bytes {
         .collect()
 }
 
-/// Mostly about as much as is enough; or none, or more.
+/// Mostly about as much as is enough, or less by up to what an ERR takes; or none, or more.
 fn random_room(chance: &mut Chance, message: &[u8], time: &[u8], id: &[u8]) -> usize {
     let enough = acknowledge(message, time, id, usize::MAX).unwrap_or_default().len();
-    let room = match chance.below(16) {
-        0..=7 => enough,
-        8..=9 => enough.saturating_sub(1),
-        10..=11 => enough + 1,
-        12 => chance.below(enough + 1),
-        13 => message.len(),
-        14 => chance.pick(&[0, 0, 1, 75, 76, 77, 255, 256]),
+    let room = match chance.below(20) {
+        0..=8 => enough,
+        9..=11 => enough.saturating_sub(1),
+        12..=13 => enough + 1,
+        14..=15 => enough.saturating_sub(chance.between(2, 20)),
+        16 => chance.below(enough + 1),
+        17 => message.len(),
+        18 => chance.pick(&[0, 0, 1, 75, 76, 77, 255, 256]),
         _ => enough + chance.below(20),
     };
     room.min(MOST_ROOM as usize)

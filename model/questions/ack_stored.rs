@@ -1,7 +1,9 @@
 //! The stored questions of the verb `ack`: headers of every kind, good ones with every fault behind
-//! them and hostile ones; the caller's time and ID in all forms; and buffers of every size around
-//! the one that is enough. What is as large as a limit is not stored: the wide set has that.
+//! them and hostile ones; the caller's time and ID in all forms; each number and code that ERR tells
+//! of, and segments counted by their name; and buffers of every size around the one that is enough.
+//! What is as large as a limit is not stored: the wide set has that.
 
+use super::error_places::{self, delimited, DELIMITERS};
 use super::filled::{header_of_oru, message_with, segment};
 use super::{ack_question, changed, latin, lifelike, message, message_of_type, Bytes};
 use crate::acknowledgement::acknowledge;
@@ -9,6 +11,10 @@ use crate::reading::CR;
 
 /// The shortest message that is acknowledged, with AR: it has no more than an MSH-10.
 const SHORTEST: &[u8] = b"MSH|^~\\&||||||||1\r";
+
+/// What its acknowledgement takes with the time and the ID below, and what it would take with no ERR.
+const ENOUGH: usize = WITHOUT_ERROR + 16;
+const WITHOUT_ERROR: usize = 39;
 
 /// What the caller gives where it doesn't matter.
 const TIME: &[u8] = b"2024";
@@ -33,6 +39,9 @@ pub fn stored() -> Vec<Bytes> {
         first_of_several_faults(),
         other_delimiters(),
         letters_with_other_delimiters(),
+        error_of_each_number(),
+        segments_counted(),
+        one_of_many(),
         lifelike_messages(),
     ];
     questions.concat()
@@ -41,27 +50,31 @@ pub fn stored() -> Vec<Bytes> {
 /// A question with one byte of room more than the acknowledgement takes, or with room for one byte
 /// where there is none.
 fn acknowledged(message: &[u8], time: &[u8], id: &[u8]) -> Bytes {
-    let length = acknowledge(message, time, id, usize::MAX).unwrap_or_default().len();
-    ack_question(message, time, id, length + 1)
+    ack_question(message, time, id, enough_for(message, time, id) + 1)
+}
+
+/// What the acknowledgement takes, or none where there is none.
+fn enough_for(message: &[u8], time: &[u8], id: &[u8]) -> usize {
+    acknowledge(message, time, id, usize::MAX).unwrap_or_default().len()
 }
 
 /// Sample 13 of the paper, with rooms about enough; and with no segment behind the header, so that
-/// it is not accepted.
+/// it is not accepted, and an ERR of 11 bytes has to fit too.
 fn samples() -> Vec<Bytes> {
     let header = r"MSH|^~\&|LAB|PATH|GP|CLINIC|20240229093000+1000||ORU^R01|A7|P|2.4";
     let time = b"20240229093001+1000";
     let accepted = message(&[header, "OBR|1"]);
     let mut lines: Vec<Bytes> =
         [76, 75, 77, 0].map(|room| ack_question(&accepted, time, b"K1", room)).to_vec();
-    lines.push(ack_question(&message(&[header]), time, b"K1", 76));
-    lines.push(ack_question(&message(&[header]), time, b"K1", 75));
+    lines.extend([87, 86, 76].map(|room| ack_question(&message(&[header]), time, b"K1", room)));
     lines
 }
 
-/// From no room to one byte more than enough.
+/// No room or little; and from what would be enough with no ERR, less one byte, to one byte more than
+/// enough: an acknowledgement "is never written without its ERR to make it fit" (W4's ruling 16).
 fn rooms() -> Vec<Bytes> {
-    let enough = 39;
-    (0..=enough + 1).map(|room| ack_question(SHORTEST, TIME, ID, room)).collect()
+    let rooms = [0, 1, 16].into_iter().chain(WITHOUT_ERROR - 1..=ENOUGH + 1);
+    rooms.map(|room| ack_question(SHORTEST, TIME, ID, room)).collect()
 }
 
 /// "The caller's time has to be TS as it stands" (ruling 28).
@@ -94,7 +107,7 @@ fn ids() -> Vec<Bytes> {
         lines.push(acknowledged(SHORTEST, TIME, &vec![CR; length]));
     }
     // Room for the ID as it was handed in, and for more, until it is enough for what is written.
-    lines.extend([39, 40, 41].map(|room| ack_question(SHORTEST, TIME, b"|", room)));
+    lines.extend([0, 1, 2].map(|more| ack_question(SHORTEST, TIME, b"|", ENOUGH + more)));
     lines
 }
 
@@ -110,7 +123,7 @@ fn orders() -> Vec<Bytes> {
     for time in [&b""[..], TIME] {
         for id in [&b""[..], ID] {
             for message in [&b""[..], b"MSH|^~\\&|||||||ACK|1\r", SHORTEST] {
-                for room in [0, 38, 39] {
+                for room in [0, ENOUGH - 1, ENOUGH] {
                     lines.push(ack_question(message, time, id, room));
                 }
             }
@@ -361,7 +374,41 @@ fn letters_with_other_delimiters() -> Vec<Bytes> {
         lines.push(acknowledged(&message(&[header, "OBR"]), TIME, ID));
     }
     let rejected = message(&["MSH#$%*@#####2024##ORU$R01#1#P#2.5$2.4", "OBR"]);
-    lines.push(ack_question(&rejected, TIME, ID, 43));
+    lines.push(ack_question(&rejected, TIME, ID, enough_for(&rejected, TIME, ID) - 1));
+    lines
+}
+
+/// Each number and each code, with delimiters of two kinds, each with as much room as is enough and
+/// with one byte less.
+fn error_of_each_number() -> Vec<Bytes> {
+    let mut lines = Vec::new();
+    for message in error_places::of_each_number() {
+        for delimiters in DELIMITERS {
+            let message = delimited(&message, delimiters);
+            let enough = enough_for(&message, TIME, ID);
+            lines.extend([enough, enough - 1].map(|room| ack_question(&message, TIME, ID, room)));
+        }
+    }
+    lines
+}
+
+/// "Sequence counts segments of that name from 1 up to the faulty one" (W4).
+fn segments_counted() -> Vec<Bytes> {
+    let messages = error_places::counted();
+    messages.iter().map(|message| acknowledged(message, TIME, ID)).collect()
+}
+
+/// Sequences of one digit, of two and of three. Among them a word outside its list in segments 11 and
+/// 12, which are no fields; and a room of one byte less than enough.
+fn one_of_many() -> Vec<Bytes> {
+    let mut messages = [10, 11, 12].map(|count| error_places::result_with(count, 2, "XX")).to_vec();
+    messages.extend([2, 9, 10, 11].map(error_places::last_of).concat());
+    messages.extend([99, 100, 130].map(|count| error_places::last_of(count)[0].clone()));
+    let [orders, results] = error_places::last_of(120);
+    messages.push(delimited(&results, DELIMITERS[1]));
+    let mut lines: Vec<Bytes> =
+        messages.iter().map(|message| acknowledged(message, TIME, ID)).collect();
+    lines.push(ack_question(&orders, TIME, ID, enough_for(&orders, TIME, ID) - 1));
     lines
 }
 
@@ -424,10 +471,10 @@ fn no_questions() -> Vec<Bytes> {
         " 4D 32303234 4b 1",
     ];
     let mut lines: Vec<String> = rests.map(|rest| format!("ack{rest}")).to_vec();
-    lines.push(format!("ack {} 32303234 4B 39", shortest.to_uppercase()));
-    lines.push(format!("ack {shortest} 32303234 39"));
-    lines.push(format!("ack {shortest} 32303234 4b 4b 39"));
-    lines.push(format!("ack {shortest}0 32303234 4b 39"));
+    lines.push(format!("ack {} 32303234 4B {ENOUGH}", shortest.to_uppercase()));
+    lines.push(format!("ack {shortest} 32303234 {ENOUGH}"));
+    lines.push(format!("ack {shortest} 32303234 4b 4b {ENOUGH}"));
+    lines.push(format!("ack {shortest}0 32303234 4b {ENOUGH}"));
     for verb in ["ACK", "Ack", "acks", "ac", " ack", "nack", "ack\t"] {
         lines.push(format!("{verb} - 32303234 4b 1"));
     }

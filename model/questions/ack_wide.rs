@@ -1,15 +1,15 @@
 //! The wide set of the verb `ack`: every telling content in every field of the header, every byte
 //! in an ID and at every place of a header, every room for messages as they are sent; every number
-//! at every place that can give it, and with those that are answered AR; and messages,
+//! at every place that can give it, and with those that are answered AR; every sequence that ERR can
+//! tell, each number with every room about ERR, and every short list of names; and messages,
 //! acknowledgements and lines about as long as may be.
 
-use super::structure_fresh::translated;
+use super::error_places::{self, delimited, DELIMITERS};
 use super::verdict_wide::TELLING;
-use super::{ack_question, changed, filled, lifelike, message, refused, Bytes, USUAL_DELIMITERS};
+use super::{ack_question, changed, filled, lifelike, message, refused, Bytes};
 use crate::acknowledgement::acknowledge;
 use crate::ask::{LONGEST_LINE, MOST_ROOM};
 use crate::reading::{allowed, CR, LONGEST_MESSAGE, MOST_SEGMENTS};
-use crate::text::Delimiters;
 
 const TIME: &[u8] = b"20240229";
 const ID: &[u8] = b"K1";
@@ -27,6 +27,10 @@ pub fn wide() -> Vec<Bytes> {
         letters(),
         letters_with_rooms(),
         every_byte_that_rejects(),
+        rooms_about_errors(),
+        every_sequence(),
+        faults_of_later_segments(),
+        short_lists(),
         long_lines(),
     ];
     questions.concat()
@@ -34,13 +38,31 @@ pub fn wide() -> Vec<Bytes> {
 
 /// What is as large as a limit of the library.
 pub fn limits() -> Vec<Bytes> {
-    [long_headers(), long_messages(), long_messages_that_reject()].concat()
+    let questions = [
+        long_headers(),
+        long_headers_and_errors(),
+        long_messages(),
+        long_messages_that_reject(),
+        too_long_with_rooms(),
+    ];
+    questions.concat()
 }
 
 /// A question with one byte of room more than enough.
 fn acknowledged(message: &[u8], time: &[u8], id: &[u8]) -> Bytes {
-    let length = acknowledge(message, time, id, usize::MAX).unwrap_or_default().len();
+    let length = enough_for(message, time, id);
     ack_question(message, time, id, length.min(LONGEST_MESSAGE) + 1)
+}
+
+/// What the acknowledgement takes, or none where there is none.
+fn enough_for(message: &[u8], time: &[u8], id: &[u8]) -> usize {
+    acknowledge(message, time, id, usize::MAX).unwrap_or_default().len()
+}
+
+/// Questions with as much room as is enough, and with one byte less.
+fn exactly_and_less(message: &[u8]) -> [Bytes; 2] {
+    let enough = enough_for(message, TIME, ID);
+    [enough, enough.saturating_sub(1)].map(|room| ack_question(message, TIME, ID, room))
 }
 
 fn telling_contents() -> Vec<Bytes> {
@@ -124,19 +146,11 @@ fn every_room() -> Vec<Bytes> {
     let mut lines = Vec::new();
     for whole in [lifelike::chest_report(), lifelike::merge()] {
         for id in [ID, b"|", b"\r\"\""] {
-            let length = acknowledge(&whole, TIME, id, usize::MAX).unwrap_or_default().len();
+            let length = enough_for(&whole, TIME, id);
             lines.extend((0..=length + 2).map(|room| ack_question(&whole, TIME, id, room)));
         }
     }
     lines
-}
-
-/// The usual delimiters, and five others.
-const DELIMITERS: [Delimiters; 2] = [USUAL_DELIMITERS, *b"#$%*@"];
-
-/// The message with these delimiters in the place of the usual ones.
-fn delimited(message: &[u8], delimiters: Delimiters) -> Bytes {
-    message.iter().map(|&byte| translated(byte, delimiters)).collect()
 }
 
 /// Messages of each letter, with delimiters of two kinds.
@@ -164,7 +178,7 @@ fn letters_with_rooms() -> Vec<Bytes> {
     for message in messages.concat() {
         for delimiters in DELIMITERS {
             let message = delimited(&message, delimiters);
-            let enough = acknowledge(&message, TIME, ID, usize::MAX).unwrap_or_default().len();
+            let enough = enough_for(&message, TIME, ID);
             for room in enough.saturating_sub(1)..=enough + 1 {
                 lines.push(ack_question(&message, TIME, ID, room));
             }
@@ -186,6 +200,88 @@ fn every_byte_that_rejects() -> Vec<Bytes> {
     lines
 }
 
+/// Each number and each code with every room from what would do without any ERR, less one byte, up
+/// to one byte more than enough, with delimiters of two kinds; and segments counted by their name.
+fn rooms_about_errors() -> Vec<Bytes> {
+    let longest_error = b"ERR|OBX^255^14^102\r".len();
+    let mut lines = Vec::new();
+    for delimiters in DELIMITERS {
+        for message in error_places::of_each_number() {
+            let message = delimited(&message, delimiters);
+            let enough = enough_for(&message, TIME, ID);
+            let rooms = enough - longest_error - 1..=enough + 1;
+            lines.extend(rooms.map(|room| ack_question(&message, TIME, ID, room)));
+        }
+        for message in error_places::counted() {
+            lines.extend(exactly_and_less(&delimited(&message, delimiters)));
+        }
+    }
+    lines
+}
+
+/// Every sequence up to 253, which with MSH, OBR and CTI makes 256 segments: of OBR by a fault of its
+/// field, of OBX by one of the structure and by one of a field. Four in a row have the same delimiters,
+/// so that each fault is asked with both kinds.
+fn every_sequence() -> Vec<Bytes> {
+    let mut lines = Vec::new();
+    for count in 1..=253 {
+        let [orders, results] = error_places::last_of(count);
+        let (field, content) = [(11, "Q"), (3, "\"\""), (14, "x"), (1, "1~1")][count % 4];
+        let faulty = error_places::result_with(count, field, content);
+        for message in [orders, results, faulty] {
+            lines.extend(exactly_and_less(&delimited(&message, DELIMITERS[count / 4 % 2])));
+        }
+    }
+    lines
+}
+
+/// Each fault of a field in the second segment of its name or the third, and in the tenth or a later
+/// one, behind sound ones, with Z segments and other names between them.
+fn faults_of_later_segments() -> Vec<Bytes> {
+    let mut lines = Vec::new();
+    for (at, behind) in refused::of_fields().iter().enumerate() {
+        for (rounds, delimiters) in [(1, DELIMITERS[at % 2]), (9, DELIMITERS[1 - at % 2])] {
+            let header = filled::header_of_oru(&[]);
+            let mut segments = vec![&header[..]];
+            for round in 0..rounds {
+                segments.extend(["PID|||1||A", "OBR", error_places::RESULT]);
+                segments.extend([["ZZZ", "NTE"], ["NTE", "ZBX|x"], ["OBR", "ZID"]][round % 3]);
+            }
+            let message = [&message(&segments)[..], behind].concat();
+            lines.extend(exactly_and_less(&delimited(&message, delimiters)));
+        }
+    }
+    lines
+}
+
+/// Every list of up to three names, of four types: whatever can stand, cannot, or has a fault of its
+/// fields where it can.
+fn short_lists() -> Vec<Bytes> {
+    let types: [(&str, &[&str]); 4] = [
+        ("ORU^R01", &["PID|||1||A", "PID", "NTE", "OBR", "OBX", "CTI", "DSC", "ZVI"]),
+        ("ADT^A40", &["EVN", "PID|||1||A", "PID", "MRG", "PV1", "ZVI"]),
+        ("ADT^A01", &["EVN", "PID|||1||A", "PID", "PV1", "AL1", "ZVI", "ZPD", "ZZZ"]),
+        ("ADT^A02", &["EVN", "PID|||1||A", "PV1", "ZVI", "ZPD"]),
+    ];
+    let mut lines = Vec::new();
+    for (message_type, segments) in types {
+        let mut lists: Vec<Vec<&str>> = vec![Vec::new()];
+        let mut longest = lists.clone();
+        for _ in 0..3 {
+            longest = longest
+                .iter()
+                .flat_map(|list| segments.iter().map(|segment| [&list[..], &[segment]].concat()))
+                .collect();
+            lists.extend(longest.clone());
+        }
+        for list in lists {
+            let message = error_places::message_behind(message_type, &list);
+            lines.push(acknowledged(&message, TIME, ID));
+        }
+    }
+    lines
+}
+
 /// Headers with which the acknowledgement is as long as may be, or one byte longer or shorter; and
 /// headers as long as may be themselves. The room ends at 32,768 and behind it.
 fn long_headers() -> Vec<Bytes> {
@@ -193,8 +289,7 @@ fn long_headers() -> Vec<Bytes> {
     let mut lines = Vec::new();
     for field in [3, 4, 5, 6, 11] {
         let empty = filled::header_of_oru(&[(field, "")]);
-        let length =
-            acknowledge(&message(&[&empty]), TIME, ID, usize::MAX).unwrap_or_default().len();
+        let length = enough_for(&message(&[&empty]), TIME, ID);
         for longer in [LONGEST_MESSAGE - length, LONGEST_MESSAGE - empty.len() - 1] {
             for filling in [longer - 1, longer, longer + 1] {
                 let header = filled::header_of_oru(&[(field, &"x".repeat(filling))]);
@@ -212,6 +307,27 @@ fn long_headers() -> Vec<Bytes> {
         for filling in [32_000, LONGEST_MESSAGE] {
             let header = filled::header_of_oru(&[(field, &"x".repeat(filling))]);
             lines.push(acknowledged(&message(&[&header]), TIME, ID));
+        }
+    }
+    lines
+}
+
+/// Acknowledgements that are as long as may be, or one byte longer or shorter, with ERR and without
+/// one; and those that would be as long as may be with no ERR.
+fn long_headers_and_errors() -> Vec<Bytes> {
+    let accepted = message(&[&filled::header_of_oru(&[]), "OBR"]);
+    let without_error = LONGEST_MESSAGE - enough_for(&accepted, TIME, ID);
+    let mut lines = Vec::new();
+    for (change, behind) in
+        [((11, "P"), "OBR"), ((9, "ORU^R02"), "OBR"), ((11, "X"), "OBR"), ((11, "P"), "OBR|x")]
+    {
+        let message_of = |filling: usize| {
+            let header = filled::header_of_oru(&[(3, &"x".repeat(filling)), change]);
+            message(&[&header, behind])
+        };
+        let longest = LONGEST_MESSAGE - enough_for(&message_of(0), TIME, ID);
+        for filling in [longest - 1, longest, longest + 1, without_error] {
+            lines.push(ack_question(&message_of(filling), TIME, ID, LONGEST_MESSAGE + 1));
         }
     }
     lines
@@ -267,6 +383,23 @@ fn long_messages_that_reject() -> Vec<Bytes> {
     segments.push("OBX|||1||||||||2.4");
     messages.push(message(&segments));
     messages.iter().map(|message| acknowledged(message, TIME, ID)).collect()
+}
+
+/// 1 and 8, which only what is longer than may be can have, and a fault of the last segment that may
+/// be, with delimiters of two kinds, each with as much room as is enough and with one byte less.
+fn too_long_with_rooms() -> Vec<Bytes> {
+    let header = filled::header_of_oru(&[]);
+    let mut segments = vec![&header[..], "OBR"];
+    segments.resize(MOST_SEGMENTS + 1, "NTE");
+    let [last, _] = error_places::last_of(MOST_SEGMENTS - 1);
+    let messages = [message_of_length(&header, LONGEST_MESSAGE + 1), message(&segments), last];
+    let mut lines = Vec::new();
+    for message in messages {
+        for delimiters in DELIMITERS {
+            lines.extend(exactly_and_less(&delimited(&message, delimiters)));
+        }
+    }
+    lines
 }
 
 /// Lines about as long as may be, byte for byte: by the time, by the ID, by both of them

@@ -35,10 +35,11 @@ pub fn limits() -> Vec<Bytes> {
     [whole_frames_at_the_limit(), states_at_the_limit()].concat()
 }
 
-/// With a room of 3 six bytes are enough: they are what a frame of 3 has.
+/// Those that are shorter are stored. With a room of 3 six bytes are enough: they are what a frame of 3
+/// has.
 fn streams() -> Vec<Bytes> {
     let mut lines = Vec::new();
-    for (length, rooms) in [(5, 0..=3), (6, 0..=3), (7, 0..=2)] {
+    for (length, rooms) in [(4, 1..=2), (5, 0..=3), (6, 0..=3), (7, 0..=2)] {
         let streams = texts(&TELLING, length);
         for room in rooms {
             lines.extend(streams.iter().map(|stream| frames_question(room, &[stream])));

@@ -3,7 +3,7 @@
 //! their point allows, since all verbs share the room for vectors; what is as long as a limit, and
 //! every byte value at every place, stand in the wide set.
 
-use super::read_wide::{at_every_place, with_bytes, with_every_byte};
+use super::read_wide::at_every_place;
 use super::{changed, latin, message, read_fresh, read_question, sound, Bytes};
 use crate::chance::Chance;
 use crate::reading::{CR, MOST_SEGMENTS};
@@ -13,7 +13,7 @@ pub fn stored() -> Vec<Bytes> {
         sound::of_each_structure(),
         sound::of_other_kinds(),
         short_messages(),
-        telling_bytes(),
+        at_every_place(TELLING),
         equal_delimiters(),
         segment_names(),
         line_ends(),
@@ -42,22 +42,9 @@ fn short_messages() -> Vec<Bytes> {
 }
 
 /// Bytes at the edges of what may stand somewhere: of control bytes, of digits, of capitals and small
-/// letters, of delimiters, of ASCII and of Latin-1.
+/// letters, of delimiters, of ASCII and of Latin-1. The others stand in the wide set.
 const TELLING: &[u8] =
     b"\0\t\n\x0B\r\x1C\x1F !\"#&'+-./09:;@AMZ[\\]^_`az{|}~\x7F\x80\x9F\xA0\xC0\xFF";
-
-/// Each of them at every kind of place; and every byte value as a delimiter, in a content, in a
-/// name and behind it.
-fn telling_bytes() -> Vec<Bytes> {
-    let content = message(&[r"MSH|^~\&|A"]);
-    let name = message(&[r"MSH|^~\&", "PID"]);
-    let mut messages = at_every_place(TELLING);
-    messages.extend(with_every_byte(&content, 4));
-    messages.extend(with_every_byte(&content, 9));
-    messages.extend(with_every_byte(&name, 9));
-    messages.extend(with_bytes(&name, 12, &(0..=0x2F).collect::<Bytes>()));
-    messages
-}
 
 /// Each two of the five equal, alone and with a byte that is not permitted at each of the others.
 fn equal_delimiters() -> Vec<Bytes> {

@@ -6,7 +6,8 @@ use super::{changed, message, read_question, Bytes};
 use crate::reading::{CR, LONGEST_MESSAGE, MOST_SEGMENTS};
 
 pub fn wide() -> Vec<Bytes> {
-    at_every_place(&every_byte()).iter().map(|message| read_question(message)).collect()
+    let every_byte: Bytes = (0..=0xFF).collect();
+    at_every_place(&every_byte).iter().map(|message| read_question(message)).collect()
 }
 
 /// What is as large as a limit.
@@ -16,17 +17,8 @@ pub fn limits() -> Vec<Bytes> {
 }
 
 /// The message with each of these bytes at `place`.
-pub fn with_bytes(message: &[u8], place: usize, bytes: &[u8]) -> Vec<Bytes> {
+fn with_bytes(message: &[u8], place: usize, bytes: &[u8]) -> Vec<Bytes> {
     bytes.iter().map(|&byte| changed(message, place, byte)).collect()
-}
-
-/// The message with every byte value at `place`.
-pub fn with_every_byte(message: &[u8], place: usize) -> Vec<Bytes> {
-    with_bytes(message, place, &every_byte())
-}
-
-fn every_byte() -> Bytes {
-    (0..=0xFF).collect()
 }
 
 /// Each of these bytes at every kind of place: in the header and in a later segment.

@@ -217,7 +217,7 @@ const VALUES: [(&str, &str); 18] = [
 ];
 
 /// What is accepted, and each of these faults in the shortest that can stand behind a header.
-fn of_fields() -> Vec<Bytes> {
+pub fn of_fields() -> Vec<Bytes> {
     let mut behind = vec![latin("OBR\r"), latin("PID|||1||A\rOBR|1\rOBX|||1||||||||F\r")];
     for (name, field, contents) in FAULTS {
         for content in contents {

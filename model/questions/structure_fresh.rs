@@ -47,7 +47,7 @@ fn random_message(chance: &mut Chance) -> Bytes {
 }
 
 /// A walk as it is, damaged, or cut; with Z segments every third time.
-fn random_names(chance: &mut Chance, kind: &str, event: &str) -> Vec<String> {
+pub fn random_names(chance: &mut Chance, kind: &str, event: &str) -> Vec<String> {
     let mut names = walk(chance, kind, event);
     match chance.below(8) {
         0..=1 => {}

@@ -1,4 +1,4 @@
-//! The stored questions of the verbs `dt`, `tm` and `ts`: the ends of the months of four years, each
+//! The stored questions of the verbs `dt`, `tm` and `ts`: the ends of the months of two years, each
 //! part at its limits, every length with and without fraction and offset, and damage at every
 //! place.
 
@@ -29,10 +29,11 @@ pub fn question(verb: &str, text: &str) -> Bytes {
     field_question(verb, text.as_bytes())
 }
 
-/// The first and the last days of the months 0 to 13, and those beside them, in a year of each kind.
+/// The first and the last days of the months 0 to 13, and those beside them, in a leap year and in
+/// another. The wide set has every day, of four years.
 fn days() -> Vec<Bytes> {
     let mut lines = Vec::new();
-    for year in [1900, 2000, 2023, 2024] {
+    for year in [2023, 2024] {
         for month in 0..=13 {
             for day in [0, 1, 28, 29, 30, 31, 32] {
                 lines.push(question("dt", &format!("{year}{month:02}{day:02}")));
@@ -171,8 +172,9 @@ fn fractions() -> Vec<Bytes> {
     lines
 }
 
-/// "Offset hours 00-14 and offset minutes 00-59 (house)": every hour from -14 to +14 with some minutes
-/// behind an hour, every quarter of an hour behind a year, and the edges.
+/// "Offset hours 00-14 and offset minutes 00-59 (house)": every hour from -15 to +15 with its first
+/// minute and its last behind an hour, every quarter of an hour behind a year, and the edges. The wide
+/// set has every minute.
 fn offsets() -> Vec<Bytes> {
     let mut lines = Vec::new();
     for sign in ["+", "-"] {
@@ -180,7 +182,7 @@ fn offsets() -> Vec<Bytes> {
             for minutes in [0, 15, 30, 45] {
                 lines.push(question("ts", &format!("2024{sign}{hours:02}{minutes:02}")));
             }
-            for minutes in [0, 1, 29, 30, 59] {
+            for minutes in [0, 59] {
                 lines.push(question("tm", &format!("09{sign}{hours:02}{minutes:02}")));
             }
         }

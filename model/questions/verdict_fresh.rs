@@ -57,10 +57,14 @@ pub fn filled_segments(chance: &mut Chance) -> Vec<Fields> {
         ("ADT", "A12"),
         ("ACK", "R01"),
     ]);
+    let names = random_names(chance, kind, event);
+    segments_of(chance, kind, event, &names)
+}
+
+/// A header of this type, and segments of these names behind it.
+pub fn segments_of(chance: &mut Chance, kind: &str, event: &str, names: &[String]) -> Vec<Fields> {
     let mut segments = vec![random_header(chance, kind, event)];
-    for name in random_names(chance, kind, event) {
-        segments.push(random_segment(chance, &name));
-    }
+    segments.extend(names.iter().map(|name| random_segment(chance, name)));
     segments
 }
 
