@@ -238,8 +238,10 @@ uint32_t turrethog_could_stand(const uint8_t *message, size_t length, size_t ind
 /* ---- Acknowledging */
 
 /* Writes the acknowledgement of a message. Its letters, MSA-1, go by the verdict: AA where it is 0; AR where it is 20, or 33 at place 0 in
- * field 11 or 12 (MSH-11, MSH-12): a message of a kind that is not taken here; else AE: the message is wrong. time is the caller's time as a
- * TS, id his own control ID of 1 to 20 bytes of any kind. 0, or 16, 17, 9, 10. */
+ * field 11 or 12 (MSH-11, MSH-12): a message of a kind that is not taken here; else AE: the message is wrong. With AR and AE an ERR segment
+ * follows MSA: ERR-1 has the segment's name, its number among those of that name from 1, the field, and a code of table 0357, as in
+ * ERR|OBX^12^2^103. It takes at most 19 bytes, and an answer that has no room for it is 10. time is the caller's time as a TS, id his own
+ * control ID of 1 to 20 bytes of any kind. 0, or 16, 17, 9, 10. */
 turrethog_answer turrethog_acknowledge(const uint8_t *message, size_t length, const uint8_t *time, size_t time_length, const uint8_t *id,
                                        size_t id_length, uint8_t *buffer, size_t room);
 
