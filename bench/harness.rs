@@ -246,6 +246,7 @@ impl Job {
     /// The name in the table.
     fn title(&self) -> &'static str {
         match (self.entry, self.size) {
+            (Entry::Acknowledge, _) if self.is_refused() => "acknowledge, refused",
             (Entry::Feed(PACKET), _) => "feed, by 1,460",
             (Entry::Read, "small-visit" | "largest-visit") => "read, with a visit",
             (Entry::Read, BRIEF | FULL | LONG) => "read, an admission",
@@ -255,6 +256,11 @@ impl Job {
             (Entry::Find(_), _) => "find PV1-50",
             _ => self.name(),
         }
+    }
+
+    /// Whether the message has a fault, in its last result.
+    fn is_refused(&self) -> bool {
+        self.size.ends_with("-refused")
     }
 
     /// The bytes of the message, text or frame: what stands about a frame is none of it.
@@ -326,7 +332,7 @@ impl Job {
                     place: found.place,
                     field: found.field,
                     repetition: found.repetition,
-                    // All that is measured is accepted, and then no names are listed.
+                    // All that is judged alone is accepted, and then no names are listed.
                     names: 0,
                 })
             }
@@ -403,6 +409,11 @@ fn jobs() -> Vec<Job> {
         for (size, bytes) in &sizes {
             jobs.push(Job { entry, size, bytes: bytes.clone() });
         }
+    }
+    // The answer to a refused report tells where its fault stands, for which segments are counted.
+    let names = ["small-refused", "usual-refused", "largest-refused"];
+    for (size, (_, bytes)) in names.iter().zip(&sizes) {
+        jobs.push(Job { entry: Entry::Acknowledge, size, bytes: reports::refused(bytes) });
     }
     let text = reports::text(32_768);
     jobs.push(Job { entry: Entry::Escape, size: "text", bytes: text });
@@ -523,13 +534,23 @@ fn agree(job: &Job) -> bool {
     }
     let (mut ours, mut theirs) = (vec![0xA5; ROOM], vec![0xA5; ROOM]);
     let told = job.call(Side::Library, &mut ours);
-    let accepted = match &told {
+    let as_meant = match &told {
+        Told::Answer(answer) if job.is_refused() => {
+            answer.number == 0 && ours[..answer.length].ends_with(&error_at_last_result(&job.bytes))
+        }
         Told::Answer(answer) => answer.number == 0,
         Told::Verdict(verdict) => verdict.number == 0,
         Told::Fed(fed) => fed.number == 0,
         Told::Element(element) => element.number == 0 && element.state == library::PRESENT,
     };
-    accepted && told == job.call(Side::Baseline, &mut theirs) && ours == theirs
+    as_meant && told == job.call(Side::Baseline, &mut theirs) && ours == theirs
+}
+
+/// The ERR of a report whose last result has a time that is none, with the CR before it.
+fn error_at_last_result(report: &[u8]) -> Vec<u8> {
+    let lines = report.split(|&byte| byte == b'\r');
+    let results = lines.filter(|line| line.starts_with(b"OBX|")).count();
+    format!("\rERR|OBX^{results}^14^102\r").into_bytes()
 }
 
 /// Each call of a line is answered alike and leaves the same buffer, and at the end there is a frame,
@@ -552,7 +573,7 @@ fn agree_on_line(line: &[u8], most: usize) -> bool {
 fn table(jobs: &[Job], counts: &HashMap<String, u64>) -> ExitCode {
     for job in jobs {
         if !agree(job) {
-            eprintln!("{} {}: library and baseline differ, or refuse", job.name(), job.size);
+            eprintln!("{} {}: not answered alike, or not as meant", job.name(), job.size);
             return ExitCode::FAILURE;
         }
     }
@@ -578,15 +599,26 @@ fn table(jobs: &[Job], counts: &HashMap<String, u64>) -> ExitCode {
         );
     }
     println!();
-    for entry in ["read", "verdict", "acknowledge", "feed"] {
+    let pairs = [
+        ("read", "small", "largest"),
+        ("verdict", "small", "largest"),
+        ("acknowledge", "small", "largest"),
+        ("acknowledge", "small-refused", "largest-refused"),
+        ("feed", "small", "largest"),
+    ];
+    for (entry, small, largest) in pairs {
+        let job_of = |size: &str| jobs.iter().find(|job| job.name() == entry && job.size == size);
         let each = |side: &str, size: &str| {
             let count = *counts.get(&format!("{side} {entry} {size}"))?;
-            let job = jobs.iter().find(|job| job.name() == entry && job.size == size)?;
-            Some(count as f64 / job.length() as f64)
+            Some(count as f64 / job_of(size)?.length() as f64)
         };
-        let growth = |side| Some(each(side, "largest")? / each(side, "small")?);
+        let growth = |side| Some(each(side, largest)? / each(side, small)?);
         if let (Some(ours), Some(theirs)) = (growth("library"), growth("baseline")) {
-            println!("{entry}: per byte, the largest report takes {ours:.2} times the instructions of the small one (baseline: {theirs:.2})");
+            let title = job_of(largest).map_or(entry, Job::title);
+            println!(
+                "{title}: per byte, the largest report takes {ours:.2} times the instructions of the small one \
+                 (baseline: {theirs:.2})"
+            );
         }
     }
     tell_without_memcpy(jobs, counts);

@@ -21,6 +21,8 @@ pub use frames::{feed, Fed, FrameState, Stop};
 pub use structure::Names;
 pub use text::{escape, unescape};
 
+use reading::Ends;
+
 /// A number of the table, 0 where nothing was refused; its place; the length of what was written.
 #[derive(Clone, Copy, Default)]
 pub struct Answer {
@@ -72,15 +74,21 @@ pub fn read(message: &[u8]) -> Answer {
 /// A reading fault, 20, 21 or 22, or the first of 31 to 37.
 #[inline]
 pub fn verdict(message: &[u8]) -> Verdict {
-    match judge(message) {
+    verdict_with(message, &mut [0; reading::MOST_SEGMENTS])
+}
+
+/// The same for one who has to count segments too: of a message that was read, `ends` then has the
+/// place of each segment's CR.
+#[inline]
+fn verdict_with(message: &[u8], ends: &mut Ends) -> Verdict {
+    match judge(message, ends) {
         Ok(()) => Verdict::default(),
         Err(fault) => fault,
     }
 }
 
 /// The reader notes where the segments end, so that the judges behind it look for no CR.
-fn judge(message: &[u8]) -> Result<(), Verdict> {
-    let mut ends = [0; reading::MOST_SEGMENTS];
+fn judge(message: &[u8], ends: &mut Ends) -> Result<(), Verdict> {
     let mut count = 0;
     reading::check(message, |number, end| {
         ends[number] = end as u16;

@@ -6,6 +6,9 @@ use crate::Refusal;
 pub const LONGEST_MESSAGE: usize = 32_768;
 pub const MOST_SEGMENTS: usize = 256;
 
+/// Room for the place of each segment's CR.
+pub type Ends = [u16; MOST_SEGMENTS];
+
 /// A message that was read, and where the CR of each of its segments stands.
 #[derive(Clone, Copy)]
 pub struct Segments<'a> {

@@ -1,7 +1,7 @@
-// An acknowledgement as pieces that stand one behind another: bytes of the sender's header, bytes of the caller's, fixed
-// texts, and the segments behind MSA. All are measured before the first is written, so that one that does not fit writes
-// nothing. The pieces share a lifetime, so that one array can hold them; the fixed texts are handed down as one, since a
-// text of a function's own ends with the function.
+// An acknowledgement as pieces that stand one behind another: bytes of the sender's header, bytes of the caller's,
+// fixed texts, and the segments behind MSA. All are measured before the first is written, so that one that does not fit
+// writes nothing. The pieces share a lifetime, so that one array can hold them; the fixed texts are handed down as one,
+// since a text of a function's own ends with the function.
 use crate::sender::field_of;
 use crate::sender::is_present;
 use crate::sender::type_part;
@@ -44,8 +44,8 @@ fn event_mark<'a>(header: &'a [u8], event: &[u8]) -> &'a [u8]
     &header[4..5]
 }
 
-// All pieces, in order: MSH with its twelve fields, MSA, and what stands behind it. MSH and the delimiters are the front
-// of the sender's header.
+// All pieces, in order: MSH with its twelve fields, MSA, and what stands behind it. MSH and the delimiters are the
+// front of the sender's header.
 fn pieces_of<'a>(
     header: &'a [u8],
     time: &'a [u8],
