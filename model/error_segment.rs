@@ -30,7 +30,7 @@ pub fn error_segment(message: &[u8], fault: &Fault) -> Vec<u8> {
 fn place_of<'a>(message: &'a [u8], fault: &Fault) -> Place<'a> {
     match fault {
         Fault::OfStructure(Misfit { refusal: Refusal { number, place }, .. }) => match number {
-            20 => place_of_field(message, 0, 9),
+            20 => Place { name: b"MSH", sequence: "1".into(), field: "9".into() },
             21 => place_of_segment(message, *place),
             _ => Place::default(),
         },

@@ -166,6 +166,11 @@ fn verdict_question(message: &[u8]) -> Bytes {
     format!("verdict {}", bytes_word(message)).into_bytes()
 }
 
+/// What the acknowledgement takes, or none where there is none.
+fn enough_for(message: &[u8], time: &[u8], id: &[u8]) -> usize {
+    crate::acknowledgement::acknowledge(message, time, id, usize::MAX).unwrap_or_default().len()
+}
+
 fn ack_question(message: &[u8], time: &[u8], id: &[u8], room: usize) -> Bytes {
     let (message, time, id) = (bytes_word(message), bytes_word(time), bytes_word(id));
     format!("ack {message} {time} {id} {room}").into_bytes()

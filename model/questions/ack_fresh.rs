@@ -6,9 +6,10 @@
 use super::error_places::RESULT;
 use super::refused::{PROCESSING_IDS, TYPES, VERSIONS};
 use super::verdict_wide::TELLING;
-use super::{ack_question, latin, read_fresh, sound, structure_fresh, value_fresh, verdict_fresh};
+use super::{
+    ack_question, enough_for, latin, read_fresh, sound, structure_fresh, value_fresh, verdict_fresh,
+};
 use super::{filled, message, Bytes, USUAL_DELIMITERS};
-use crate::acknowledgement::acknowledge;
 use crate::ask::MOST_ROOM;
 use crate::chance::Chance;
 use crate::reading::{CR, LONGEST_MESSAGE};
@@ -240,7 +241,7 @@ fn random_id(chance: &mut Chance) -> Bytes {
 
 /// Mostly about as much as is enough, or less by up to what an ERR takes; or none, or more.
 fn random_room(chance: &mut Chance, message: &[u8], time: &[u8], id: &[u8]) -> usize {
-    let enough = acknowledge(message, time, id, usize::MAX).unwrap_or_default().len();
+    let enough = enough_for(message, time, id);
     let room = match chance.below(20) {
         0..=8 => enough,
         9..=11 => enough.saturating_sub(1),

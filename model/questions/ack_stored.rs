@@ -5,8 +5,7 @@
 
 use super::error_places::{self, delimited, DELIMITERS};
 use super::filled::{header_of_oru, message_with, segment};
-use super::{ack_question, changed, latin, lifelike, message, message_of_type, Bytes};
-use crate::acknowledgement::acknowledge;
+use super::{ack_question, changed, enough_for, latin, lifelike, message, message_of_type, Bytes};
 use crate::reading::CR;
 
 /// The shortest message that is acknowledged, with AR: it has no more than an MSH-10.
@@ -51,11 +50,6 @@ pub fn stored() -> Vec<Bytes> {
 /// where there is none.
 fn acknowledged(message: &[u8], time: &[u8], id: &[u8]) -> Bytes {
     ack_question(message, time, id, enough_for(message, time, id) + 1)
-}
-
-/// What the acknowledgement takes, or none where there is none.
-fn enough_for(message: &[u8], time: &[u8], id: &[u8]) -> usize {
-    acknowledge(message, time, id, usize::MAX).unwrap_or_default().len()
 }
 
 /// Sample 13 of the paper, with rooms about enough; and with no segment behind the header, so that

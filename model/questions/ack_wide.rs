@@ -6,8 +6,7 @@
 
 use super::error_places::{self, delimited, DELIMITERS};
 use super::verdict_wide::TELLING;
-use super::{ack_question, changed, filled, lifelike, message, refused, Bytes};
-use crate::acknowledgement::acknowledge;
+use super::{ack_question, changed, enough_for, filled, lifelike, message, refused, Bytes};
 use crate::ask::{LONGEST_LINE, MOST_ROOM};
 use crate::reading::{allowed, CR, LONGEST_MESSAGE, MOST_SEGMENTS};
 
@@ -52,11 +51,6 @@ pub fn limits() -> Vec<Bytes> {
 fn acknowledged(message: &[u8], time: &[u8], id: &[u8]) -> Bytes {
     let length = enough_for(message, time, id);
     ack_question(message, time, id, length.min(LONGEST_MESSAGE) + 1)
-}
-
-/// What the acknowledgement takes, or none where there is none.
-fn enough_for(message: &[u8], time: &[u8], id: &[u8]) -> usize {
-    acknowledge(message, time, id, usize::MAX).unwrap_or_default().len()
 }
 
 /// Questions with as much room as is enough, and with one byte less.
@@ -219,12 +213,13 @@ fn rooms_about_errors() -> Vec<Bytes> {
     lines
 }
 
-/// Every sequence up to 253, which with MSH, OBR and CTI makes 256 segments: of OBR by a fault of its
-/// field, of OBX by one of the structure and by one of a field. Four in a row have the same delimiters,
-/// so that each fault is asked with both kinds.
+/// Every sequence up to 255, which with MSH makes 256 segments: of OBR by a fault of its field, of OBX
+/// by one of the structure, behind OBR and CTI, and by one of a field, behind OBR; the last of these
+/// have more segments than a message may. Four in a row have the same delimiters, so that each fault is
+/// asked with both kinds.
 fn every_sequence() -> Vec<Bytes> {
     let mut lines = Vec::new();
-    for count in 1..=253 {
+    for count in 1..=255 {
         let [orders, results] = error_places::last_of(count);
         let (field, content) = [(11, "Q"), (3, "\"\""), (14, "x"), (1, "1~1")][count % 4];
         let faulty = error_places::result_with(count, field, content);

@@ -6,7 +6,7 @@ use Prim.Native.Nat.{ℕ, _+_, _≤_, _<_}
 use native.Mathlib.Omega.{arith}
 use lib.ListN.{length, getD, take, drop}
 use lib.Dec.{leb, ltb, eqb}
-use borrow.Author.Tests.{eqb-true, ne-eqb, ltb-true, ltb-false, le-leb, lt-leb}
+use borrow.Author.Tests.{eqb-true, ne-eqb, le-leb, lt-leb}
 use Rattle.alphabet.proofs.BoolLaws.{false-true, and-both}
 use Rattle.alphabet.proofs.LimitLaws.{id-limit-small}
 use Rattle.alphabet.proofs.ListLaws.{drop-next}
@@ -25,8 +25,9 @@ use Rattle.escaping.specs.Outcomes.{text, fault}
 use Rattle.escaping.specs.Outcomes.{escaping}
 use Rattle.escaping.proofs.OutcomeLaws.{escape-most, escaping-fits}
 use Rattle.acknowledgement.specs.Acknowledgement.{sent, typePart, present, encoding, typeSent, version, headerParts, answerParts, acknowledgement, roomy}
-use Rattle.together.specs.Together.{together}
-use Rattle.acknowledgement.specs.Pieces.{least, eventMark, event, fixedText, pieces}
+use Rattle.together.specs.Together.{together, least}
+use Rattle.together.proofs.PieceLaws.{least-both}
+use Rattle.acknowledgement.specs.Pieces.{eventMark, event, fixedText, pieces}
 use Rattle.acknowledgement_code.specs.declared.Code.{Code}
 use Rattle.acknowledgement_code.specs.declared.Code.the-variants.{Accept, Error, Reject}
 
@@ -52,16 +53,6 @@ front-bytes h l is =
 and-false : (t : Bool) → (t && false) ≡ false
 and-false true = refl
 and-false false = refl
-
-least-both : (a b : ℕ) → (least a b ≤ a) × (least a b ≤ b)
-least-both a b = at (ltb a b) refl
-  where
-    at : (t : Bool) → ltb a b ≡ t → (cond t a b ≤ a) × (cond t a b ≤ b)
-    at true e = (omega arith, omega (arith, ltb-true a b e))
-    at false e = (omega (arith, ltb-false a b e), omega arith)
-
-pub least-first : (a b : ℕ) → least a b ≤ a
-least-first a b = least-both a b .0
 
 least-over : (a b n : ℕ) → least a b < n → (leb n a && leb n b) ≡ false
 least-over a b n h = at (ltb a b) refl h

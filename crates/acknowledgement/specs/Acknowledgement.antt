@@ -103,7 +103,8 @@ acknowledgeable m =
     && (not (same (typePart (header m) 1) (ascii "ACK"))
     && (present (header m) (sent (header m) 10) && leb (length (sent (header m) 10)) idLimit)))
 
--- 10: "acknowledgement longer than the buffer or 32,768"; its place is 0
+-- 10: "acknowledgement longer than the buffer or 32,768"; its place is 0. By W4 it "now counts the ERR bytes": w has
+-- them
 unfoldable pub roomy : ℕ → List ℕ → Outcome
 roomy room w = cond (leb (length w) room && leb (length w) messageLimit) (text w) (fault AcknowledgementTooLong 0)
 

@@ -4,16 +4,12 @@ use Prim.Native.Nat.{ℕ}
 use mathlib.Core.List.{List, [], _∷_, _++_}
 use mathlib.Core.Bool.{cond}
 use lib.ListN.{length, getD, take, drop}
-use lib.Dec.{ltb, eqb}
+use lib.Dec.{eqb}
 use Rattle.alphabet.specs.Bytes.{carriageReturn, ascii}
 use Rattle.reading.specs.Segments.{fieldSeparator}
 use Rattle.acknowledgement.specs.Acknowledgement.{sent, typePart, present, version}
 use Rattle.acknowledgement_code.specs.Codes.{lettersOf}
 use Rattle.acknowledgement_code.specs.declared.Code.{Code}
-
--- the smaller of two lengths
-abbrev pub least : ℕ → ℕ → ℕ
-least a b = cond (ltb a b) a b
 
 -- component 2 of the sender's type "where that is present", and the separator before it where there is one
 abbrev pub event : List ℕ → List ℕ
@@ -32,11 +28,11 @@ fixedText code = ascii "ACK" ++ version ++ ascii "MSA" ++ lettersOf code ++ (car
 
 -- the pieces of MSH and those of MSA, the fixed texts being cut out of one, and what stands behind them; id is escaped
 -- already
-unfoldable pub pieces : (h time id fixed errors : List ℕ) → List (List ℕ)
-pieces h time id fixed errors =
+unfoldable pub pieces : (h time id fixed behind : List ℕ) → List (List ℕ)
+pieces h time id fixed behind =
     take 8 h
     ∷ mark h ∷ sent h 5 ∷ mark h ∷ sent h 6 ∷ mark h ∷ sent h 3 ∷ mark h ∷ sent h 4
     ∷ mark h ∷ time ∷ mark h ∷ mark h ∷ take 3 fixed ∷ eventMark h (event h) ∷ event h
     ∷ mark h ∷ id ∷ mark h ∷ sent h 11 ∷ mark h ∷ take 3 (drop 3 fixed) ∷ take 1 (drop 11 fixed)
     ∷ take 3 (drop 6 fixed) ∷ mark h ∷ take 2 (drop 9 fixed) ∷ mark h ∷ sent h 10 ∷ take 1 (drop 11 fixed)
-    ∷ errors ∷ []
+    ∷ behind ∷ []

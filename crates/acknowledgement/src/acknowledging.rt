@@ -58,7 +58,7 @@ pub fn acknowledge<'a>(message: &'a [u8], time: &'a [u8], id: &[u8], buffer: &mu
     }
     let found = verdict::verdict(message);
     let mut line = error_buffer();
-    let n = error_segment::error_line(message, found, &mut line);
+    let n = error_segment::put_segment(message, found, &mut line);
     write(
         header_of(message),
         time,

@@ -20,7 +20,7 @@ ghost use Rattle.reading.specs.Segments.{isHeader, delimitersOf};
 ghost use Rattle.escaping.specs.Outcomes.{answer, filled};
 ghost use Rattle.acknowledgement.specs.Acknowledgement.{roomy, acknowledgement};
 ghost use Rattle.together.specs.Together.{together};
-ghost use Rattle.acknowledgement.specs.Pieces.{least, eventMark, event, fixedText, pieces};
+ghost use Rattle.acknowledgement.specs.Pieces.{eventMark, event, fixedText, pieces};
 
 // The event of the sender's type; none where it is not present.
 fn event_of<'a>(header: &'a [u8]) -> &'a [u8]
@@ -51,13 +51,13 @@ fn pieces_of<'a>(
     time: &'a [u8],
     id: &'a [u8],
     fixed: &'a [u8],
-    errors: &'a [u8],
+    behind: &'a [u8],
 ) -> [&'a [u8]; 30]
     requires { ⌜ 8 ≤ length (now header) ⌝ }
     requires { ⌜ 12 ≤ length (now fixed) ⌝ }
     ensures { λ r. ⌜ map now r
         ≡ pieces (now (header .entry)) (now (time .entry)) (now (id .entry)) (now (fixed .entry))
-        (now (errors .entry)) ⌝ }
+        (now (behind .entry)) ⌝ }
 {
     let front = &header[..8];
     let mark = &header[3..4];
@@ -104,27 +104,17 @@ fn pieces_of<'a>(
         mark,
         ten,
         end,
-        errors,
+        behind,
     ]
 }
 
-// The smaller of two lengths.
-fn smaller(a: usize, b: usize) -> usize
-    ensures { λ r. ⌜ r ≡ least a b ⌝ }
-{
-    if a < b {
-        return a;
-    }
-    b
-}
-
-// Measures all pieces against the buffer and the limit of a message, and writes them where there is room.
+// Writes all pieces where there is room for them, in the buffer and by the limit of a message.
 fn write_pieces<'a>(
     header: &'a [u8],
     time: &'a [u8],
     id: &'a [u8],
     fixed: &'a [u8],
-    errors: &'a [u8],
+    behind: &'a [u8],
     buffer: &mut [u8],
 ) -> Answer
     requires { ⌜ 8 ≤ length (now header) ⌝ }
@@ -132,29 +122,25 @@ fn write_pieces<'a>(
     ensures { λ r. ⌜ r ≡ answer
         (roomy (length (now (buffer .entry)))
         (together (pieces (now (header .entry)) (now (time .entry)) (now (id .entry)) (now (fixed .entry))
-        (now (errors .entry))))) ⌝ }
+        (now (behind .entry))))) ⌝ }
     ensures { λ _. ⌜ now (buffer .exit)
         ≡ filled (roomy (length (now (buffer .entry)))
         (together (pieces (now (header .entry)) (now (time .entry)) (now (id .entry)) (now (fixed .entry))
-        (now (errors .entry))))) (now (buffer .entry)) ⌝ }
+        (now (behind .entry))))) (now (buffer .entry)) ⌝ }
 {
-    let pieces = pieces_of(header, time, id, fixed, errors);
-    let room = smaller(buffer.len(), alphabet::message_limit());
-    let size = together::measure(&pieces, room);
+    let pieces = pieces_of(header, time, id, fixed, behind);
+    let size = together::put(&pieces, alphabet::message_limit(), buffer);
     match size {
         Room::Short => Answer {
             kind: Refusal::AcknowledgementTooLong,
             place: 0,
             length: 0,
         },
-        Room::Takes(n) => {
-            together::put(&pieces, buffer);
-            Answer {
-                kind: Refusal::None,
-                place: 0,
-                length: n,
-            }
-        }
+        Room::Takes(n) => Answer {
+            kind: Refusal::None,
+            place: 0,
+            length: n,
+        },
     }
 }
 
@@ -183,7 +169,7 @@ pub fn write<'a>(
     time: &'a [u8],
     id: &[u8],
     code: Code,
-    errors: &'a [u8],
+    behind: &'a [u8],
     buffer: &mut [u8],
 ) -> Answer
     requires { ⌜ 8 ≤ length (now header) ⌝ }
@@ -192,10 +178,10 @@ pub fn write<'a>(
     requires { ⌜ length (now id) ≤ idLimit ⌝ }
     ensures { λ r. ⌜ r ≡ answer
         (roomy (length (now (buffer .entry)))
-        (acknowledgement (now (header .entry)) (now (time .entry)) (now (id .entry)) code [] ++ now (errors .entry))) ⌝ }
+        (acknowledgement (now (header .entry)) (now (time .entry)) (now (id .entry)) code [] ++ now (behind .entry))) ⌝ }
     ensures { λ _. ⌜ now (buffer .exit)
         ≡ filled (roomy (length (now (buffer .entry)))
-        (acknowledgement (now (header .entry)) (now (time .entry)) (now (id .entry)) code [] ++ now (errors .entry)))
+        (acknowledgement (now (header .entry)) (now (time .entry)) (now (id .entry)) code [] ++ now (behind .entry)))
         (now (buffer .entry)) ⌝ }
 {
     let delimiters = reading::delimiters_of(header);
@@ -203,5 +189,5 @@ pub fn write<'a>(
     let written = escaping::escape(delimiters, id, &mut escaped);
     let n = written.length;
     let fixed = fixed_text(code);
-    write_pieces(header, time, &escaped[..n], &fixed, errors, buffer)
+    write_pieces(header, time, &escaped[..n], &fixed, behind, buffer)
 }

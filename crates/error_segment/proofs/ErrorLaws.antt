@@ -32,11 +32,11 @@ unfolding countOf
 count-front n l = refl
 
 module _ (n k x : ℕ) (l : List ℕ) where
-  pub count-same : x ≡ n → countOf n (take (k + 1) (x ∷ l)) ≡ 1 + countOf n (take k l)
+  count-same : x ≡ n → countOf n (take (k + 1) (x ∷ l)) ≡ 1 + countOf n (take k l)
   unfolding countOf
   count-same e = rw (add-one k) (rw (eq-eqb n x (sym e)))
 
-  pub count-other : (x ≡ n → ⊥) → countOf n (take (k + 1) (x ∷ l)) ≡ countOf n (take k l)
+  count-other : (x ≡ n → ⊥) → countOf n (take (k + 1) (x ∷ l)) ≡ countOf n (take k l)
   unfolding countOf
   count-other e = rw (add-one k) (rw (ne-eqb n x (λ q. e (sym q))) (zero-add (countOf n (take k l))))
 
@@ -137,7 +137,7 @@ module _ (m : List ℕ) (r : FaultRecord) where
   no-error e = rw (eq-eqb (numberOf (r .kind)) 0 e)
 
   module _ (some : numberOf (r .kind) ≡ 0 → ⊥) where
-    pub line-ended : ended (errorLines m r) ≡ errorLine m r ++ (carriageReturn ∷ [])
+    line-ended : ended (errorLines m r) ≡ errorLine m r ++ (carriageReturn ∷ [])
     unfolding ended
     line-ended = rw (ne-eqb (numberOf (r .kind)) 0 some)
 

@@ -1,2 +1,3 @@
 pub mod NumeralLaws
 pub mod ErrorLaws
+pub mod LocateLaws

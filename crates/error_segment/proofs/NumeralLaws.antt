@@ -33,7 +33,7 @@ tens-room (suc k) n h l =
     (omega arith, omega arith)
 
 -- where there is room for all digits, more room adds none
-pub enough : (a b n : ℕ) → n < 10 ^ (a + 1) → n < 10 ^ (b + 1) → digitsOf (a + 1) n ≡ digitsOf (b + 1) n
+enough : (a b n : ℕ) → n < 10 ^ (a + 1) → n < 10 ^ (b + 1) → digitsOf (a + 1) n ≡ digitsOf (b + 1) n
 enough zero b n h k = digits-last 0 n (omega arith) ∙ sym (digits-last b n (omega arith))
 enough (suc a) zero n h k = digits-last (suc a) n (omega arith) ∙ sym (digits-last 0 n (omega arith))
 enough (suc a) (suc b) n h k =

@@ -42,7 +42,7 @@ countOf n (x ∷ l) = cond (eqb n x) 1 0 + countOf n l
 abbrev pub sequenceOf : List ℕ → ℕ → ℕ
 sequenceOf m place = countOf (nameOf (faulty m place)) (take (place + 1) (segmentNames m))
 
--- "20 points to field 9 of MSH; for 21 the field position is empty."
+-- "20 points to field 9 of MSH; for 21 the field position is empty.": the place of a 20 is 0, which is MSH's
 abbrev pub fieldPosition : (number field : ℕ) → List ℕ
 fieldPosition number field = cond (eqb number 21) [] (numeral (cond (eqb number 20) 9 field))
 

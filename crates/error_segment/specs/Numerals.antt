@@ -1,5 +1,5 @@
--- A number as it is written: in digits, the fewest that say it. `decimal` of alphabet reads it back
--- (`proofs/NumeralLaws.antt`).
+-- A number as it is written: in digits, the fewest that say it. `decimal` of alphabet reads it back, which
+-- crates/laws/proofs/NumeralReads.antt shows.
 use Prim.Native.Nat.{ℕ, zero, suc, _+_, _/_, _%_}
 use mathlib.Core.List.{List, [], _∷_, _++_}
 use mathlib.Core.Bool.{cond}
@@ -12,6 +12,6 @@ unfoldable pub digitsOf : (most n : ℕ) → List ℕ
 digitsOf zero n = []
 digitsOf (suc most) n = cond (ltb n 10) [] (digitsOf most (n / 10)) ++ ((byteOf "0" + n % 10) ∷ [])
 
--- no number has more digits than this, since each but the last stands for nine or more
+-- n has at most n + 1 digits, since it is less than 10 to the n
 abbrev pub numeral : ℕ → List ℕ
 numeral n = digitsOf (suc n) n

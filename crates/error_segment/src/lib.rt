@@ -2,7 +2,8 @@
 // sequence, field and a code. It goes by the verdict's record, which is the first fault in the judges' order.
 mod codes;
 mod lines;
+mod locating;
 mod numerals;
 mod places;
 
-pub use lines::error_line;
+pub use lines::put_segment;

@@ -1,15 +1,15 @@
 // The line of an ERR segment, put together of its pieces in a small buffer: 71 bytes at most, whatever the numbers, so
-// that 80 always take it. The pieces share a lifetime, so that one array can hold them.
+// that a buffer of 80 always takes it. The pieces share a lifetime, so that one array can hold them.
 use crate::codes::error_code;
+use crate::locating::locate;
 use crate::numerals::Numeral;
 use crate::numerals::no_numeral;
 use crate::numerals::numeral_of;
 use crate::places::field_position;
-use crate::places::is_nowhere;
 use crate::places::name_in;
-use crate::places::segment_of;
-use crate::places::sequence_of;
+use crate::places::points_nowhere;
 use alphabet::Delimiters;
+use escaping::Room;
 use fault::FaultRecord;
 ghost use mathlib.Core.Path.{_≡_};
 ghost use Prim.Native.Nat.{_≤_};
@@ -65,7 +65,11 @@ fn put_line<'a>(
         code,
         end,
     ];
-    together::put(&pieces, line)
+    let size = together::put(&pieces, 80, line);
+    match size {
+        Room::Takes(n) => n,
+        Room::Short => 0,
+    }
 }
 
 // Puts a line of a name and of three numerals.
@@ -104,7 +108,7 @@ fn put_parts(
 
 // Writes the ERR segment of a message, with its CR, to the front of a buffer, and returns its length: 0 where the
 // message is accepted.
-pub fn error_line(message: &[u8], found: FaultRecord, line: &mut [u8; 80]) -> usize
+pub fn put_segment(message: &[u8], found: FaultRecord, line: &mut [u8; 80]) -> usize
     ensures { λ r. ⌜ r ≡ length (ended (errorLines (now (message .entry)) found)) ⌝ }
     ensures { λ _. ⌜ now (line .exit) ≡ over (ended (errorLines (now (message .entry)) found)) (now (line .entry)) ⌝ }
 {
@@ -115,7 +119,7 @@ pub fn error_line(message: &[u8], found: FaultRecord, line: &mut [u8; 80]) -> us
     }
     let delimiters = reading::delimiters_of(message);
     let code = numeral_of(error_code(number, found.place, found.field));
-    if is_nowhere(number) {
+    if points_nowhere(number) {
         return put_parts(
             &message[..0],
             no_numeral(),
@@ -125,8 +129,11 @@ pub fn error_line(message: &[u8], found: FaultRecord, line: &mut [u8; 80]) -> us
             line,
         );
     }
-    let segment = segment_of(message, found.place);
-    let sequence = numeral_of(sequence_of(message, found.place, reading::name_of(segment)));
+    let located = locate(message, found.place);
+    let start = located.start;
+    let end = located.end;
+    let sequence = numeral_of(located.sequence);
     let field = field_position(number, found.field);
-    put_parts(name_in(segment), sequence, field, code, delimiters, line)
+    let name = name_in(&message[start..end]);
+    put_parts(name, sequence, field, code, delimiters, line)
 }

@@ -3,24 +3,12 @@
 use crate::numerals::Numeral;
 use crate::numerals::no_numeral;
 use crate::numerals::numeral_of;
-use alphabet::Part;
 ghost use mathlib.Core.Path.{_≡_};
 ghost use Prim.Native.Nat.{_+_, _≤_};
 ghost use lib.ListN.{take};
 ghost use Rattle.structure.specs.SegmentNames.{segmentNames};
-ghost use Rattle.error_segment.specs.Errors.{faulty, countOf, fieldPosition, nowhere};
+ghost use Rattle.error_segment.specs.Errors.{countOf, fieldPosition, nowhere};
 ghost use Rattle.error_segment.specs.Pieces.{said};
-
-// The segment of a number, from 0; no bytes where there is none.
-pub fn segment_of(message: &[u8], place: usize) -> &[u8]
-    ensures { λ r. ⌜ now r ≡ faulty (now (message .entry)) place ⌝ }
-{
-    let segment = reading::segment_at(message, place);
-    match segment {
-        Part::At { start, end } => &message[start..end],
-        Part::Absent => &message[..0],
-    }
-}
 
 // The first three bytes of a segment.
 pub fn name_in(segment: &[u8]) -> &[u8]
@@ -54,7 +42,7 @@ pub fn sequence_of(message: &[u8], place: usize, name: u32) -> usize
 }
 
 // Whether a fault of a number has no segment: a reading fault, and a message that ended early.
-pub fn is_nowhere(number: u8) -> bool
+pub fn points_nowhere(number: u8) -> bool
     ensures { λ r. ⌜ r ≡ nowhere number ⌝ }
 {
     (number == 22) | (number <= 8)

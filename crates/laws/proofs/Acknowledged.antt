@@ -1,5 +1,6 @@
 -- Demand 2 of every acknowledgement that is written: it reads back, it fits ACK, it carries the sender's own control ID, his names crossed, the
--- caller's ID and the verdict's code. All of it is looked up in the bytes that were written and in the message that was sent. Assumes nothing.
+-- caller's ID, the verdict's code and, with AE and AR, an ERR segment that tells the fault. All of it is looked up in the bytes that were written and in
+-- the message that was sent. Assumes nothing.
 use mathlib.Core.Path.{_≡_, refl, sym, ap, ap₂, _∙_, subst}
 use mathlib.Core.Logic.{_↔_}
 use mathlib.Core.Bool.{Bool, true, false, cond, not, _&&_, _||_}
@@ -10,7 +11,7 @@ use native.Mathlib.Omega.{arith}
 use lib.Dec.{leb, ltb, eqb}
 use lib.ListN.{length, getD, take, drop, length-append, length-drop}
 use lib.Seq.{getD-take, take-take, length-take-le}
-use borrow.Author.Tests.{lt-ltb, le-leb, leb-true}
+use borrow.Author.Tests.{lt-ltb, le-leb, lt-leb, leb-true}
 use Rattle.alphabet.specs.Bytes.{carriageReturn, allowed, ascii}
 use Rattle.alphabet.specs.Delimiters.{firstWrongDelimiter}
 use Rattle.alphabet.proofs.BoolLaws.{and-both, false-true}
@@ -48,7 +49,7 @@ use Rattle.structure.specs.SegmentNames.{segmentNames}
 use Rattle.structure.specs.Structures.{ack, chosen, structureFor, builtIn, acknowledgement as ackListed}
 use Rattle.fault.specs.Faults.{plain}
 use Rattle.structure.specs.Judged.{Judged, Answers}
-use Rattle.verdict.specs.Verdicts.{Accepts, Verdicts}
+use Rattle.verdict.specs.Verdicts.{Accepts}
 use Rattle.verdict.proofs.VerdictLaws.{one-verdict, accepts-exactly as verdict-accepts}
 use Rattle.acknowledgement.specs.Acknowledgement.{header, fieldAddress, sent, typePart, present, typeSent, acknowledgement, badId, passes, acknowledgeable, roomy, answerTo, Acknowledges}
 use Rattle.acknowledgement.specs.Acknowledgement.Acknowledges.{not-written, written}
@@ -135,6 +136,29 @@ length-told m time id lent (written e found v) zero = at (leb (length w) (length
     at true false f z = absurd (let q : _≡_ {A = ℕ} 0 1 = cc in omega arith)
     at false t f z = absurd (let q : _≡_ {A = ℕ} 0 1 = cc in omega arith)
 
+-- over another buffer: the same answer where that has room for what was written, else 10
+pub room-exactly : (m time id lent other : List ℕ) {r s : Answer} {x y : List ℕ} → Acknowledges m time id lent r x → r .kind ≡ None → Acknowledges m time id other s y
+    → (r .length ≤ length other → s ≡ r) × (length other < r .length → s .kind ≡ AcknowledgementTooLong)
+unfolding answer filled roomy
+room-exactly m time id lent other (not-written n) zero b = absurd (n zero)
+room-exactly m time id lent other (written e found v) zero (not-written n) = absurd (n e)
+room-exactly m time id lent other (written e found v) zero (written f again u) =
+    at (leb (length w) (length lent)) (leb (length w) messageLimit) refl zero (ap (λ (z : FaultRecord). answer (roomy (length other) (answerTo m time id z))) (one-verdict m u v))
+  where
+    w : List ℕ
+    w = answerTo m time id found
+
+    at : (s t : Bool) → leb (length w) messageLimit ≡ t → answer (cond (s && t) (text w) (fault AcknowledgementTooLong 0)) .kind ≡ None → {k : Answer}
+        → k ≡ answer (cond (leb (length w) (length other) && leb (length w) messageLimit) (text w) (fault AcknowledgementTooLong 0))
+        → (answer (cond (s && t) (text w) (fault AcknowledgementTooLong 0)) .length ≤ length other → k ≡ answer (cond (s && t) (text w) (fault AcknowledgementTooLong 0)))
+        × (length other < answer (cond (s && t) (text w) (fault AcknowledgementTooLong 0)) .length → k .kind ≡ AcknowledgementTooLong)
+    at true true l z q = (
+      λ h. q ∙ rw (le-leb (length w) (length other) h) (rw l),
+      λ h. ap (λ (y : Answer). y .kind) q ∙ rw (lt-leb (length w) (length other) h),
+    )
+    at true false l z q = absurd (let c : _≡_ {A = ℕ} 0 1 = cc in omega arith)
+    at false t l z q = absurd (let c : _≡_ {A = ℕ} 0 1 = cc in omega arith)
+
 -- field f of MSA, which stands behind MSH
 abbrev pub answerAddress : ℕ → Address
 answerAddress f = record { segment = 1; field = f; repetition = 0; component = 0; subcomponent = 0 }
@@ -149,7 +173,7 @@ module _ (m time id lent : List ℕ) (small : AreBytes id) {r : Answer} {x : Lis
   abbrev pub w : List ℕ
   w = take (r .length) x
 
-  writes : Writes m time id lent r x
+  pub writes : Writes m time id lent r x
   writes = zero-writes m time id lent a done
 
   abbrev h : List ℕ
@@ -369,16 +393,13 @@ module _ (m time id lent : List ℕ) (small : AreBytes id) {r : Answer} {x : Lis
           ap₂ (λ (x l : List ℕ). length (split (getD x 4 0) l)) d (component-told 4 (omega arith)) ∙ ap length (E.part-alone h (sound .0) (sound .1) m alike (writes .verdict) 3),
         )
 
-    -- what the parts tell, of the message and of any record that is the verdict on it
-    pub tells : {found : FaultRecord} → Verdicts m found
-        → TellsPlace m found (rawBytes w (errorAddress 1 1)) (rawBytes w (errorAddress 1 2)) (rawBytes w (errorAddress 1 3)) × TellsCode found (rawBytes w (errorAddress 1 4))
-    tells {found = found} v =
-        let e = one-verdict m (writes .verdict) v in
-        let some : numberOf (found .kind) ≡ 0 → ⊥ = λ q. faulted (ap (λ (z : FaultRecord). numberOf (z .kind)) e ∙ q) in
-        let at : (c : ℕ) → 1 ≤ c → getD (errorParts m found) (c - 1) [] ≡ rawBytes w (errorAddress 1 c) =
-        λ c l. sym (component-told c l ∙ ap (λ (z : FaultRecord). getD (errorParts m z) (c - 1) []) e) in (
-          told-as (λ (x y z : List ℕ). TellsPlace m found x y z) (at 1 (omega arith)) (at 2 (omega arith)) (at 3 (omega arith)) (place-tells m v some),
-          subst (TellsCode found) (at 4 (omega arith)) (code-tells m v some),
+    -- what the parts tell of the message, by its verdict
+    pub tells : TellsPlace m (writes .found) (rawBytes w (errorAddress 1 1)) (rawBytes w (errorAddress 1 2)) (rawBytes w (errorAddress 1 3)) × TellsCode (writes .found) (rawBytes w (errorAddress 1 4))
+    tells =
+        let found = writes .found in
+        let at : (c : ℕ) → 1 ≤ c → getD (errorParts m found) (c - 1) [] ≡ rawBytes w (errorAddress 1 c) = λ c l. sym (component-told c l) in (
+          told-as (λ (x y z : List ℕ). TellsPlace m found x y z) (at 1 (omega arith)) (at 2 (omega arith)) (at 3 (omega arith)) (place-tells m (writes .verdict) faulted),
+          subst (TellsCode found) (at 4 (omega arith)) (code-tells m (writes .verdict) faulted),
         )
 
 -- ---- 9 for an accepted message

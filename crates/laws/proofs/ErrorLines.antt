@@ -210,7 +210,7 @@ module _ (h : List ℕ) (o : Opened h) (one : find carriageReturn h + 1 ≡ leng
   abbrev pub told : List ℕ
   told = join between (errorParts m r)
 
-  pub line-is : errorLine m r ≡ join sep (ascii "ERR" ∷ told ∷ [])
+  line-is : errorLine m r ≡ join sep (ascii "ERR" ∷ told ∷ [])
   unfolding errorLine
   line-is = ap (λ (d : List ℕ). join (getD d 0 0) (ascii "ERR" ∷ join (getD d 1 0) (errorParts m r) ∷ [])) (sym same)
 

@@ -52,7 +52,7 @@ or-true : (t : Bool) → (t || true) ≡ true
 or-true true = refl
 or-true false = refl
 
--- what the lines behind MSA are: none, or one of the name ERR; es are printable and have good names
+-- what the lines behind MSA are: none, or one of the name ERR; they are printable and have good names
 pub record Behind (sep : ℕ) (es : List (List ℕ)) : Type 0 where
   pub told : (map nameOf es ≡ []) ⊎ (map nameOf es ≡ name "ERR" ∷ [])
   pub printed : Every (Each Printable) es
@@ -359,10 +359,10 @@ module _ (h : List ℕ) (o : Opened h) (one : find carriageReturn h + 1 ≡ leng
     pub fits-ack : Judged ack (segmentNames written) (plain None 0)
     unfolding kept passedOver among
     fits-ack =
-        ⊎-elim
-        (λ q. accepted (subst (λ (ns : List ℕ). Yields ack (kept (names ack) ns)) (sym (names-written ∙ ap (λ (l : List ℕ). name "MSH" ∷ name "MSA" ∷ l) q)) (stand (stand (skip ended-shape)))))
-        (λ q. accepted (subst (λ (ns : List ℕ). Yields ack (kept (names ack) ns)) (sym (names-written ∙ ap (λ (l : List ℕ). name "MSH" ∷ name "MSA" ∷ l) q)) (stand (stand (once (stand ended-shape) ended-shape)))))
-        (behind .told)
+        ⊎-elim (λ q. fits q (stand (stand (skip ended-shape)))) (λ q. fits q (stand (stand (once (stand ended-shape) ended-shape)))) (behind .told)
+      where
+        fits : {l : List ℕ} → map nameOf es ≡ l → Yields ack (kept (names ack) (name "MSH" ∷ name "MSA" ∷ l)) → Judged ack (segmentNames written) (plain None 0)
+        fits q y = accepted (subst (λ (ns : List ℕ). Yields ack (kept (names ack) ns)) (sym (names-written ∙ ap (λ (l : List ℕ). name "MSH" ∷ name "MSA" ∷ l) q)) y)
 
     -- the structure judge accepts it
     pub judged-written : length written ≤ messageLimit → Answers written (plain None 0)

@@ -1,5 +1,5 @@
 -- What an ERR segment tells of a fault, by document 02, W4: a second saying of crates/error_segment's definitions, as
--- lists of cases.
+-- lists of cases. Numerals are that crate's own; what they say is shown by `numeral-reads`.
 use Prim.Native.Nat.{ℕ, suc, _+_, _≤_, _<_}
 use mathlib.Core.Path.{_≡_}
 use mathlib.Core.Logic.{_⊎_}
@@ -28,7 +28,8 @@ pub data TellsCode (r : FaultRecord) : List ℕ → Type 0 where
   -- "103 for 33 with MSH-11 as 202 and MSH-12 as 203": the place of 33 is its segment's number, and MSH is segment 0
   processing : numberOf (r .kind) ≡ 33 → r .place ≡ 0 → r .field ≡ 11 → TellsCode r (ascii "202")
   version : numberOf (r .kind) ≡ 33 → r .place ≡ 0 → r .field ≡ 12 → TellsCode r (ascii "203")
-  unlisted : numberOf (r .kind) ≡ 33 → (r .place ≡ 0 → (r .field ≡ 11) ⊎ (r .field ≡ 12) → ⊥) → TellsCode r (ascii "103")
+  unlisted : numberOf (r .kind) ≡ 33 → (r .place ≡ 0 → (r .field ≡ 11) ⊎ (r .field ≡ 12) → ⊥)
+      → TellsCode r (ascii "103")
   -- "200 for 20"
   unsupported : numberOf (r .kind) ≡ 20 → TellsCode r (ascii "200")
   -- "207 for reading faults": 1 to 8
@@ -57,7 +58,8 @@ pub data TellsPlace (m : List ℕ) (r : FaultRecord) : (segment sequence field :
   -- "20 points to field 9 of MSH"
   at-the-type : numberOf (r .kind) ≡ 20 → TellsPlace m r (ascii "MSH") (ascii "1") (ascii "9")
   -- "for 21 the field position is empty"
-  at-a-segment : {name : List ℕ} {n : ℕ} → numberOf (r .kind) ≡ 21 → Located m (r .place) name n → TellsPlace m r name (numeral n) []
+  at-a-segment : {name : List ℕ} {n : ℕ} → numberOf (r .kind) ≡ 21 → Located m (r .place) name n
+      → TellsPlace m r name (numeral n) []
   -- "ERR-1 in v2.4: segment ID, sequence, field position": of the field judge's faults
   at-a-field : {name : List ℕ} {n : ℕ} → 31 ≤ numberOf (r .kind) → numberOf (r .kind) ≤ 37 → Located m (r .place) name n
       → TellsPlace m r name (numeral n) (numeral (r .field))

@@ -7,29 +7,27 @@ use mathlib.Core.Path.{_≡_}
 use mathlib.Core.Logic.{_↔_}
 use mathlib.Core.Bool.{true}
 use mathlib.Core.List.{List}
-use Prim.Native.Nat.{ℕ, _≤_}
+use Prim.Native.Nat.{ℕ, _≤_, _<_}
 use lib.ListN.{length, getD, take, drop}
 use Rattle.alphabet.specs.Delimiters.{firstWrongDelimiter}
 use Rattle.alphabet.specs.Filling.{over}
 use Rattle.alphabet.specs.declared.answers.Answer.{Answer}
-use Rattle.alphabet.specs.declared.answers.Refusal.the-variants.{None}
+use Rattle.alphabet.specs.declared.answers.Refusal.the-variants.{None, AcknowledgementTooLong}
 use Rattle.escaping.specs.Escape.{escape}
 use Rattle.escaping.specs.Outcomes.{escaping, answer, filled}
 use Rattle.text.specs.Unescape.{unescaping}
 use Rattle.acknowledgement.specs.Acknowledgement.{Acknowledges}
-use Rattle.laws.proofs.Acknowledged.{reads-back, of-type, yields-ack, fits-ack, two-segments, three-segments, counted, carries-id, identified-sender, told, own-delimiters, crossed, stamped, with-event, without-event, own-id, callers-id, accepts-exactly, rejects-exactly, errors-exactly, error-counted, tells}
+use Rattle.laws.proofs.Acknowledged.{reads-back, of-type, yields-ack, fits-ack, two-segments, three-segments, counted, carries-id, identified-sender, told, own-delimiters, crossed, stamped, with-event, without-event, own-id, callers-id, accepts-exactly, rejects-exactly, errors-exactly, error-counted, tells, writes, room-exactly}
 use Rattle.laws.specs.Rejected.{Rejected, RejectedFor}
 use Rattle.laws.proofs.RejectedLaws.{rejected-bytes as laws-rejected-bytes}
 use Rattle.laws.proofs.Clean.{both-ways}
 use Rattle.laws.proofs.RoundTrip.{AreBytes}
-use Rattle.laws.proofs.NumeralReads.{numeral-reads}
+use Rattle.laws.proofs.NumeralReads.{numeral-reads, numeral-zero}
 use Rattle.error_segment.specs.Numerals.{numeral}
-use Rattle.fault.specs.declared.FaultRecord.{FaultRecord}
-use Rattle.verdict.specs.Verdicts.{Verdicts}
 use Rattle.element.specs.Finding.{rawBytes}
-use Rattle.alphabet.specs.Bytes.{ascii}
+use Rattle.alphabet.specs.Bytes.{ascii, byteOf}
 use Rattle.alphabet.specs.Digits.{allDigits, decimal}
-use Rattle.promises.specs.Acknowledgements.{inAnswer, TellsError, Carries}
+use Rattle.promises.specs.Acknowledgements.{inAnswer, ErrorOf, Carries}
 
 -- ---- text
 
@@ -42,11 +40,16 @@ text-comes-back ds five fine t d e small h k = both-ways ds five fine t d e smal
 -- ---- the acknowledgement
 
 error-tells : (m time id lent : List ℕ) → AreBytes id → {r : Answer} {x : List ℕ} → Acknowledges m time id lent r x → r .kind ≡ None
-    → (rawBytes (take (r .length) x) (inAnswer 1) ≡ ascii "AA" → ⊥) → {found : FaultRecord} → Verdicts m found → TellsError m (take (r .length) x) found
-error-tells m time id lent small a done other v =
+    → (rawBytes (take (r .length) x) (inAnswer 1) ≡ ascii "AA" → ⊥) → ErrorOf m (take (r .length) x)
+error-tells m time id lent small a done other =
     let n = error-counted m time id lent small a done other in
-    let t = tells m time id lent small a done other v in
-    record { one-field = n .0; one-repetition = n .1; four-components = n .2; one-identifier = n .3; place = t .0; code = t .1 }
+    let t = tells m time id lent small a done other in
+    let w = writes m time id lent small a done in
+    record {
+      fault = w .found;
+      first = w .verdict;
+      tells = record { one-field = n .0; one-repetition = n .1; four-components = n .2; one-identifier = n .3; place = t .0; code = t .1 };
+    }
 
 -- every acknowledgement that was written, which is the front of the buffer as long as the answer says
 pub acknowledgement-carries : (m time id lent : List ℕ) → AreBytes id → {r : Answer} {x : List ℕ} → Acknowledges m time id lent r x → r .kind ≡ None → Carries m time id (take (r .length) x)
@@ -89,8 +92,14 @@ pub rejected-bytes : (m : List ℕ) → Rejected m ↔ RejectedFor m
 rejected-bytes m = laws-rejected-bytes m
 
 -- a numeral, as ERR-1 has two: digits, which alphabet's reader reads back as the number, and no 0 before them but for 0 itself
-pub numeral-comes-back : (n : ℕ) → (allDigits (numeral n) ≡ true) × (decimal (numeral n) ≡ n) × (1 ≤ n → 49 ≤ getD (numeral n) 0 0)
-numeral-comes-back n = numeral-reads n
+pub numeral-comes-back : (n : ℕ) → (allDigits (numeral n) ≡ true) × (decimal (numeral n) ≡ n) × (1 ≤ n → byteOf "1" ≤ getD (numeral n) 0 0) × (numeral 0 ≡ ascii "0")
+numeral-comes-back n = let r = numeral-reads n in (r .0, r .1, r .2, numeral-zero)
+
+-- 10, "acknowledgement longer than the buffer", of which document 02, W4 says that it "now counts the ERR bytes": where one is written, over any other
+-- buffer the answer is the same exactly where that has as many bytes as were written, and 10 where it has fewer
+pub ten-exactly : (m time id lent other : List ℕ) {r s : Answer} {x y : List ℕ} → Acknowledges m time id lent r x → r .kind ≡ None → Acknowledges m time id other s y
+    → (r .length ≤ length other → s ≡ r) × (length other < r .length → s .kind ≡ AcknowledgementTooLong)
+ten-exactly m time id lent other a done b = room-exactly m time id lent other a done b
 
 -- "A written text or acknowledgement fills the front of its buffer, its length is given, the bytes behind it stay.": a length that the buffer has, a buffer of
 -- the length that it had, and what stood behind

@@ -58,6 +58,12 @@ pub record TellsError (m w : List ℕ) (r : FaultRecord) : Type 0 where
   pub place : TellsPlace m r (rawBytes w (inError 1)) (rawBytes w (inError 2)) (rawBytes w (inError 3))
   pub code : TellsCode r (rawBytes w (inError 4))
 
+-- the first fault of the message, which its verdict tells, and what ERR says of it
+pub record ErrorOf (m w : List ℕ) : Type 0 where
+  pub fault : FaultRecord
+  pub first : Verdicts m fault
+  pub tells : TellsError m w fault
+
 pub record Carries (m time id w : List ℕ) : Type 0 where
   -- "reads back through our reader"
   pub reads-back : reading w ≡ Passes
@@ -68,7 +74,8 @@ pub record Carries (m time id w : List ℕ) : Type 0 where
   -- "MSH", "Then MSA", and by W4 "an ERR segment after MSA when we answer AE or AR": with AA these two segments, else
   -- these three; MSH of twelve parts, MSA of three
   pub two-segments : rawBytes w (inAnswer 1) ≡ ascii "AA" → segmentNames w ≡ name "MSH" ∷ name "MSA" ∷ []
-  pub three-segments : (rawBytes w (inAnswer 1) ≡ ascii "AA" → ⊥) → segmentNames w ≡ name "MSH" ∷ name "MSA" ∷ name "ERR" ∷ []
+  pub three-segments : (rawBytes w (inAnswer 1) ≡ ascii "AA" → ⊥)
+      → segmentNames w ≡ name "MSH" ∷ name "MSA" ∷ name "ERR" ∷ []
   pub header-parts : length (split (fieldSeparator w) (getD (segments w) 0 [])) ≡ 12
   pub answer-parts : length (split (fieldSeparator w) (getD (segments w) 1 [])) ≡ 3
   -- "and carries the sender's own control ID": MSA-2 is the sender's MSH-10
@@ -104,7 +111,7 @@ pub record Carries (m time id w : List ℕ) : Type 0 where
   -- "the rest stays AE"
   pub errored-exactly : (rawBytes w (inAnswer 1) ≡ ascii "AE") ↔ ((Accepts m → ⊥) × (Rejected m → ⊥))
   -- W4: what ERR tells, where it stands
-  pub tells-error : (rawBytes w (inAnswer 1) ≡ ascii "AA" → ⊥) → {r : FaultRecord} → Verdicts m r → TellsError m w r
+  pub tells-error : (rawBytes w (inAnswer 1) ≡ ascii "AA" → ⊥) → ErrorOf m w
 
 -- ---- refusals
 

@@ -7,11 +7,11 @@ ghost use Prim.Native.Nat.{_≤_};
 ghost use lib.ListN.{length};
 ghost use Rattle.alphabet.specs.Filling.{over};
 ghost use Rattle.escaping.specs.Outcomes.{roomFor};
-ghost use Rattle.together.specs.Together.{together};
+ghost use Rattle.together.specs.Together.{together, least, fitted};
 
 // The length of all pieces, where that is at most `room`. It is counted against the room, since a sum of lengths need
 // not be a usize.
-pub fn measure(pieces: &[&[u8]], room: usize) -> Room
+fn measure(pieces: &[&[u8]], room: usize) -> Room
     ensures { λ r. ⌜ r ≡ roomFor room (length (together (map now (now (pieces .entry))))) ⌝ }
 {
     let mut n = 0;
@@ -27,10 +27,9 @@ pub fn measure(pieces: &[&[u8]], room: usize) -> Room
     Room::Takes(n)
 }
 
-// Writes all pieces to the front of the buffer, and returns the place behind them.
-pub fn put(pieces: &[&[u8]], buffer: &mut [u8]) -> usize
+// Writes all pieces to the front of the buffer.
+fn copy(pieces: &[&[u8]], buffer: &mut [u8])
     requires { ⌜ length (together (map now (now pieces))) ≤ length (now buffer) ⌝ }
-    ensures { λ r. ⌜ r ≡ length (together (map now (now (pieces .entry)))) ⌝ }
     ensures { λ _. ⌜ now (buffer .exit) ≡ over (together (map now (now (pieces .entry)))) (now (buffer .entry)) ⌝ }
 {
     let mut place = 0;
@@ -40,5 +39,33 @@ pub fn put(pieces: &[&[u8]], buffer: &mut [u8]) -> usize
         place = alphabet::put(buffer, place, piece);
         i += 1;
     }
-    place
+}
+
+// The smaller of two lengths.
+fn smaller(a: usize, b: usize) -> usize
+    ensures { λ r. ⌜ r ≡ least a b ⌝ }
+{
+    if a < b {
+        return a;
+    }
+    b
+}
+
+// Writes all pieces to the front of the buffer, where they fit into it and are at most `most` bytes; tells how many
+// these are, or that there is no room, and then the buffer stays as it was.
+pub fn put(pieces: &[&[u8]], most: usize, buffer: &mut [u8]) -> Room
+    ensures { λ r. ⌜ r ≡ roomFor (least (length (now (buffer .entry))) most)
+        (length (together (map now (now (pieces .entry))))) ⌝ }
+    ensures { λ _. ⌜ now (buffer .exit) ≡ fitted (least (length (now (buffer .entry))) most)
+        (together (map now (now (pieces .entry)))) (now (buffer .entry)) ⌝ }
+{
+    let room = smaller(buffer.len(), most);
+    let size = measure(pieces, room);
+    match size {
+        Room::Short => Room::Short,
+        Room::Takes(n) => {
+            copy(pieces, buffer);
+            Room::Takes(n)
+        }
+    }
 }

@@ -1,58 +1,58 @@
--- Rests on the laws of a buffer that is filled from its front: the pieces that are left, at each turn.
-use Prim.Native.Nat.{_≤_, _-_}
-use mathlib.Core.Path.{ap, _∙_}
-use lib.ListN.{length, getD, drop}
+-- Rests on what was measured: it is what is written, or there is no room.
+use mathlib.Core.Path.{_≡_, sym, ap, _∙_}
+use Prim.Native.Nat.{ℕ}
+use lib.ListN.{length}
 use native.Mathlib.Omega.{arith}
 use borrow.Author.Needs.{needs}
 use denote.Ref.{now}
-use Rattle.alphabet.proofs.FillingLaws.{Filling, fill-start, fill-more, fill-room, fill-length, fill-end, put-fits}
-use Rattle.together.proofs.PieceLaws.{none, bytes, pieces-next, pieces-end, count-next}
+use Rattle.escaping.specs.Outcomes.{roomFor}
+use Rattle.escaping.proofs.OutcomeLaws.{takes-is, short-is}
+use Rattle.together.specs.Together.{least}
+use Rattle.together.proofs.PieceLaws.{bytes, least-both, fitted-takes, fitted-short}
 use Rattle.together.proofs.put.Statement.{statement}
 use Rattle.together.proofs.put.Tie as tie
 
-abbrev Inv-loop : tie.InvT-loop
-Inv-loop pieces buffer₀ place₀ i₀ buffer place i = (i ≤ length pieces) × Filling (bytes pieces) buffer₀ (bytes (drop i pieces)) buffer place
+-- all pieces, against the smaller of the two
+measured : (c : tie.After-measure)
+    → let a = c .before .before .before .args in
+    c .measure .result ≡ roomFor (least (length (now (a .buffer))) (a .most)) (length (bytes (now (a .pieces))))
+measured c =
+    let a = c .before .before .before .args in
+    c .measure .ensures ∙ ap (λ (n : ℕ). roomFor n (length (bytes (now (a .pieces))))) (c .before .smaller .ensures)
 
-abbrev μ-loop : tie.MeasureT-loop
-μ-loop pieces buffer₀ place₀ i₀ buffer place i = length pieces - i
+copy-requires : tie.Need-copy-requires
+copy-requires c κs =
+    let k = c .before .before in
+    let m = k .before .before in
+    let a = m .before .before .before .args in
+    let t = takes-is (least (length (now (a .buffer))) (a .most)) _ (k .size .given .0 .0) (sym (k .size .given .1) ∙ measured m) in
+    omega (arith, t .1, least-both (length (now (a .buffer))) (a .most) .0)
 
-loop-holds : tie.Need-loop-holds Inv-loop μ-loop
-loop-holds c = (omega arith, fill-start _ _)
-
-loop-again : tie.Need-loop-again Inv-loop μ-loop
-loop-again c =
-    let l = c .before .before .before .before .before .before in
-    let a = l .before .before .args in
-    let ps = now (a .pieces) in
-    let i = l .loop .i in
-    let f = l .loop .inv .1 in
-    let p = c .before .before .put in
-    let n = count-next ps i (omega arith) in
-    let w = put-fits (l .loop .buffer) (now (getD ps i none)) (l .loop .place) (omega (arith, fill-room f, fill-length f (l .before .before .pre))) in
-    (omega arith, fill-more _ _ _ _ f (pieces-next ps i (omega arith)) (p .ensures .1 ∙ w .1) (p .ensures .0 ∙ w .0))
-
-same-length : tie.Need-same-length Inv-loop μ-loop
-same-length c = fill-length (c .before .loop .inv .1) (c .before .before .before .pre)
-
-returns : tie.Need-returns Inv-loop μ-loop
+returns : tie.Need-returns
 returns c =
-    let l = c .before in
-    let f = l .loop .inv .1 in
-    let e = pieces-end (now (l .before .before .args .pieces)) (l .loop .i) (omega arith) in
-    (omega (arith, fill-room f, ap length e), fill-end f e)
+    let m = c .before .before in
+    let a = m .before .before .before .args in
+    let e = sym (c .enum-told .given .1) ∙ measured m in
+    (e, sym (fitted-short _ (bytes (now (a .pieces))) (now (a .buffer)) (short-is _ _ e)))
+
+returns-2 : tie.Need-returns-2
+returns-2 c =
+    let k = c .before .before .before .before .before in
+    let m = k .before .before in
+    let a = m .before .before .before .args in
+    let e = sym (k .size .given .1) ∙ measured m in
+    let t = takes-is (least (length (now (a .buffer))) (a .most)) _ (k .size .given .0 .0) e in
+    (e, c .before .before .copy .ensures ∙ sym (fitted-takes _ (bytes (now (a .pieces))) (now (a .buffer)) (t .1)))
 
 pub put-spec : {M : Type 1} → statement M
 put-spec =
     tie.close
     (tie.spec
-    Inv-loop
-    μ-loop
-    loop-holds
-    (λ c. search needs)
-    (λ c. omega arith)
     (λ c κs. search needs)
-    (λ c. omega arith)
-    (λ c. omega arith)
-    loop-again
-    same-length
-    returns)
+    (λ c κs. search needs)
+    (λ c. search needs)
+    (λ c. search needs)
+    copy-requires
+    returns
+    (λ c. search needs)
+    returns-2)

@@ -41,18 +41,18 @@ returns c =
     (not-written (λ e. c .if1 .taken (c .before .number .ensures ∙ ap numberOf (k .ensures ∙ e))))
 
 -- the ERR segment that was written, and the front of the small buffer that is handed on
-line : (c : tie.After-error-line)
+line : (c : tie.After-put-segment)
     → let v = c .before .before .before in
     let m = now (v .before .before .before .before .before .before .before .before .args .message) in
     let w = ended (errorLines m (v .verdict .result)) in
-    (take (c .error-line .result) (c .error-line .last .1 .1 .0) ≡ w) × (c .error-line .result ≤ length (c .error-line .last .1 .1 .0))
+    (take (c .put-segment .result) (c .put-segment .last .1 .1 .0) ≡ w) × (c .put-segment .result ≤ length (c .put-segment .last .1 .1 .0))
 line c =
     let v = c .before .before .before in
     let m = now (v .before .before .before .before .before .before .before .before .args .message) in
     let w = ended (errorLines m (v .verdict .result)) in
     let b = c .before .before .error-buffer .result in
-    let n = c .error-line .ensures .0 in
-    let d = c .error-line .ensures .1 in (
+    let n = c .put-segment .ensures .0 in
+    let d = c .put-segment .ensures .1 in (
       ap₂ (λ (k : ℕ) (x : List ℕ). take k x) n d ∙ take-append-seam w (drop (length w) b),
       omega (arith, n, ap length d, length-append w (drop (length w) b)),
     )

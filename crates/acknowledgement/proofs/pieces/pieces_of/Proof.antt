@@ -33,7 +33,7 @@ returns c =
     λ i.
     take 8 h ∷ m i ∷ v i ∷ m i ∷ w i ∷ m i ∷ t i ∷ m i ∷ u i ∷ m i ∷ now (a .time) ∷ m i ∷ m i ∷ take 3 k ∷ b i ∷ ev i ∷ m i ∷ now (a .id) ∷ m i ∷ z i
     ∷ m i ∷ take 3 (drop 3 k) ∷ take 1 (drop 11 k) ∷ take 3 (drop 6 k) ∷ m i ∷ take 2 (drop 9 k) ∷ m i ∷ y i ∷ take 1 (drop 11 k)
-    ∷ now (a .errors) ∷ []
+    ∷ now (a .behind) ∷ []
 
 pub pieces-of-spec : {M : Type 1} → statement M
 pieces-of-spec =

@@ -67,8 +67,8 @@ returns c =
     let h = now (a .header) in
     let d = now (a .buffer) in
     let o =
-    ap₂ (λ (x f : List ℕ). roomy (length d) (together (pieces h (now (a .time)) x f (now (a .errors))))) (handed e) (k .fixed-text .ensures)
-    ∙ ap (roomy (length d)) (pieces-together h (now (a .time)) (now (a .id)) (a .code) (now (a .errors)) (s .pre .0) (s .pre .1 .0)) in
+    ap₂ (λ (x f : List ℕ). roomy (length d) (together (pieces h (now (a .time)) x f (now (a .behind))))) (handed e) (k .fixed-text .ensures)
+    ∙ ap (roomy (length d)) (pieces-together h (now (a .time)) (now (a .id)) (a .code) (now (a .behind)) (s .pre .0) (s .pre .1 .0)) in
     (p .write-pieces .ensures .0 ∙ ap answer o, p .write-pieces .ensures .1 ∙ ap (λ (x : Outcome). filled x d) o)
 
 pub write-spec : {M : Type 1} → statement M

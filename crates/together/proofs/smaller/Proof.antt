@@ -2,8 +2,8 @@
 use mathlib.Core.Path.{sym, ap}
 use mathlib.Core.Bool.{Bool, cond}
 use borrow.Author.Tests.{lt-ltb, le-ltb}
-use Rattle.acknowledgement.proofs.pieces.smaller.Statement.{statement}
-use Rattle.acknowledgement.proofs.pieces.smaller.Tie as tie
+use Rattle.together.proofs.smaller.Statement.{statement}
+use Rattle.together.proofs.smaller.Tie as tie
 
 returns : tie.Need-returns
 returns c =

@@ -2,7 +2,7 @@
 use mathlib.Core.Path.{_≡_, sym, ap, ap₂, _∙_}
 use mathlib.Core.List.{List, [], _∷_}
 use mathlib.Core.Bool.{Bool, true, false}
-use Prim.Native.Nat.{ℕ, _+_}
+use Prim.Native.Nat.{ℕ}
 use lib.ListN.{length, take}
 use native.Mathlib.Omega.{arith}
 use borrow.Author.Needs.{needs}
@@ -11,14 +11,12 @@ use Rattle.alphabet.specs.Filling.{over}
 use Rattle.alphabet.specs.Answers.{numberOf}
 use Rattle.together.specs.Together.{together}
 use Rattle.reading.specs.Message.{ended}
-use Rattle.reading.specs.Segments.{nameOf}
-use Rattle.structure.specs.SegmentNames.{segmentNames}
 use Rattle.error_segment.specs.Numerals.{numeral}
-use Rattle.error_segment.specs.Errors.{errorCode, faulty, countOf, sequenceOf, fieldPosition, nowhere, errorParts, errorLines}
+use Rattle.error_segment.specs.Errors.{errorCode, faulty, sequenceOf, fieldPosition, nowhere, errorParts, errorLines}
 use Rattle.error_segment.specs.Pieces.{said, marksOf, linePieces}
 use Rattle.error_segment.proofs.ErrorLaws.{take-most, no-error, pieces-ended, parts-nowhere, parts-there}
-use Rattle.error_segment.proofs.lines.error_line.Statement.{statement}
-use Rattle.error_segment.proofs.lines.error_line.Tie as tie
+use Rattle.error_segment.proofs.lines.put_segment.Statement.{statement}
+use Rattle.error_segment.proofs.lines.put_segment.Tie as tie
 
 returns : tie.Need-returns
 returns c =
@@ -53,8 +51,8 @@ written c a b d q =
     ∙ pieces-ended (now (s .args .message)) (s .args .found) (some (c .before .before .before)) (ds .result .bytes) a b d _ (ds .ensures) q
 
 -- whether it points nowhere
-test : (c : tie.After-is-nowhere) (t : Bool) → c .is-nowhere .result ≡ t → nowhere (numberOf (c .before .before .before .before .before .before .before .args .found .kind)) ≡ t
-test c t e = ap nowhere (sym (c .before .before .before .before .before .number .ensures)) ∙ sym (c .is-nowhere .ensures) ∙ e
+test : (c : tie.After-points-nowhere) (t : Bool) → c .points-nowhere .result ≡ t → nowhere (numberOf (c .before .before .before .before .before .before .before .args .found .kind)) ≡ t
+test c t e = ap nowhere (sym (c .before .before .before .before .before .number .ensures)) ∙ sym (c .points-nowhere .ensures) ∙ e
 
 returns-2 : tie.Need-returns-2
 returns-2 c =
@@ -68,48 +66,52 @@ returns-2 c =
     ∙ written n [] [] [] (parts-nowhere (now (a .message)) (a .found) (test (t .before) true (t .if2 .taken))) in
     (c .put-parts .ensures .0 ∙ ap length e, c .put-parts .ensures .1 ∙ ap (λ (w : List ℕ). over w (now (a .line))) e)
 
-put-parts-requires-2 : tie.Need-put-parts-requires-2
-put-parts-requires-2 c κs =
-    let n : length (now (c .before .before .before .before .before .before .before .before .before .before .before .before .before .before .before .args .line)) ≡ 80 = search needs in (
-      (omega (arith, ap length (c .before .name-in .ensures), take-most 3 (now (c .before .before .before .before .before .before .segment-of .result))), omega arith),
-      (c .before .before .before .numeral-of2 .ensures .0, c .before .before .field-position .ensures .0, c .before .before .before .before .before .before .before .before .before .numeral-of .ensures .0),
-    )
-
 -- the segment's name, its sequence and the position of the field
 placed : (c : tie.After-name-in)
-    → let s = c .before .before .before .before .before .before .before .before .before .before .before .before .before .before in
+    → let s = c .before .before .before .before .before .before .before .before .before .before .before .before .before in
     let m = now (s .args .message) in
     let r = s .args .found in
     (now (c .name-in .result) ≡ take 3 (faulty m (r .place)))
-    × (said (c .before .before .numeral-of2 .result) ≡ numeral (sequenceOf m (r .place)))
-    × (said (c .before .field-position .result) ≡ fieldPosition (numberOf (r .kind)) (r .field))
+    × (said (c .before .before .before .numeral-of2 .result) ≡ numeral (sequenceOf m (r .place)))
+    × (said (c .before .before .field-position .result) ≡ fieldPosition (numberOf (r .kind)) (r .field))
 placed c =
-    let o = c .before .before .before .before .before in
+    let f = c .before .before in
+    let o = f .before .before in
     let s = o .before .before .before .before .before .before .before .before .before in
-    let m = now (s .args .message) in
     let r = s .args .found in
-    let g = o .segment-of .ensures in (
-      c .name-in .ensures ∙ ap (take 3) g,
-      c .before .before .numeral-of2 .ensures .1
-          ∙ ap numeral (c .before .before .before .sequence-of .ensures ∙ ap (λ (n : ℕ). countOf n (take (r .place + 1) (segmentNames m))) (c .before .before .before .before .name-of .ensures ∙ ap nameOf g)),
-      c .before .field-position .ensures .1 ∙ ap (λ (n : ℕ). fieldPosition n (r .field)) (o .before .before .before .before .before .before .before .number .ensures),
+    let g = o .locate .ensures in (
+      c .name-in .ensures ∙ ap (take 3) (g .2),
+      f .before .numeral-of2 .ensures .1 ∙ ap numeral (g .3),
+      f .field-position .ensures .1 ∙ ap (λ (n : ℕ). fieldPosition n (r .field)) (o .before .before .before .before .before .before .before .number .ensures),
+    )
+
+put-parts-requires-2 : tie.Need-put-parts-requires-2
+put-parts-requires-2 c κs =
+    let n = c .before in
+    let f = n .before .before in
+    let o = f .before .before in
+    let a = o .before .before .before .before .before .before .before .before .before .args in
+    let l : length (now (a .line)) ≡ 80 = search needs in (
+      (omega (arith, ap length (placed n .0), take-most 3 (faulty (now (a .message)) (a .found .place))), omega arith),
+      (f .before .numeral-of2 .ensures .0, f .field-position .ensures .0, o .before .before .before .numeral-of .ensures .0),
     )
 
 returns-3 : tie.Need-returns-3
 returns-3 c =
     let q = c .before .before in
-    let t = q .before .before .before .before .before .before in
+    let f = q .before .before in
+    let t = f .before .before .before in
     let n = t .before .before in
     let a = n .before .before .before .before .before .before .args in
     let p = placed q in
-    let e : linePieces (now (q .name-in .result)) (said (q .before .before .numeral-of2 .result)) (said (q .before .field-position .result)) (said (n .numeral-of .result)) (marksOf (n .before .before .delimiters-of .result .bytes))
+    let e : linePieces (now (q .name-in .result)) (said (f .before .numeral-of2 .result)) (said (f .field-position .result)) (said (n .numeral-of .result)) (marksOf (n .before .before .delimiters-of .result .bytes))
     ≡ linePieces (take 3 (faulty (now (a .message)) (a .found .place))) (numeral (sequenceOf (now (a .message)) (a .found .place))) (fieldPosition (numberOf (a .found .kind)) (a .found .field)) (said (n .numeral-of .result)) (marksOf (n .before .before .delimiters-of .result .bytes)) =
     λ i. linePieces (p .0 i) (p .1 i) (p .2 i) (said (n .numeral-of .result)) (marksOf (n .before .before .delimiters-of .result .bytes)) in
     let w = ap together e ∙ written n _ _ _ (parts-there (now (a .message)) (a .found) (test (t .before) false (t .if2 .left))) in
     (c .put-parts2 .ensures .0 ∙ ap length w, c .put-parts2 .ensures .1 ∙ ap (λ (x : List ℕ). over x (now (a .line))) w)
 
-pub error-line-spec : {M : Type 1} → statement M
-error-line-spec =
+pub put-segment-spec : {M : Type 1} → statement M
+put-segment-spec =
     tie.close
     (tie.spec
     (λ c κs. search needs)
@@ -126,8 +128,9 @@ error-line-spec =
     (λ c κs. search needs)
     (λ c κs. search needs)
     (λ c κs. search needs)
-    (λ c κs. search needs)
-    (λ c κs. search needs)
+    (λ c. c .before .before .locate .ensures .0)
+    (λ c. let l = c .before .before .locate .ensures .0 in search needs)
+    (λ c. let l = c .before .before .locate .ensures .1 in search needs)
     (λ c κs. search needs)
     put-parts-requires-2
     returns-3)
