@@ -1,4 +1,5 @@
-// The code of a fault, from table 0357 of HL7.
+// The code of a fault, from table 0357 of HL7. It goes by the fault's number; what is not in its list has codes of its
+// own in two fields of MSH.
 ghost use mathlib.Core.Path.{_≡_};
 ghost use Rattle.error_segment.specs.Errors.{errorCode};
 

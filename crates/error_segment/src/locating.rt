@@ -1,11 +1,10 @@
 // Where the segment at fault stands, and which one of its name it is. One walk tells both: it keeps the names that it
 // passes, and counts them when it knows the name that is asked for. A place past the room for names, which no message
 // that was read has, takes two walks.
-use crate::places::sequence_of;
 use alphabet::Part;
 ghost use mathlib.Core.Path.{_≡_};
 ghost use mathlib.Core.List.{_++_};
-ghost use Prim.Native.Nat.{_-_, _≤_, _<_};
+ghost use Prim.Native.Nat.{_+_, _-_, _≤_, _<_};
 ghost use lib.ListN.{length, take, drop};
 ghost use Rattle.reading.specs.Segments.{nameOf};
 ghost use Rattle.structure.specs.SegmentNames.{segmentNames};
@@ -92,6 +91,27 @@ fn locate_near(message: &[u8], place: usize) -> Located
         start = end + 1;
     }
     located_at(message, start, &names[..number])
+}
+
+// How many segments up to and with that of a number have the name: one walk.
+fn sequence_of(message: &[u8], place: usize, name: u32) -> usize
+    ensures { λ r. ⌜ r ≡ countOf name (take (place + 1) (segmentNames (now (message .entry)))) ⌝ }
+{
+    let mut count = 0;
+    let mut number = 0;
+    let mut start = 0;
+    while number <= place {
+        let end = reading::segment_end(message, start);
+        if message.len() <= end {
+            return count;
+        }
+        if reading::name_of(&message[start..end]) == name {
+            count += 1;
+        }
+        number += 1;
+        start = end + 1;
+    }
+    count
 }
 
 // The segment of any number: one walk to it, and one that counts.

@@ -1,4 +1,5 @@
-// Numbers as they are written, in digits.
+// Numbers as they are written, in digits. A number of 64 bits takes twenty of them at most; they are written from the
+// last on, so that nothing has to be measured first.
 ghost use mathlib.Core.Path.{_≡_};
 ghost use Prim.Native.Nat.{_≤_};
 ghost use mathlib.Core.List.{[]};

@@ -1,13 +1,12 @@
-// Where a fault stands, as the sender counts: the segment by its name and its sequence among those of that name, and
-// the field.
+// What a fault has of the parts of ERR-1: whether there is a segment to be named, the name, and the position of the
+// field. Which segment it is, and its sequence, is told in `locating`.
 use crate::numerals::Numeral;
 use crate::numerals::no_numeral;
 use crate::numerals::numeral_of;
 ghost use mathlib.Core.Path.{_≡_};
-ghost use Prim.Native.Nat.{_+_, _≤_};
+ghost use Prim.Native.Nat.{_≤_};
 ghost use lib.ListN.{take};
-ghost use Rattle.structure.specs.SegmentNames.{segmentNames};
-ghost use Rattle.error_segment.specs.Errors.{countOf, fieldPosition, nowhere};
+ghost use Rattle.error_segment.specs.Errors.{fieldPosition, nowhere};
 ghost use Rattle.error_segment.specs.Pieces.{said};
 
 // The first three bytes of a segment.
@@ -18,27 +17,6 @@ pub fn name_in(segment: &[u8]) -> &[u8]
         return segment;
     }
     &segment[..3]
-}
-
-// How many segments up to and with that of a number have the name: one walk.
-pub fn sequence_of(message: &[u8], place: usize, name: u32) -> usize
-    ensures { λ r. ⌜ r ≡ countOf name (take (place + 1) (segmentNames (now (message .entry)))) ⌝ }
-{
-    let mut count = 0;
-    let mut number = 0;
-    let mut start = 0;
-    while number <= place {
-        let end = reading::segment_end(message, start);
-        if message.len() <= end {
-            return count;
-        }
-        if reading::name_of(&message[start..end]) == name {
-            count += 1;
-        }
-        number += 1;
-        start = end + 1;
-    }
-    count
 }
 
 // Whether a fault of a number has no segment: a reading fault, and a message that ended early.

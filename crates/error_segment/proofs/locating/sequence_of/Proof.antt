@@ -15,8 +15,8 @@ use Rattle.structure.specs.SegmentNames.{segmentNames}
 use Rattle.structure.proofs.SegmentWalk.{namesFrom, names-all, names-walk, names-over}
 use Rattle.error_segment.specs.Errors.{countOf}
 use Rattle.error_segment.proofs.ErrorLaws.{count-none, count-front, turn-same, turn-other}
-use Rattle.error_segment.proofs.places.sequence_of.Statement.{statement}
-use Rattle.error_segment.proofs.places.sequence_of.Tie as tie
+use Rattle.error_segment.proofs.locating.sequence_of.Statement.{statement}
+use Rattle.error_segment.proofs.locating.sequence_of.Tie as tie
 
 abbrev Inv-loop : tie.InvT-loop
 Inv-loop message place name count₀ number₀ start₀ count number start =
