@@ -53,12 +53,6 @@ module _ (n p k count total x : ℕ) (l r : List ℕ) (h : k ≤ p) (e : l ≡ x
 
 -- ---- the segment, and a numeral's digits
 
-pub past-none : (ss : List (List ℕ)) (k : ℕ) → length ss ≤ k → getD ss k [] ≡ []
-past-none [] zero h = refl
-past-none [] (suc k) h = refl
-past-none (s ∷ ss) zero h = absurd (omega arith)
-past-none (s ∷ ss) (suc k) h = past-none ss k (omega arith)
-
 pub take-most : (n : ℕ) (l : List ℕ) → length (take n l) ≤ n
 take-most zero l = omega arith
 take-most (suc n) [] = omega arith

@@ -16,7 +16,7 @@ use Rattle.reading.specs.Segments.{segments, nameOf}
 use Rattle.reading.proofs.SegmentLaws.{segments-walk, segments-over}
 use Rattle.structure.specs.SegmentNames.{segmentNames}
 use Rattle.error_segment.specs.Errors.{faulty, countOf, sequenceOf}
-use Rattle.error_segment.proofs.ErrorLaws.{past-none}
+use Rattle.alphabet.proofs.PartLaws.{past-none}
 
 -- ---- counting names
 

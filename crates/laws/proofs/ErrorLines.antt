@@ -38,9 +38,9 @@ use Rattle.error_segment.specs.Numerals.{numeral}
 use Rattle.error_segment.specs.Errors.{faulty, fieldPosition, nowhere, errorParts, errorLine, errorLines}
 use Rattle.error_segment.proofs.ErrorLaws.{parts-nowhere, parts-there}
 use Rattle.laws.proofs.EachLaws.{Each, Every, each-weaken, each-join, each-free, every-at, every-weaken}
-use Rattle.laws.proofs.FaultNumbers.{FaultInside, judging-inside}
+use Rattle.laws.proofs.FaultNumbers.{FaultNumbered, judging-numbered}
 use Rattle.laws.proofs.NumeralReads.{numeral-reads}
-use Rattle.laws.proofs.LineLaws.{Printable, Not, Clean, joined-printable, joined-parts}
+use Rattle.laws.proofs.LineLaws.{or-true, Printable, Not, Clean, joined-printable, joined-parts}
 use Rattle.laws.proofs.SenderLaws.{delimiter-printable, delimiters-apart, no-delimiter, sign-clean}
 use Rattle.laws.proofs.ValueBytes.{digit-none}
 use Rattle.laws.proofs.WrittenLaws.{Behind}
@@ -130,40 +130,37 @@ front-signs sep s e = at s (named-signs sep s e .0)
 
 -- ---- what the verdict's record says of the message
 
-or-true : (t : Bool) → (t || true) ≡ true
-or-true true = refl
-or-true false = refl
-
 -- a number up to 8, and 22, points nowhere
 low-nowhere : (n : ℕ) → n ≤ 8 → nowhere n ≡ true
 low-nowhere n h = ap (λ (t : Bool). eqb n 22 || t) (le-leb n 8 h) ∙ or-true (eqb n 22)
 
--- where it points somewhere, the message was read, and the record's place is that of a segment
+-- where it points somewhere, the message was read, and the record's place is that of a segment; that of a 20 is 0
 module _ (m : List ℕ) where
   abbrev Points : FaultRecord → Type 0
-  Points r = nowhere (numberOf (r .kind)) ≡ false → (reading m ≡ Passes) × (r .place < length (segments m))
+  Points r = nowhere (numberOf (r .kind)) ≡ false → (reading m ≡ Passes) × (r .place < length (segments m)) × (numberOf (r .kind) ≡ 20 → r .place ≡ 0)
 
   judged-points : (s : Shape) {r : FaultRecord} → reading m ≡ Passes → Judged s (segmentNames m) r → Points r
   unfolding segmentNames
   judged-points s p (accepted y) q = absurd (false-true (sym q))
   judged-points s p (refused place ends list f) q = at (ltb place (length (segmentNames m))) refl q
     where
-      at : (t : Bool) → ltb place (length (segmentNames m)) ≡ t → nowhere (numberOf (cond t SegmentMisplaced EndedEarly)) ≡ false → (reading m ≡ Passes) × (place < length (segments m))
-      at true e n = let l = ltb-true place (length (segmentNames m)) e in let k = length-map (segments m) nameOf in (p, omega arith)
+      at : (t : Bool) → ltb place (length (segmentNames m)) ≡ t → nowhere (numberOf (cond t SegmentMisplaced EndedEarly)) ≡ false
+          → (reading m ≡ Passes) × (place < length (segments m)) × (numberOf (cond t SegmentMisplaced EndedEarly) ≡ 20 → place ≡ 0)
+      at true e n = let l = ltb-true place (length (segmentNames m)) e in let k = length-map (segments m) nameOf in (p, omega arith, λ q. absurd (omega arith))
       at false e n = absurd (false-true (sym n))
 
   answers-points : {r : FaultRecord} → Answers m r → Points r
   answers-points (unread kind place f) q = absurd (false-true (sym q ∙ low-nowhere (numberOf kind) (numbered-fails 1 8 (reading m) kind place (reading-numbered m) f .1)))
-  answers-points (read p (no-structure g)) q = (p, let n = accepted-message m p .some-segments in omega arith)
+  answers-points (read p (no-structure g)) q = (p, let n = accepted-message m p .some-segments in omega arith, λ e. refl)
   answers-points (read p (by x g j)) q = judged-points (x .shape) p j q
 
-  fields-points : (f : Fault) → reading m ≡ Passes → FaultInside (length (segments m)) f → Points (faultAnswer f)
+  fields-points : (f : Fault) → reading m ≡ Passes → FaultNumbered 0 (length (segments m)) f → Points (faultAnswer f)
   fields-points Sound p h q = absurd (false-true (sym q))
-  fields-points (Faulty kind segment field repetition) p h q = (p, h)
+  fields-points (Faulty kind segment field repetition) p h q = (p, h .2, λ e. absurd (let b = h .0 .0 in omega arith))
 
   pub points : {r : FaultRecord} → Verdicts m r → Points r
   points (by-structure r a n) = answers-points a
-  points (by-fields r a n) = fields-points (judging rows m) (shaped builtIn m a n .passed) (judging-inside m rows)
+  points (by-fields r a n) = fields-points (judging rows m) (shaped builtIn m a n .passed) (judging-numbered m rows)
 
 -- ---- the parts
 

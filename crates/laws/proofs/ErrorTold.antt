@@ -7,7 +7,7 @@ use Prim.Native.Nat.{ℕ, zero, suc, _+_, _-_, _≤_, _<_}
 use native.Mathlib.Nat.{zero-add}
 use native.Mathlib.Numerals.{add-one}
 use native.Mathlib.Omega.{arith}
-use lib.Dec.{eqb, leb, ltb}
+use lib.Dec.{eqb, leb}
 use lib.ListN.{length, getD, take, length-map}
 use lib.Seq.{length-take-le, take-take}
 use borrow.Author.Tests.{eq-eqb, ne-eqb, eqb-true, eqb-false, le-leb, lt-leb, leb-true}
@@ -21,14 +21,6 @@ use Rattle.reading.specs.Segments.{segments, fieldSeparator, isHeader, nameOf}
 use Rattle.reading.proofs.Accepted.{accepted as accepted-message}
 use Rattle.structure.specs.Listed.{In, here, there}
 use Rattle.structure.specs.SegmentNames.{segmentNames}
-use Rattle.structure.specs.Shapes.{Shape}
-use Rattle.structure.specs.Judged.{Judged, accepted, refused, no-structure, by, unread as not-passed, read, Answers}
-use Rattle.alphabet.specs.declared.answers.Refusal.the-variants.{SegmentMisplaced, EndedEarly}
-use Rattle.alphabet.proofs.CheckLaws.{numbered-fails}
-use Rattle.reading.proofs.Honest.{reading-numbered}
-use Rattle.field_table.specs.Table.{rows}
-use Rattle.verdict.specs.Verdicts.VerdictsBy.{refused as by-structure, judged as by-fields}
-use Rattle.laws.proofs.FaultNumbers.{fields-number}
 use Rattle.reading.proofs.SegmentLaws.{segment-bytes}
 use Rattle.error_segment.proofs.ErrorLaws.{parts-nowhere, parts-there}
 use Rattle.laws.proofs.EntryNumbers.{verdict-numbers}
@@ -176,23 +168,6 @@ located-so m k l = (
 -- ---- 20 points to MSH
 
 module _ (m : List ℕ) where
-  structure-first : (s : Shape) {r : FaultRecord} → Judged s (segmentNames m) r → numberOf (r .kind) ≡ 20 → r .place ≡ 0
-  structure-first s (accepted y) e = refl
-  structure-first s (refused place ends list f) e = absurd (at (ltb place (length (segmentNames m))) e)
-    where
-      at : (t : Bool) → numberOf (cond t SegmentMisplaced EndedEarly) ≡ 20 → ⊥
-      at true q = omega arith
-      at false q = omega arith
-
-  answers-first : {r : FaultRecord} → Answers m r → numberOf (r .kind) ≡ 20 → r .place ≡ 0
-  answers-first (not-passed kind place f) e = absurd (let n = numbered-fails 1 8 (reading m) kind place (reading-numbered m) f .1 in omega arith)
-  answers-first (read p (no-structure g)) e = refl
-  answers-first (read p (by x g j)) e = structure-first (x .shape) j e
-
-  type-first : {r : FaultRecord} → Verdicts m r → numberOf (r .kind) ≡ 20 → r .place ≡ 0
-  type-first (by-structure r a n) e = answers-first a e
-  type-first (by-fields r a n) e = absurd (⊎-elim (λ q. omega arith) (λ q. let l = q .0 in omega arith) (fields-number m rows))
-
   -- the first segment's name is MSH, and it is the first of that name
   first-name : reading m ≡ Passes → (take 3 (faulty m 0) ≡ ascii "MSH") × (sequenceOf m 0 ≡ 1)
   unfolding segmentNames countOf
@@ -228,10 +203,6 @@ each-later = (λ w a b. (omega arith, omega arith), (λ w a b. (omega arith, ome
   where
     each-none : Each Later ofReading
     each-none = (λ w a b. absurd (false-true (sym w)), (λ w a b. absurd (false-true (sym w)), (λ w a b. absurd (false-true (sym w)), (λ w a b. absurd (false-true (sym w)), (λ w a b. absurd (false-true (sym w)), (λ w a b. absurd (false-true (sym w)), (λ w a b. absurd (false-true (sym w)), (λ w a b. absurd (false-true (sym w)), (λ w a b. absurd (false-true (sym w)), tt)))))))))
-
-positive : (n : ℕ) → (n ≡ 0 → ⊥) → 1 ≤ n
-positive zero h = absurd (h refl)
-positive (suc n) h = omega arith
 
 numeral-one : numeral 1 ≡ ascii "1"
 unfolding digitsOf
@@ -269,14 +240,14 @@ module _ (m : List ℕ) {r : FaultRecord} (v : Verdicts m r) (some : numberOf (r
   somewhere w =
       let p = points m v w in
       let l = located m (r .place) (p .0) (p .1) in
-      at (eqb number 20) (eqb number 21) refl refl (p .0) l
+      at (eqb number 20) (eqb number 21) refl refl p l
     where
-      at : (s t : Bool) → eqb number 20 ≡ s → eqb number 21 ≡ t → reading m ≡ Passes → Located m (r .place) (take 3 (faulty m (r .place))) (sequenceOf m (r .place))
+      at : (s t : Bool) → eqb number 20 ≡ s → eqb number 21 ≡ t → (reading m ≡ Passes) × (r .place < length (segments m)) × (number ≡ 20 → r .place ≡ 0) → Located m (r .place) (take 3 (faulty m (r .place))) (sequenceOf m (r .place))
           → TellsPlace m r (take 3 (faulty m (r .place))) (numeral (sequenceOf m (r .place))) (cond t [] (numeral (cond s 9 (r .field))))
       at true true e f p l = absurd (let n = eqb-true number 20 e in let k = eqb-true number 21 f in omega arith)
       at true false e f p l =
-          let z = type-first m v (eqb-true number 20 e) in
-          let n = first-name m p in
+          let z = p .2 (eqb-true number 20 e) in
+          let n = first-name m (p .0) in
           told-as (TellsPlace m r) (sym (ap (λ (k : ℕ). take 3 (faulty m k)) z ∙ n .0)) (sym (ap (λ (k : ℕ). numeral (sequenceOf m k)) z ∙ ap numeral (n .1) ∙ numeral-one)) (sym numeral-nine)
           (at-the-type (eqb-true number 20 e))
       at false true e f p l = at-a-segment (eqb-true number 21 f) l
@@ -289,7 +260,7 @@ module _ (m : List ℕ) {r : FaultRecord} (v : Verdicts m r) (some : numberOf (r
     where
       at : (s t : Bool) → eqb number 22 ≡ s → leb number 8 ≡ t → Tells-place
       at true t e f = empty (rw e) (at-the-end (eqb-true number 22 e))
-      at false true e f = empty (rw e (rw f)) (not-read (positive number some) (leb-true number 8 f))
+      at false true e f = empty (rw e (rw f)) (not-read (let n = some in omega arith) (leb-true number 8 f))
       at false false e f = there-so (rw e (rw f)) (somewhere (rw e (rw f)))
 
   code-part : part 3 ≡ numeral (errorCode number (r .place) (r .field))

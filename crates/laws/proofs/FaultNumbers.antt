@@ -88,53 +88,53 @@ module _ (ds : List ℕ) where
 
 -- ---- faults
 
--- a fault with a number of the field judge's, of a segment from a number on
-abbrev pub FaultNumbered : ℕ → Fault → Type 0
-FaultNumbered number Sound = Unit {0}
-FaultNumbered number (Faulty kind segment field repetition) = NumberFromTo 31 37 kind × (number ≤ segment)
+-- a fault with a number of the field judge's, of a segment from the first number on and before the last
+abbrev pub FaultNumbered : (first last : ℕ) → Fault → Type 0
+FaultNumbered first last Sound = Unit {0}
+FaultNumbered first last (Faulty kind segment field repetition) = NumberFromTo 31 37 kind × (first ≤ segment) × (segment < last)
 
-or-numbered : (number : ℕ) (f g : Fault) → FaultNumbered number f → FaultNumbered number g → FaultNumbered number (orFault f g)
-or-numbered number Sound g p q = q
-or-numbered number (Faulty kind segment field repetition) g p q = p
+or-numbered : (first last : ℕ) (f g : Fault) → FaultNumbered first last f → FaultNumbered first last g → FaultNumbered first last (orFault f g)
+or-numbered first last Sound g p q = q
+or-numbered first last (Faulty kind segment field repetition) g p q = p
 
-weaker : (number : ℕ) (f : Fault) → FaultNumbered (number + 1) f → FaultNumbered number f
-weaker number Sound p = tt
-weaker number (Faulty kind segment field repetition) p = (p .0, omega (arith, p .1))
+weaker : (first last : ℕ) (f : Fault) → FaultNumbered (first + 1) last f → FaultNumbered first last f
+weaker first last Sound p = tt
+weaker first last (Faulty kind segment field repetition) p = (p .0, omega (arith, p .1), p .2)
 
-located-numbered : (number field : ℕ) (c : Check) → Told c → FaultNumbered number (located number field c)
-located-numbered number field Passes p = tt
-located-numbered number field (Fails kind place) p = (p, omega arith)
+located-numbered : (number last field : ℕ) (c : Check) → number < last → Told c → FaultNumbered number last (located number field c)
+located-numbered number last field Passes h p = tt
+located-numbered number last field (Fails kind place) h p = (p, omega arith, h)
 
 module _ (m : List ℕ) where
-  row-numbered : (number : ℕ) (part : Part) (s : List ℕ) (row : Row) → FaultNumbered number (rowFault m number part s row)
+  row-numbered : (number last : ℕ) (part : Part) (s : List ℕ) (row : Row) → number < last → FaultNumbered number last (rowFault m number part s row)
   unfolding rowFault
-  row-numbered number part s row = at (eqb (row .segment) (nameAt number s))
+  row-numbered number last part s row h = at (eqb (row .segment) (nameAt number s))
     where
-      at : (t : Bool) → FaultNumbered number (cond t (located number (row .field) (rowCheck (delimitersOf m) row (saidIn m number part (row .kind)) (repetitionsOf m number part (row .field)))) Sound)
-      at true = located-numbered number (row .field) (rowCheck (delimitersOf m) row (saidIn m number part (row .kind)) (repetitionsOf m number part (row .field))) (row-told (delimitersOf m) row (saidIn m number part (row .kind)) (repetitionsOf m number part (row .field)))
+      at : (t : Bool) → FaultNumbered number last (cond t (located number (row .field) (rowCheck (delimitersOf m) row (saidIn m number part (row .kind)) (repetitionsOf m number part (row .field)))) Sound)
+      at true = located-numbered number last (row .field) (rowCheck (delimitersOf m) row (saidIn m number part (row .kind)) (repetitionsOf m number part (row .field))) h (row-told (delimitersOf m) row (saidIn m number part (row .kind)) (repetitionsOf m number part (row .field)))
       at false = tt
 
-  rows-numbered : (number : ℕ) (part : Part) (s : List ℕ) (rs : List Row) → FaultNumbered number (firstFault (map (rowFault m number part s) rs))
+  rows-numbered : (number last : ℕ) (part : Part) (s : List ℕ) (rs : List Row) → number < last → FaultNumbered number last (firstFault (map (rowFault m number part s) rs))
   unfolding firstFault
-  rows-numbered number part s [] = tt
-  rows-numbered number part s (row ∷ rest) = or-numbered number (rowFault m number part s row) _ (row-numbered number part s row) (rows-numbered number part s rest)
+  rows-numbered number last part s [] h = tt
+  rows-numbered number last part s (row ∷ rest) h = or-numbered number last (rowFault m number part s row) _ (row-numbered number last part s row h) (rows-numbered number last part s rest h)
 
-  pub segments-numbered : (rs : List Row) (number at : ℕ) (ss : List (List ℕ)) → FaultNumbered number (firstFault (segmentFaults rs m number at ss))
+  pub segments-numbered : (rs : List Row) (number last at : ℕ) (ss : List (List ℕ)) → number + length ss ≤ last → FaultNumbered number last (firstFault (segmentFaults rs m number at ss))
   unfolding firstFault segmentFaults
-  segments-numbered rs number at [] = tt
-  segments-numbered rs number at (s ∷ rest) =
-      or-numbered number (segmentFault rs m number at s) _ (rows-numbered number _ s rs)
-      (weaker number (firstFault (segmentFaults rs m (number + 1) (at + length s + 1) rest)) (segments-numbered rs (number + 1) (at + length s + 1) rest))
+  segments-numbered rs number last at [] h = tt
+  segments-numbered rs number last at (s ∷ rest) h =
+      or-numbered number last (segmentFault rs m number at s) _ (rows-numbered number last _ s rs (omega arith))
+      (weaker number last (firstFault (segmentFaults rs m (number + 1) (at + length s + 1) rest)) (segments-numbered rs (number + 1) last (at + length s + 1) rest (omega arith)))
 
-  pub judging-numbered : (rs : List Row) → FaultNumbered 0 (judging rs m)
+  pub judging-numbered : (rs : List Row) → FaultNumbered 0 (length (segments m)) (judging rs m)
   unfolding judging
-  judging-numbered rs = segments-numbered rs 0 0 (segments m)
+  judging-numbered rs = segments-numbered rs 0 (length (segments m)) 0 (segments m) (omega arith)
 
   -- the answer is 0, or one of 31 to 37
   pub fields-number : (rs : List Row) → (numberOf (faultAnswer (judging rs m) .kind) ≡ 0) ⊎ NumberFromTo 31 37 (faultAnswer (judging rs m) .kind)
   fields-number rs = at (judging rs m) (judging-numbered rs)
     where
-      at : (f : Fault) → FaultNumbered 0 f → (numberOf (faultAnswer f .kind) ≡ 0) ⊎ NumberFromTo 31 37 (faultAnswer f .kind)
+      at : (f : Fault) → FaultNumbered 0 (length (segments m)) f → (numberOf (faultAnswer f .kind) ≡ 0) ⊎ NumberFromTo 31 37 (faultAnswer f .kind)
       at Sound n = inl refl
       at (Faulty kind segment field repetition) n = inr (n .0)
 
@@ -142,44 +142,6 @@ module _ (m : List ℕ) where
   pub none-sound : (rs : List Row) → faultAnswer (judging rs m) .kind ≡ None → judging rs m ≡ Sound
   none-sound rs e = at (judging rs m) (judging-numbered rs) e
     where
-      at : (f : Fault) → FaultNumbered 0 f → faultAnswer f .kind ≡ None → f ≡ Sound
+      at : (f : Fault) → FaultNumbered 0 (length (segments m)) f → faultAnswer f .kind ≡ None → f ≡ Sound
       at Sound n q = refl
       at (Faulty kind segment field repetition) n q = absurd (let z = ap numberOf q in omega (arith, n .0 .0))
-
--- ---- the segment is one that there is
-
-abbrev pub FaultInside : ℕ → Fault → Type 0
-FaultInside last Sound = Unit {0}
-FaultInside last (Faulty kind segment field repetition) = segment < last
-
-or-inside : (last : ℕ) (f g : Fault) → FaultInside last f → FaultInside last g → FaultInside last (orFault f g)
-or-inside last Sound g p q = q
-or-inside last (Faulty kind segment field repetition) g p q = p
-
-located-inside : (last number field : ℕ) (c : Check) → number < last → FaultInside last (located number field c)
-located-inside last number field Passes h = tt
-located-inside last number field (Fails kind place) h = h
-
-module _ (m : List ℕ) (last : ℕ) where
-  row-inside : (number : ℕ) (part : Part) (s : List ℕ) (row : Row) → number < last → FaultInside last (rowFault m number part s row)
-  unfolding rowFault
-  row-inside number part s row h = at (eqb (row .segment) (nameAt number s))
-    where
-      at : (t : Bool) → FaultInside last (cond t (located number (row .field) (rowCheck (delimitersOf m) row (saidIn m number part (row .kind)) (repetitionsOf m number part (row .field)))) Sound)
-      at true = located-inside last number (row .field) (rowCheck (delimitersOf m) row (saidIn m number part (row .kind)) (repetitionsOf m number part (row .field))) h
-      at false = tt
-
-  rows-inside : (number : ℕ) (part : Part) (s : List ℕ) (rs : List Row) → number < last → FaultInside last (firstFault (map (rowFault m number part s) rs))
-  unfolding firstFault
-  rows-inside number part s [] h = tt
-  rows-inside number part s (row ∷ rest) h = or-inside last (rowFault m number part s row) _ (row-inside number part s row h) (rows-inside number part s rest h)
-
-  segments-inside : (rs : List Row) (number at : ℕ) (ss : List (List ℕ)) → number + length ss ≤ last → FaultInside last (firstFault (segmentFaults rs m number at ss))
-  unfolding firstFault segmentFaults
-  segments-inside rs number at [] h = tt
-  segments-inside rs number at (s ∷ rest) h =
-      or-inside last (segmentFault rs m number at s) _ (rows-inside number _ s rs (omega arith)) (segments-inside rs (number + 1) (at + length s + 1) rest (omega arith))
-
-pub judging-inside : (m : List ℕ) (rs : List Row) → FaultInside (length (segments m)) (judging rs m)
-unfolding judging
-judging-inside m rs = segments-inside m (length (segments m)) rs 0 0 (segments m) (omega arith)

@@ -56,6 +56,10 @@ pub record Lines (ds : List ℕ) (ls : List (List ℕ)) : Type 0 where
 
 -- ---- what holds of every line, and of all bytes
 
+pub or-true : (t : Bool) → (t || true) ≡ true
+or-true true = refl
+or-true false = refl
+
 -- of the line at a place that there is
 every-there : (Q : List ℕ → Type 0) (ls : List (List ℕ)) → Every Q ls → (k : ℕ) → k < length ls → Q (getD ls k [])
 unfolding Every
@@ -107,10 +111,6 @@ module _ (ds l : List ℕ) (rest : List (List ℕ)) (x : Lines ds (l ∷ rest)) 
   header-first : isHeader whole ≡ true
   header-first =
       (λ i. eqb (near 0 (omega arith) i) 77 && (eqb (near 1 (omega arith) i) 83 && eqb (near 2 (omega arith) i) 72)) ∙ x .header
-
-  or-true : (t : Bool) → (t || true) ≡ true
-  or-true true = refl
-  or-true false = refl
 
   eighth : (eqb (getD whole 8 0) (getD ds 0 0) || eqb (getD whole 8 0) carriageReturn) ≡ true
   unfolding ended

@@ -102,7 +102,7 @@ module _ (kind : Refusal) (field repetition : ℕ) where
     where
       at : Here (segmentFault rows m 0 0 s) ⊎ Here (firstFault (segmentFaults rows m 1 (0 + length s + 1) rest)) → Here (segmentFault rows m 0 0 s)
       at (inl e) = e
-      at (inr e) = absurd (let b = subst (FaultNumbered 1) e (segments-numbered m rows 1 (0 + length s + 1) rest) in omega (arith, b .1))
+      at (inr e) = absurd (let b = subst (FaultNumbered 1 (1 + length rest)) e (segments-numbered m rows 1 (1 + length rest) (0 + length s + 1) rest (omega arith)) in omega (arith, b .1))
 
   of-field : (f : ℕ) (c : Check) → Here (located 0 f c) → (c ≡ Fails kind repetition) × (f ≡ field)
   of-field f Passes e = absurd (let z : _≡_ {A = ℕ} 0 1 = cc in omega arith)

@@ -2,7 +2,7 @@
 -- and the caller's. Assumes nothing.
 use mathlib.Core.Path.{_≡_, refl, sym, ap, ap₂, _∙_, subst}
 use mathlib.Core.Logic.{_⊎_, ⊎-elim}
-use mathlib.Core.Bool.{Bool, true, false, cond, _||_}
+use mathlib.Core.Bool.{Bool, true, false, cond}
 use mathlib.Core.List.{List, [], _∷_, _++_, map}
 use Prim.Native.Nat.{ℕ, _+_, _-_, _≤_, _<_}
 use native.Mathlib.Omega.{arith}
@@ -45,12 +45,8 @@ use Rattle.acknowledgement.specs.Acknowledgement.{fieldAddress, sent, typePart,
 use Rattle.acknowledgement_code.specs.Codes.{lettersOf}
 use Rattle.acknowledgement_code.specs.declared.Code.{Code}
 use Rattle.acknowledgement_code.specs.declared.Code.the-variants.{Accept, Error, Reject}
-use Rattle.laws.proofs.LineLaws.{Printable, Not, Clean, Lines, lines-segments, lines-message, lines-header-field, lines-field, joined-printable, joined-parts}
+use Rattle.laws.proofs.LineLaws.{or-true, Printable, Not, Clean, Lines, lines-segments, lines-message, lines-header-field, lines-field, joined-printable, joined-parts}
 use Rattle.laws.proofs.SenderLaws.{field-clean, event-clean, delimiter-printable, delimiters-apart, no-delimiter, sign-clean}
-
-or-true : (t : Bool) → (t || true) ≡ true
-or-true true = refl
-or-true false = refl
 
 -- what the lines behind MSA are: none, or one of the name ERR; they are printable and have good names
 pub record Behind (sep : ℕ) (es : List (List ℕ)) : Type 0 where

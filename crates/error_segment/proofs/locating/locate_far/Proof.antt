@@ -10,7 +10,7 @@ use Rattle.reading.specs.Segments.{segments, nameOf}
 use Rattle.reading.proofs.SegmentLaws.{segment-bytes, segment-past}
 use Rattle.structure.specs.SegmentNames.{segmentNames}
 use Rattle.error_segment.specs.Errors.{countOf}
-use Rattle.error_segment.proofs.ErrorLaws.{past-none}
+use Rattle.alphabet.proofs.PartLaws.{past-none}
 use Rattle.error_segment.proofs.LocateLaws.{name-none}
 use Rattle.error_segment.proofs.locating.locate_far.Statement.{statement}
 use Rattle.error_segment.proofs.locating.locate_far.Tie as tie
