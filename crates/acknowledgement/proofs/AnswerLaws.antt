@@ -36,7 +36,7 @@ module _ (m time id lent : List ℕ) where
       (λ i. acknowledgement (q i) time id (k i) [] ++ l i) ∙ lines-behind (header m) time id (codeOf found) (errorLines m found) in
       let o = ap (roomy (length lent)) w in
       subst (λ (y : Answer). Acknowledges m time id lent y x) (sym (a ∙ ap answer o))
-      (subst (λ (y : List ℕ). Acknowledges m time id lent (answer (roomy (length lent) (answerTo m time id found))) y) (sym (f ∙ ap (λ (y : Outcome). filled y lent) o))
+      (subst (λ (y : List ℕ). Acknowledges m time id lent (answer (roomy (length lent) (answerTo m time id found))) y) (sym (f ∙ ap (λ (y : Outcome ℕ). filled y lent) o))
       (written n found v))
 
 -- ---- no second answer
@@ -47,12 +47,12 @@ one-answer m time id lent (not-written n) (written e found v) = absurd (n e)
 one-answer m time id lent (written e found v) (not-written n) = absurd (n e)
 one-answer m time id lent (written e found v) (written f other w) =
     let o = ap (λ (k : FaultRecord). roomy (length lent) (answerTo m time id k)) (one-verdict m v w) in
-    (ap answer o, ap (λ (z : Outcome). filled z lent) o)
+    (ap answer o, ap (λ (z : Outcome ℕ). filled z lent) o)
 
 -- ---- what is refused
 
 -- by whether there is room
-abbrev outcome : List ℕ → Bool → Outcome
+abbrev outcome : List ℕ → Bool → Outcome ℕ
 outcome w t = cond t (text w) (fault AcknowledgementTooLong 0)
 
 -- "A refusal gives number and place, length 0", and the buffer holds the bytes that it held before

@@ -105,7 +105,7 @@ acknowledgeable m =
 
 -- 10: "acknowledgement longer than the buffer or 32,768"; its place is 0. By W4 it "now counts the ERR bytes": w has
 -- them
-unfoldable pub roomy : ℕ → List ℕ → Outcome
+unfoldable pub roomy : ℕ → List ℕ → Outcome ℕ
 roomy room w = cond (leb (length w) room && leb (length w) messageLimit) (text w) (fault AcknowledgementTooLong 0)
 
 -- "Acknowledging: 16, 17, 9, 10.": what stands against any acknowledgement, whatever the buffer; 16: "caller's time

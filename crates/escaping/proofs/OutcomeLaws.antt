@@ -17,8 +17,8 @@ use Rattle.escaping.specs.Outcomes.{Outcome, text, fault, fitting, escap
 use Rattle.escaping.specs.declared.answers.Room.the-variants.{Takes, Short}
 
 -- from the outcome to the answer and the buffer
-pub ended : (o o′ : Outcome) (d : List ℕ) → o ≡ o′ → (answer o′ ≡ answer o) × (filled o′ d ≡ filled o d)
-ended o o′ d e = (ap answer (sym e), ap (λ (x : Outcome). filled x d) (sym e))
+pub ended : (o o′ : Outcome ℕ) (d : List ℕ) → o ≡ o′ → (answer o′ ≡ answer o) × (filled o′ d ≡ filled o d)
+ended o o′ d e = (ap answer (sym e), ap (λ (x : Outcome ℕ). filled x d) (sym e))
 
 -- ---- whether something goes into a room
 

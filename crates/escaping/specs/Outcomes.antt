@@ -14,28 +14,28 @@ use Rattle.escaping.specs.Escape.{escape}
 use Rattle.escaping.specs.declared.answers.Room.{Room}
 use Rattle.escaping.specs.declared.answers.Room.the-variants.{Takes, Short}
 
--- a text, or a fault and its place
-pub data Outcome : Type 0 where
-  text : List ℕ → Outcome
-  fault : Refusal → ℕ → Outcome
+-- a text, or a fault and its place; a text is bytes, where it is written, and may be more than bytes, where it is read
+pub data Outcome (A : Type 0) : Type 0 where
+  text : List A → Outcome A
+  fault : Refusal → ℕ → Outcome A
 
 -- "result longer than the buffer", which has room for `room` bytes; its place is "else 0"
-unfoldable pub fitting : ℕ → Outcome → Outcome
+unfoldable pub fitting : ℕ → Outcome ℕ → Outcome ℕ
 fitting room (fault k p) = fault k p
 fitting room (text t) = cond (leb (length t) room) (text t) (fault NoRoom 0)
 
 -- "Escaping: 3, then 14."
-unfoldable pub escaping : List ℕ → List ℕ → ℕ → Outcome
+unfoldable pub escaping : List ℕ → List ℕ → ℕ → Outcome ℕ
 escaping ds t room =
     cond (ltb (firstWrongDelimiter ds) 5) (fault Delimiter (firstWrongDelimiter ds)) (fitting room (text (escape ds t)))
 
 -- "its length is given"; "A refusal gives number and place, length 0"
-unfoldable pub answer : Outcome → Answer
+unfoldable pub answer : Outcome ℕ → Answer
 answer (text t) = record { kind = None; place = 0; length = length t }
 answer (fault k p) = record { kind = k; place = p; length = 0 }
 
 -- "A written text fills the front of its buffer"; a refusal "writes nothing"
-unfoldable pub filled : Outcome → List ℕ → List ℕ
+unfoldable pub filled : Outcome ℕ → List ℕ → List ℕ
 filled (text t) d = over t d
 filled (fault k p) d = d
 

@@ -3,4 +3,6 @@
 mod sequences;
 mod unescaping;
 
+pub use sequences::is_known;
+pub use unescaping::Judged;
 pub use unescaping::unescape;

@@ -14,7 +14,7 @@ ghost use Prim.Native.Nat.{_+_, _≤_, _<_};
 ghost use lib.ListN.{length, getD, drop};
 ghost use Rattle.alphabet.specs.Lists.{find};
 ghost use Rattle.escaping.specs.Escape.{escapeOf};
-ghost use Rattle.text.specs.Unescape.{sequence, step, scan};
+ghost use Rattle.text.specs.Unescape.{plainText, sequence, step, scan};
 ghost use Rattle.text.specs.Judging.{isText, textOf, seen, judged};
 ghost use Rattle.text.specs.Unescape.{unescaping};
 ghost use Rattle.escaping.specs.Outcomes.{answer, filled};
@@ -35,7 +35,8 @@ pub enum Judged {
 // What an escape delimiter opens, where `rest` is what follows it.
 fn sequence_in(delimiters: Delimiters, rest: &[u8]) -> Found
     ensures { λ r. ⌜ r ≡ seen
-        (sequence (delimiters .bytes) (now (rest .entry)) (find (escapeOf (delimiters .bytes)) (now (rest .entry)))) ⌝ }
+        (sequence plainText (delimiters .bytes) (now (rest .entry))
+        (find (escapeOf (delimiters .bytes)) (now (rest .entry)))) ⌝ }
 {
     let five = delimiters.bytes;
     let n = alphabet::find(rest, five[3]);
@@ -61,7 +62,7 @@ fn sequence_in(delimiters: Delimiters, rest: &[u8]) -> Found
 fn step_at(delimiters: Delimiters, text: &[u8], i: usize) -> Found
     requires { ⌜ i < length (now text) ⌝ }
     ensures { λ r. ⌜ r ≡ seen
-        (step (delimiters .bytes) (getD (now (text .entry)) i 0) (drop (i + 1) (now (text .entry)))) ⌝ }
+        (step plainText (delimiters .bytes) (getD (now (text .entry)) i 0) (drop (i + 1) (now (text .entry)))) ⌝ }
 {
     let five = delimiters.bytes;
     let b = text[i];
@@ -81,7 +82,7 @@ fn step_at(delimiters: Delimiters, text: &[u8], i: usize) -> Found
 // The text's length, or its first fault: what stands at a place, and the bytes that stand plainly behind it, at each
 // turn.
 fn judge(delimiters: Delimiters, text: &[u8]) -> Judged
-    ensures { λ r. ⌜ r ≡ judged (scan (delimiters .bytes) 0 0 (now (text .entry))) ⌝ }
+    ensures { λ r. ⌜ r ≡ judged (scan plainText (delimiters .bytes) 0 0 (now (text .entry))) ⌝ }
 {
     let mut n = 0;
     let mut i = 0;
@@ -109,10 +110,10 @@ fn judge(delimiters: Delimiters, text: &[u8]) -> Judged
 // Writes what a text with no fault says to the front of the buffer: a sequence, or the bytes up to the next one, at
 // each turn.
 fn write_text(delimiters: Delimiters, text: &[u8], buffer: &mut [u8])
-    requires { ⌜ (isText (scan (delimiters .bytes) 0 0 (now text)) ≡ true)
-        × (length (textOf (scan (delimiters .bytes) 0 0 (now text))) ≤ length (now buffer)) ⌝ }
+    requires { ⌜ (isText (scan plainText (delimiters .bytes) 0 0 (now text)) ≡ true)
+        × (length (textOf (scan plainText (delimiters .bytes) 0 0 (now text))) ≤ length (now buffer)) ⌝ }
     ensures { λ _. ⌜ now (buffer .exit)
-        ≡ over (textOf (scan (delimiters .bytes) 0 0 (now (text .entry)))) (now (buffer .entry)) ⌝ }
+        ≡ over (textOf (scan plainText (delimiters .bytes) 0 0 (now (text .entry)))) (now (buffer .entry)) ⌝ }
 {
     let five = delimiters.bytes;
     let mark = five[3];

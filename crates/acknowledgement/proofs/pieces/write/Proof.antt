@@ -33,8 +33,8 @@ escaped c =
     let d = b .id-buffer .result in
     let f = id-fits (delimitersOf (now (s .args .header))) (now (s .args .id)) (length d) (s .pre .1 .1 .0) (s .pre .1 .1 .1) (b .id-buffer .ensures) in
     let o = ap (λ ds. escaping ds (now (s .args .id)) (length d)) (b .before .delimiters-of .ensures) ∙ f .0 in (
-      ap (λ (r : Answer). r .length) (c .escape .ensures .0) ∙ ap (λ (x : Outcome). answer x .length) o,
-      c .escape .ensures .1 ∙ ap (λ (x : Outcome). filled x d) o,
+      ap (λ (r : Answer). r .length) (c .escape .ensures .0) ∙ ap (λ (x : Outcome ℕ). answer x .length) o,
+      c .escape .ensures .1 ∙ ap (λ (x : Outcome ℕ). filled x d) o,
       omega (arith, f .1, b .id-buffer .ensures),
     )
 
@@ -69,7 +69,7 @@ returns c =
     let o =
     ap₂ (λ (x f : List ℕ). roomy (length d) (together (pieces h (now (a .time)) x f (now (a .behind))))) (handed e) (k .fixed-text .ensures)
     ∙ ap (roomy (length d)) (pieces-together h (now (a .time)) (now (a .id)) (a .code) (now (a .behind)) (s .pre .0) (s .pre .1 .0)) in
-    (p .write-pieces .ensures .0 ∙ ap answer o, p .write-pieces .ensures .1 ∙ ap (λ (x : Outcome). filled x d) o)
+    (p .write-pieces .ensures .0 ∙ ap answer o, p .write-pieces .ensures .1 ∙ ap (λ (x : Outcome ℕ). filled x d) o)
 
 pub write-spec : {M : Type 1} → statement M
 write-spec =

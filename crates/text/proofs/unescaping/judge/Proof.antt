@@ -5,7 +5,7 @@ use lib.ListN.{length, getD, drop, length-drop}
 use native.Mathlib.Omega.{arith}
 use borrow.Author.Needs.{needs}
 use denote.Ref.{now}
-use Rattle.text.specs.Unescape.{step}
+use Rattle.text.specs.Unescape.{plainText, step}
 use Rattle.plain.specs.Plain.{special}
 use Rattle.text.specs.Judging.{judged}
 use Rattle.text.specs.declared.unescaping.Judged.{Judged}
@@ -16,13 +16,13 @@ use Rattle.text.proofs.unescaping.judge.Statement.{statement}
 use Rattle.text.proofs.unescaping.judge.Tie as tie
 
 abbrev Inv-loop : tie.InvT-loop
-Inv-loop delimiters text n₀ i₀ n i = (i ≤ length text) × (n ≤ i) × Scanning (delimiters .bytes) text i n
+Inv-loop delimiters text n₀ i₀ n i = (i ≤ length text) × (n ≤ i) × Scanning plainText (delimiters .bytes) text i n
 
 abbrev μ-loop : tie.MeasureT-loop
 μ-loop delimiters text n₀ i₀ n i = length text - i
 
 loop-holds : tie.Need-loop-holds Inv-loop μ-loop
-loop-holds c = (omega arith, omega arith, scanning-start _ _)
+loop-holds c = (omega arith, omega arith, scanning-start _ _ _)
 
 returns : tie.Need-returns Inv-loop μ-loop
 unfolding judged
@@ -31,20 +31,20 @@ returns c =
     let a = l .before .before .args in
     let s = now (a .text) in
     let g = c .before .found .given in
-    let y = seen-fault (step (a .delimiters .bytes) (getD s (l .loop .i) 0) (drop (l .loop .i + 1) s)) (g .0 .0) (sym (g .1) ∙ c .before .before .before .step-at .ensures) in
+    let y = seen-fault (step plainText (a .delimiters .bytes) (getD s (l .loop .i) 0) (drop (l .loop .i + 1) s)) (g .0 .0) (sym (g .1) ∙ c .before .before .before .step-at .ensures) in
     ap judged (sym (scanning-stop (g .0 .0) (l .loop .inv .2) (omega arith) y))
 
 -- the scan behind what stands at the place
 stepped : (c : tie.After-known-told2 Inv-loop μ-loop)
     → let l = c .before .before .before .before .before in let a = l .before .before .args in
     let i = l .loop .i + 1 + c .before .found2 .given .0 .1 .0 in let n = l .loop .n + c .before .found2 .given .0 .0 in
-    (i ≤ length (now (a .text))) × (n ≤ i) × Scanning (a .delimiters .bytes) (now (a .text)) i n
+    (i ≤ length (now (a .text))) × (n ≤ i) × Scanning plainText (a .delimiters .bytes) (now (a .text)) i n
 stepped c =
     let l = c .before .before .before .before .before in
     let a = l .before .before .args in
     let s = now (a .text) in
     let g = c .before .found2 .given in
-    let y = seen-bytes (step (a .delimiters .bytes) (getD s (l .loop .i) 0) (drop (l .loop .i + 1) s)) (g .0 .0) (g .0 .1 .0) (sym (g .1) ∙ c .before .before .before .step-at .ensures) in
+    let y = seen-bytes (step plainText (a .delimiters .bytes) (getD s (l .loop .i) 0) (drop (l .loop .i + 1) s)) (g .0 .0) (g .0 .1 .0) (sym (g .1) ∙ c .before .before .before .step-at .ensures) in
     let w = step-bounds (a .delimiters .bytes) (getD s (l .loop .i) 0) (drop (l .loop .i + 1) s) (y .0) (g .0 .1 .0) (y .1) in
     let z = y .2 in
     let d = length-drop (l .loop .i + 1) s in
@@ -54,7 +54,7 @@ stepped c =
 ran : (c : tie.After-plain-run Inv-loop μ-loop)
     → let k = c .before .before in let l = k .before .before .before .before .before in let a = l .before .before .args in
     let i = l .loop .i + 1 + k .before .found2 .given .0 .1 .0 + c .plain-run .result in let n = l .loop .n + k .before .found2 .given .0 .0 + c .plain-run .result in
-    (i ≤ length (now (a .text))) × (n ≤ i) × Scanning (a .delimiters .bytes) (now (a .text)) i n
+    (i ≤ length (now (a .text))) × (n ≤ i) × Scanning plainText (a .delimiters .bytes) (now (a .text)) i n
 ran c =
     let k = c .before .before in
     let l = k .before .before .before .before .before in
@@ -67,7 +67,7 @@ ran c =
     let h = stepped k in
     let m = h .1 in
     let r = run-from (special ds) s i (c .plain-run .result) (h .0) (c .plain-run .ensures) in
-    (r .1, omega arith, scanning-run ds s i (c .plain-run .result) (r .0) five n (r .1) (h .2))
+    (r .1, omega arith, scanning-run plainText ds s i (c .plain-run .result) (r .0) five n (r .1) (h .2))
 
 add-n : tie.Need-add-n Inv-loop μ-loop
 add-n c = let h = stepped c in let e = h .0 in let m = h .1 in omega arith

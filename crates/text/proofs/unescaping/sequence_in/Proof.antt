@@ -10,7 +10,7 @@ use borrow.Author.Tests.{not-true, not-false}
 use denote.Ref.{now}
 use Rattle.alphabet.specs.Lists.{find}
 use Rattle.escaping.specs.Escape.{escapeOf}
-use Rattle.text.specs.Unescape.{known, meaning, emit, step}
+use Rattle.text.specs.Unescape.{known, meaning, plainText, emit, step}
 use Rattle.text.specs.Judging.{seen}
 use Rattle.text.specs.declared.unescaping.Found.{Found}
 use Rattle.text.proofs.SequenceLaws.{meaning-one, meaning-more}
@@ -25,7 +25,7 @@ returns c =
     let ds = a .delimiters .bytes in
     let r = now (a .rest) in
     let e = c .before .find .ensures in
-    ap seen (sym (step-unclosed ds (escapeOf ds) r refl (omega arith)) ∙ step-opens ds (escapeOf ds) r refl)
+    ap seen (sym (step-unclosed plainText ds (escapeOf ds) r refl (omega arith)) ∙ step-opens plainText ds (escapeOf ds) r refl)
 
 returns-2 : tie.Need-returns-2
 unfolding seen
@@ -36,13 +36,13 @@ returns-2 c =
     let r = now (a .rest) in
     let n = f .find .result in
     let k = sym (c .before .is-known .ensures) ∙ not-true _ (c .if2 .taken) in
-    ap seen (sym (step-unknown ds (escapeOf ds) r n refl (sym (f .find .ensures)) (omega arith) k) ∙ step-opens ds (escapeOf ds) r refl)
+    ap seen (sym (step-unknown plainText ds (escapeOf ds) r n refl (sym (f .find .ensures)) (omega arith) k) ∙ step-opens plainText ds (escapeOf ds) r refl)
 
 -- a sequence that is closed and known
 is : (c : tie.Else2)
     → let f = c .before .before .before .before in let a = f .before .before .before .args in
     let ds = a .delimiters .bytes in let inside = take (f .find .result) (now (a .rest)) in
-    (known inside ≡ true) × (length inside ≡ f .find .result) × (step ds (escapeOf ds) (now (a .rest)) ≡ emit (meaning ds inside) (f .find .result + 1))
+    (known inside ≡ true) × (length inside ≡ f .find .result) × (step plainText ds (escapeOf ds) (now (a .rest)) ≡ emit (meaning ds inside) (f .find .result + 1))
 is c =
     let f = c .before .before .before .before in
     let a = f .before .before .before .args in
@@ -50,7 +50,7 @@ is c =
     let r = now (a .rest) in
     let n = f .find .result in
     let k = sym (c .before .is-known .ensures) ∙ not-false _ (c .if2 .left) in
-    (k, length-take-le n r (omega arith), step-known ds (escapeOf ds) r n refl (sym (f .find .ensures)) (omega arith) k)
+    (k, length-take-le n r (omega arith), step-known plainText ds (escapeOf ds) r n refl (sym (f .find .ensures)) (omega arith) k)
 
 returns-3 : tie.Need-returns-3
 unfolding seen
@@ -62,7 +62,7 @@ returns-3 c =
     let n = f .find .result in
     let h = is (c .before) in
     let t = h .1 in
-    ap (λ (m : ℕ). Found.Bytes m (n + 1)) (sym (meaning-one ds (take n r) (h .0) (omega arith))) ∙ ap seen (sym (h .2) ∙ step-opens ds (escapeOf ds) r refl)
+    ap (λ (m : ℕ). Found.Bytes m (n + 1)) (sym (meaning-one ds (take n r) (h .0) (omega arith))) ∙ ap seen (sym (h .2) ∙ step-opens plainText ds (escapeOf ds) r refl)
 
 returns-4 : tie.Need-returns-4
 unfolding seen
@@ -75,7 +75,7 @@ returns-4 c =
     let h = is (c .before) in
     let t = h .1 in
     let m = meaning-more ds (take n r) (h .0) (omega arith) in
-    ap (λ (m : ℕ). Found.Bytes m (n + 1)) (sym (m ∙ ap (λ (z : ℕ). z / 2) t)) ∙ ap seen (sym (h .2) ∙ step-opens ds (escapeOf ds) r refl)
+    ap (λ (m : ℕ). Found.Bytes m (n + 1)) (sym (m ∙ ap (λ (z : ℕ). z / 2) t)) ∙ ap seen (sym (h .2) ∙ step-opens plainText ds (escapeOf ds) r refl)
 
 pub sequence-in-spec : {M : Type 1} → statement M
 sequence-in-spec =

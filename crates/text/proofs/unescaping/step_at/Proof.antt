@@ -10,7 +10,7 @@ use denote.Ref.{now}
 use Rattle.alphabet.proofs.ListLaws.{rest-of}
 use Rattle.escaping.specs.Escape.{escapeOf}
 use Rattle.alphabet.specs.Lists.{find}
-use Rattle.text.specs.Unescape.{sequence}
+use Rattle.text.specs.Unescape.{plainText, sequence}
 use Rattle.text.specs.Judging.{seen}
 use Rattle.text.proofs.StepLaws.{step-opens, step-unprintable, step-separator, step-plain}
 use Rattle.text.proofs.unescaping.step_at.Statement.{statement}
@@ -22,8 +22,8 @@ returns c =
     let a = o .before .before .before .before .args in
     let ds = a .delimiters .bytes in
     let s = now (a .text) in
-    c .sequence-in .ensures ∙ ap (λ (r : List ℕ). seen (sequence ds r (find (escapeOf ds) r))) (rest-of s (a .i + 1))
-    ∙ ap seen (sym (step-opens ds (getD s (a .i) 0) (drop (a .i + 1) s) (o .if1 .taken)))
+    c .sequence-in .ensures ∙ ap (λ (r : List ℕ). seen (sequence plainText ds r (find (escapeOf ds) r))) (rest-of s (a .i + 1))
+    ∙ ap seen (sym (step-opens plainText ds (getD s (a .i) 0) (drop (a .i + 1) s) (o .if1 .taken)))
 
 returns-2 : tie.Need-returns-2
 unfolding seen
@@ -31,7 +31,7 @@ returns-2 c =
     let o = c .before .before in
     let a = o .before .before .before .before .args in
     let s = now (a .text) in
-    ap seen (sym (step-unprintable (a .delimiters .bytes) (getD s (a .i) 0) (drop (a .i + 1) s) (o .if1 .left) (sym (c .before .is-printable .ensures) ∙ not-true _ (c .if2 .taken))))
+    ap seen (sym (step-unprintable plainText (a .delimiters .bytes) (getD s (a .i) 0) (drop (a .i + 1) s) (o .if1 .left) (sym (c .before .is-printable .ensures) ∙ not-true _ (c .if2 .taken))))
 
 returns-3 : tie.Need-returns-3
 unfolding seen
@@ -40,7 +40,7 @@ returns-3 c =
     let o = p .before in
     let a = o .before .before .before .before .args in
     let s = now (a .text) in
-    ap seen (sym (step-separator (a .delimiters .bytes) (getD s (a .i) 0) (drop (a .i + 1) s) (o .if1 .left) (sym (p .is-printable .ensures) ∙ not-false _ (c .before .before .if2 .left)) (omega arith)))
+    ap seen (sym (step-separator plainText (a .delimiters .bytes) (getD s (a .i) 0) (drop (a .i + 1) s) (o .if1 .left) (sym (p .is-printable .ensures) ∙ not-false _ (c .before .before .if2 .left)) (omega arith)))
 
 returns-4 : tie.Need-returns-4
 unfolding seen
@@ -49,7 +49,7 @@ returns-4 c =
     let o = p .before in
     let a = o .before .before .before .before .args in
     let s = now (a .text) in
-    ap seen (sym (step-plain (a .delimiters .bytes) (getD s (a .i) 0) (drop (a .i + 1) s) (o .if1 .left) (sym (p .is-printable .ensures) ∙ not-false _ (c .before .before .if2 .left)) (omega arith)))
+    ap seen (sym (step-plain plainText (a .delimiters .bytes) (getD s (a .i) 0) (drop (a .i + 1) s) (o .if1 .left) (sym (p .is-printable .ensures) ∙ not-false _ (c .before .before .if2 .left)) (omega arith)))
 
 pub step-at-spec : {M : Type 1} → statement M
 step-at-spec =

@@ -8,7 +8,7 @@ use borrow.Author.Needs.{needs}
 use Rattle.alphabet.specs.declared.answers.Refusal.the-variants.{None, Delimiter}
 use Rattle.alphabet.specs.declared.answers.Answer.{Answer}
 use Rattle.escaping.specs.Outcomes.{fault}
-use Rattle.text.specs.Unescape.{scan}
+use Rattle.text.specs.Unescape.{plainText, scan}
 use Rattle.escaping.specs.Outcomes.{answer, filled}
 use Rattle.text.specs.Judging.{textOf}
 use Rattle.escaping.proofs.OutcomeLaws.{ended}
@@ -48,9 +48,9 @@ returns-3 c =
     let s = now (a .text) in
     let d = now (a .buffer) in
     let g = c .before .before .before .found2 .given in
-    let y = judged-text (scan ds 0 0 s) (g .0 .0) (sym (g .1) ∙ c .before .before .before .before .before .judge .ensures) in
+    let y = judged-text (scan plainText ds 0 0 s) (g .0 .0) (sym (g .1) ∙ c .before .before .before .before .before .judge .ensures) in
     let z = y .1 in
-    let r = ended _ _ d (unescaping-long ds s (length d) (omega arith) (sym (c .before .before .before .before .before .before .before .is-null .ensures) ∙ c .before .before .before .before .before .before .if2 .left) (textOf (scan ds 0 0 s)) (y .0) (omega arith)) in
+    let r = ended _ _ d (unescaping-long ds s (length d) (omega arith) (sym (c .before .before .before .before .before .before .before .is-null .ensures) ∙ c .before .before .before .before .before .before .if2 .left) (textOf (scan plainText ds 0 0 s)) (y .0) (omega arith)) in
     (c .refused4 .ensures ∙ r .0, r .1)
 
 write-text-requires : tie.Need-write-text-requires
@@ -60,7 +60,7 @@ write-text-requires c κs =
     let s = now (a .text) in
     let d = now (a .buffer) in
     let g = c .before .before .before .found2 .given in
-    let y = judged-text (scan ds 0 0 s) (g .0 .0) (sym (g .1) ∙ c .before .before .before .before .before .judge .ensures) in
+    let y = judged-text (scan plainText ds 0 0 s) (g .0 .0) (sym (g .1) ∙ c .before .before .before .before .before .judge .ensures) in
     let z = y .1 in
     (y .2, omega arith)
 
@@ -72,7 +72,7 @@ returns-4 c =
     let s = now (a .text) in
     let d = now (a .buffer) in
     let g = c .before .before .found .given in
-    let y = judged-fault (scan ds 0 0 s) (g .0 .0) (g .0 .1 .0) (sym (g .1) ∙ c .before .before .before .before .judge .ensures) in
+    let y = judged-fault (scan plainText ds 0 0 s) (g .0 .0) (g .0 .1 .0) (sym (g .1) ∙ c .before .before .before .before .judge .ensures) in
     let r = ended _ _ d (unescaping-fault ds s (length d) (omega arith) (sym (c .before .before .before .before .before .before .is-null .ensures) ∙ c .before .before .before .before .before .if2 .left) (g .0 .0) (g .0 .1 .0) y) in
     (c .refused3 .ensures ∙ r .0, r .1)
 
@@ -84,9 +84,9 @@ returns-5 c =
     let s = now (a .text) in
     let d = now (a .buffer) in
     let g = c .before .before .before .before .before .before .found2 .given in
-    let y = judged-text (scan ds 0 0 s) (g .0 .0) (sym (g .1) ∙ c .before .before .before .before .before .before .before .before .judge .ensures) in
+    let y = judged-text (scan plainText ds 0 0 s) (g .0 .0) (sym (g .1) ∙ c .before .before .before .before .before .before .before .before .judge .ensures) in
     let z = y .1 in
-    let r = ended _ _ d (unescaping-fits ds s (length d) (omega arith) (sym (c .before .before .before .before .before .before .before .before .before .before .is-null .ensures) ∙ c .before .before .before .before .before .before .before .before .before .if2 .left) (textOf (scan ds 0 0 s)) (y .0) (omega arith)) in
+    let r = ended _ _ d (unescaping-fits ds s (length d) (omega arith) (sym (c .before .before .before .before .before .before .before .before .before .before .is-null .ensures) ∙ c .before .before .before .before .before .before .before .before .before .if2 .left) (textOf (scan plainText ds 0 0 s)) (y .0) (omega arith)) in
     (ap made (sym z) ∙ r .0, c .before .before .write-text .ensures ∙ r .1)
 
 pub unescape-spec : {M : Type 1} → statement M

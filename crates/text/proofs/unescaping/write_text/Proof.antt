@@ -4,7 +4,7 @@ use lib.ListN.{length-append, length-drop, length, getD, take, drop}
 use lib.Seq.{length-take-le}
 use Prim.Native.Nat.{ℕ, _≤_, _<_, _+_, _-_}
 use mathlib.Core.Path.{_≡_, sym, ap, subst⁻¹, _∙_}
-use mathlib.Core.List.{List, _++_}
+use mathlib.Core.List.{List, _++_, map-id}
 use native.Mathlib.Omega.{arith}
 use borrow.Author.Needs.{needs}
 use denote.Ref.{now}
@@ -12,7 +12,7 @@ use mathlib.Core.Bool.{true}
 use Rattle.alphabet.proofs.ListLaws.{rest-of}
 use Rattle.alphabet.specs.Lists.{first, find}
 use Rattle.escaping.specs.Escape.{escapeOf}
-use Rattle.text.specs.Unescape.{known, meaning, emit, step, scan}
+use Rattle.text.specs.Unescape.{known, meaning, plainText, emit, step, scan}
 use Rattle.plain.specs.Plain.{special}
 use Rattle.text.specs.Judging.{isText, textOf}
 use Rattle.alphabet.proofs.FillingLaws.{Filling, fill-start, fill-more, fill-room, fill-length, fill-end, put-fits}
@@ -23,7 +23,7 @@ use Rattle.text.proofs.unescaping.write_text.Statement.{statement}
 use Rattle.text.proofs.unescaping.write_text.Tie as tie
 
 abbrev Inv-loop : tie.InvT-loop
-Inv-loop delimiters text buffer₀ mark place₀ i₀ buffer place i = (i ≤ length text) × (isText (scan (delimiters .bytes) i 0 (drop i text)) ≡ true) × Filling (textOf (scan (delimiters .bytes) 0 0 text)) buffer₀ (textOf (scan (delimiters .bytes) i 0 (drop i text))) buffer place
+Inv-loop delimiters text buffer₀ mark place₀ i₀ buffer place i = (i ≤ length text) × (isText (scan plainText (delimiters .bytes) i 0 (drop i text)) ≡ true) × Filling (textOf (scan plainText (delimiters .bytes) 0 0 text)) buffer₀ (textOf (scan plainText (delimiters .bytes) i 0 (drop i text))) buffer place
 
 abbrev μ-loop : tie.MeasureT-loop
 μ-loop delimiters text buffer₀ mark place₀ i₀ buffer place i = length text - i
@@ -39,7 +39,7 @@ abbrev R : tie.At-loop Inv-loop μ-loop → List ℕ
 R l = take (length (S l) - (l .loop .i + 1)) (drop (l .loop .i + 1) (S l))
 
 abbrev Opens : tie.At-loop Inv-loop μ-loop → ℕ → List ℕ → Type 0
-Opens l n r = (n < length r) × (known (take n r) ≡ true) × (step (Ds l) (getD (S l) (l .loop .i) 0) (drop (l .loop .i + 1) (S l)) ≡ emit (meaning (Ds l) (take n r)) (n + 1))
+Opens l n r = (n < length r) × (known (take n r) ≡ true) × (step plainText (Ds l) (getD (S l) (l .loop .i) 0) (drop (l .loop .i + 1) (S l)) ≡ emit (meaning (Ds l) (take n r)) (n + 1))
 
 kept : (l : tie.At-loop Inv-loop μ-loop) → length (l .loop .buffer) ≡ length (now (l .before .before .before .before .args .buffer))
 kept l = fill-length (l .loop .inv .2) (l .before .before .before .before .pre .1)
@@ -56,21 +56,21 @@ opened k =
     let q = rest-of s (i + 1) in
     let x = k .before .before .if1 .taken in
     let m : n ≡ find e r = k .find .ensures ∙ ap (find e) q in
-    let o = text-opens (Ds l) s i (k .before .before .before .before .loop-test .taken) (l .loop .inv .1) x in
+    let o = text-opens plainText (Ds l) s i (k .before .before .before .before .loop-test .taken) (l .loop .inv .1) x in
     let h : n < length r = subst⁻¹ (λ (z : ℕ). z < length r) m (o .0) in
     let w : known (take n r) ≡ true = subst⁻¹ (λ (z : ℕ). known (take z r) ≡ true) m (o .1) in
-    subst⁻¹ (Opens l n) q (h, w, step-known (Ds l) (getD s i 0) r n x (sym m) h w)
+    subst⁻¹ (Opens l n) q (h, w, step-known plainText (Ds l) (getD s i 0) r n x (sym m) h w)
 
 -- the text behind it
 behind : (k : tie.After-find Inv-loop μ-loop) →
     let l = k .before .before .before .before .before in
     let n = k .find .result in
     let i′ = l .loop .i + 1 + n + 1 in
-    (isText (scan (Ds l) i′ 0 (drop i′ (S l))) ≡ true) × (textOf (scan (Ds l) (l .loop .i) 0 (drop (l .loop .i) (S l))) ≡ meaning (Ds l) (take n (R l)) ++ textOf (scan (Ds l) i′ 0 (drop i′ (S l))))
+    (isText (scan plainText (Ds l) i′ 0 (drop i′ (S l))) ≡ true) × (textOf (scan plainText (Ds l) (l .loop .i) 0 (drop (l .loop .i) (S l))) ≡ meaning (Ds l) (take n (R l)) ++ textOf (scan plainText (Ds l) i′ 0 (drop i′ (S l))))
 behind k =
     let l = k .before .before .before .before .before in
     let n = k .find .result in
-    text-past (Ds l) (S l) (l .loop .i) (k .before .before .before .before .loop-test .taken) (l .loop .inv .1) (l .loop .i + 1 + n + 1) (n + 1) (meaning (Ds l) (take n (R l))) (opened k .2) (omega arith)
+    text-past plainText (Ds l) (S l) (l .loop .i) (k .before .before .before .before .loop-test .taken) (l .loop .inv .1) (l .loop .i + 1 + n + 1) (n + 1) (meaning (Ds l) (take n (R l))) (opened k .2) (omega arith)
 
 -- the end of the sequence is within the text
 short : (k : tie.After-find Inv-loop μ-loop) → k .before .before .before .before .before .loop .i + 1 + k .find .result + 1 ≤ length (S (k .before .before .before .before .before))
@@ -84,8 +84,8 @@ short k =
 -- a run of plain bytes, where it ends, and the text behind it
 abbrev Runs : tie.At-loop Inv-loop μ-loop → ℕ → Type 0
 Runs l n =
-    (0 < n) × (l .loop .i + n ≤ length (S l)) × (isText (scan (Ds l) (l .loop .i + n) 0 (drop (l .loop .i + n) (S l))) ≡ true)
-    × (textOf (scan (Ds l) (l .loop .i) 0 (drop (l .loop .i) (S l))) ≡ take n (drop (l .loop .i) (S l)) ++ textOf (scan (Ds l) (l .loop .i + n) 0 (drop (l .loop .i + n) (S l))))
+    (0 < n) × (l .loop .i + n ≤ length (S l)) × (isText (scan plainText (Ds l) (l .loop .i + n) 0 (drop (l .loop .i + n) (S l))) ≡ true)
+    × (textOf (scan plainText (Ds l) (l .loop .i) 0 (drop (l .loop .i) (S l))) ≡ take n (drop (l .loop .i) (S l)) ++ textOf (scan plainText (Ds l) (l .loop .i + n) 0 (drop (l .loop .i + n) (S l))))
 
 plain : (k : tie.After-plain-run Inv-loop μ-loop) → Runs (k .before .before .before .before .before) (k .plain-run .result)
 plain k =
@@ -96,10 +96,11 @@ plain k =
     let g = l .loop .inv .1 in
     let five : length (Ds l) ≡ 5 = search needs in
     let e : n ≡ first (special (Ds l)) (drop i (S l)) = k .plain-run .ensures ∙ ap (first (special (Ds l))) (rest-of (S l) i) in
-    let b = run-begins (Ds l) (S l) i h g (k .before .before .if1 .left) in
+    let b = run-begins plainText (Ds l) (S l) i h g (k .before .before .if1 .left) in
     let r = run-from (special (Ds l)) (S l) i n (omega arith) (k .plain-run .ensures) in
-    let t = text-run (Ds l) (S l) i n (r .0) five g in
-    (omega arith, r .1, t .0, t .1)
+    let t = text-run plainText (Ds l) (S l) i n (r .0) five g in
+    let u = textOf (scan plainText (Ds l) (i + n) 0 (drop (i + n) (S l))) in
+    (omega arith, r .1, t .0, t .1 ∙ ap (λ (w : List ℕ). w ++ u) (map-id (take n (drop i (S l)))))
 
 loop-holds : tie.Need-loop-holds Inv-loop μ-loop
 loop-holds c = (omega arith, c .before .before .before .pre .0, fill-start _ _)
@@ -113,7 +114,7 @@ put-meaning-requires c κs =
     let l = k .before .before .before .before .before in
     let o = opened k in
     let t = ap length (behind k .1) in
-    let n = length-append (meaning (Ds l) (take (k .find .result) (R l))) (textOf (scan (Ds l) (l .loop .i + 1 + k .find .result + 1) 0 (drop (l .loop .i + 1 + k .find .result + 1) (S l)))) in
+    let n = length-append (meaning (Ds l) (take (k .find .result) (R l))) (textOf (scan plainText (Ds l) (l .loop .i + 1 + k .find .result + 1) 0 (drop (l .loop .i + 1 + k .find .result + 1) (S l)))) in
     let r = fill-room (l .loop .inv .2) in
     let q = kept l in
     (o .1, omega (arith, l .before .before .before .before .pre .1))
@@ -158,7 +159,7 @@ loop-again-2 c =
     let m = plain k in
     let h = m .1 in
     let e : i + n - i ≡ n = omega arith in
-    let u = textOf (scan (Ds l) (i + n) 0 (drop (i + n) s)) in
+    let u = textOf (scan plainText (Ds l) (i + n) 0 (drop (i + n) s)) in
     let z = ap length (m .3) ∙ length-append (take n (drop i s)) u in
     let d = length-drop i s in
     let y = length-take-le n (drop i s) (omega arith) in
@@ -175,7 +176,7 @@ returns : tie.Need-returns Inv-loop μ-loop
 unfolding textOf
 returns c =
     let l = c .before in
-    fill-end (l .loop .inv .2) (ap textOf (scan-end (Ds l) (S l) (l .loop .i) (omega arith)))
+    fill-end (l .loop .inv .2) (ap textOf (scan-end plainText (Ds l) (S l) (l .loop .i) (omega arith)))
 
 pub write-text-spec : {M : Type 1} → statement M
 write-text-spec =
