@@ -1,0 +1,13 @@
+pub mod SheetLaws
+pub mod OutputLaws
+pub mod PageLaws
+pub mod RunLaws
+pub mod SettleLaws
+pub mod LineLaws
+pub mod AppendLaws
+pub mod EndLaws
+pub mod GrowLaws
+pub mod ActLaws
+pub mod OrderLaws
+pub mod LayLaws
+pub mod FormatLaws

@@ -1,0 +1,140 @@
+-- What was written: bytes behind bytes, counted where they go into the room. Assumes nothing.
+use mathlib.Core.Path.{_≡_, refl, sym, ap, subst, _∙_}
+use mathlib.Core.List.{List, [], _++_, append-assoc, append-nil}
+use mathlib.Core.Bool.{Bool, true, false, cond}
+use Prim.Native.Nat.{ℕ, _+_, _-_, _≤_, _<_}
+use native.Mathlib.Omega.{arith}
+use lib.Dec.{ltb}
+use lib.ListN.{length, take, drop, length-append}
+use lib.Seq.{length-take-le}
+use borrow.Author.Tests.{ltb-true, ltb-false}
+use Rattle.alphabet.proofs.BoolLaws.{false-true}
+use Rattle.alphabet.specs.Filling.{over, pasted, putAt}
+use Rattle.alphabet.proofs.FillingLaws.{fill-more, fill-end, fill-from, fill-length, put-fits, put-none}
+use Rattle.formatting.specs.declared.page.Page.{Page}
+use Rattle.formatting.specs.Pages.{outWith, newLine, spentOf, Output, Wrote}
+
+-- ---- into a buffer
+
+pub pasted-length : (d xs : List ℕ) (at : ℕ) → at + length xs ≤ length d → length (pasted d at xs) ≡ length d
+pasted-length d xs at h =
+    let n = length-append (take at d) xs in
+    let m = length-take-le at d (omega arith) in
+    fill-length (fill-more xs [] (pasted d at xs) (at + length xs) (fill-from xs d at (omega arith)) (sym (append-nil xs)) refl refl) (omega arith)
+
+over-more : (d₀ out xs d : List ℕ) (at : ℕ) → at ≡ length out → d ≡ over out d₀ → pasted d at xs ≡ over (out ++ xs) d₀
+over-more d₀ out xs d at e f =
+    fill-end
+    (fill-more {W = out ++ xs} {d₀ = d₀} {rest₀ = xs} {d = d} {o = at} xs [] (pasted d at xs) (at + length xs)
+    (record { front = out; whole = refl; size = sym e; holds = f ∙ ap (λ (n : ℕ). out ++ drop n d₀) (sym e) }) (sym (append-nil xs)) refl refl) refl
+
+-- ---- bytes behind bytes
+
+spent-short : (n room : ℕ) (c : Page) → ltb (room - c .place) n ≡ true → spentOf n room c ≡ outWith (c .place) true c
+unfolding spentOf
+spent-short n room c e = rw e
+
+spent-fits : (n room : ℕ) (c : Page) → ltb (room - c .place) n ≡ false → spentOf n room c ≡ outWith (c .place + n) (c .short) c
+unfolding spentOf
+spent-fits n room c e = rw e
+
+either : (t : Bool) (x y : List ℕ) → cond t x x ≡ x
+either true x y = refl
+either false x y = refl
+
+module _ (xs d : List ℕ) (c : Page) (h : c .place ≤ length d) where
+  short-wrote : (d′ : List ℕ) → ltb (length d - c .place) (length xs) ≡ true → d′ ≡ cond (c .writes) (putAt d (c .place) xs) d → Wrote xs c d (outWith (c .place) true c) d′
+  short-wrote d′ e f =
+      let l = ltb-true (length d - c .place) (length xs) e in
+      let same : d′ ≡ d = f ∙ ap (λ (v : List ℕ). cond (c .writes) v d) (put-none d xs (c .place) (omega arith) .1) ∙ either (c .writes) d d in
+      let z = ap length same in
+      record {
+        within = omega arith;
+        size = z;
+        still = λ (w : c .writes ≡ false). same;
+        output = λ (d₀ out : List ℕ) (n : length d ≡ length d₀) (o : Output d₀ out (c .writes) (c .place) (c .short) d).
+            let a = length-append out xs in
+            record {
+              done = λ (q : true ≡ false). absurd (false-true (sym q));
+              holds = λ (q : true ≡ false). absurd (false-true (sym q));
+              beyond = λ (q : true ≡ true). by d₀ out n o (c .short) refl;
+            };
+      }
+    where
+      by : (d₀ out : List ℕ) → length d ≡ length d₀ → Output d₀ out (c .writes) (c .place) (c .short) d → (t : Bool) → c .short ≡ t → length d₀ < length (out ++ xs)
+      by d₀ out n o true q = let a = length-append out xs in let b = o .beyond q in omega arith
+      by d₀ out n o false q =
+          let a = length-append out xs in
+          let b = o .done q in
+          let l = ltb-true (length d - c .place) (length xs) e in
+          omega arith
+
+  fits-wrote : (d′ : List ℕ) → ltb (length d - c .place) (length xs) ≡ false → d′ ≡ cond (c .writes) (putAt d (c .place) xs) d → Wrote xs c d (outWith (c .place + length xs) (c .short) c) d′
+  fits-wrote d′ e f =
+      let l = ltb-false (length d - c .place) (length xs) e in
+      let z = size in
+      record {
+        within = omega arith;
+        size = z;
+        still = λ (w : c .writes ≡ false). f ∙ ap (λ (t : Bool). cond t (putAt d (c .place) xs) d) w;
+        output = λ (d₀ out : List ℕ) (n : length d ≡ length d₀) (o : Output d₀ out (c .writes) (c .place) (c .short) d).
+            let a = length-append out xs in
+            record {
+              done = λ (q : c .short ≡ false). let b = o .done q in omega arith;
+              holds = λ (q : c .short ≡ false) (w : c .writes ≡ true). f ∙ ap (λ (t : Bool). cond t (putAt d (c .place) xs) d) w ∙ fitted ∙ over-more d₀ out xs d (c .place) (o .done q) (o .holds q w);
+              beyond = λ (q : c .short ≡ true). let b = o .beyond q in omega arith;
+            };
+      }
+    where
+      fitted : putAt d (c .place) xs ≡ pasted d (c .place) xs
+      fitted = let l = ltb-false (length d - c .place) (length xs) e in put-fits d xs (c .place) (omega arith) .1
+
+      sized : (t : Bool) → length (cond t (putAt d (c .place) xs) d) ≡ length d
+      sized true = let l = ltb-false (length d - c .place) (length xs) e in ap length fitted ∙ pasted-length d xs (c .place) (omega arith)
+      sized false = refl
+
+      size : length d′ ≡ length d
+      size = ap length f ∙ sized (c .writes)
+
+  pub wrote : (c′ : Page) (d′ : List ℕ) → c′ ≡ spentOf (length xs) (length d) c → d′ ≡ cond (c .writes) (putAt d (c .place) xs) d → Wrote xs c d c′ d′
+  wrote c′ d′ e f = by (ltb (length d - c .place) (length xs)) refl
+    where
+      by : (t : Bool) → ltb (length d - c .place) (length xs) ≡ t → Wrote xs c d c′ d′
+      by true q = subst (λ (k : Page). Wrote xs c d k d′) (sym (e ∙ spent-short (length xs) (length d) c q)) (short-wrote d′ q f)
+      by false q = subst (λ (k : Page). Wrote xs c d k d′) (sym (e ∙ spent-fits (length xs) (length d) c q)) (fits-wrote d′ q f)
+
+  -- nothing but the count changes
+  pub spent-layout : (c′ : Page) (n : ℕ) → c′ ≡ spentOf n (length d) c → c′ ≡ outWith (c′ .place) (c′ .short) c
+  spent-layout c′ n e = by (ltb (length d - c .place) n) refl
+    where
+      by : (t : Bool) → ltb (length d - c .place) n ≡ t → c′ ≡ outWith (c′ .place) (c′ .short) c
+      by true q = let z = e ∙ spent-short n (length d) c q in z ∙ ap (λ (k : Page). outWith (k .place) (k .short) c) (sym z)
+      by false q = let z = e ∙ spent-fits n (length d) c q in z ∙ ap (λ (k : Page). outWith (k .place) (k .short) c) (sym z)
+
+-- one writing behind another
+pub wrote-then : (xs ys : List ℕ) (c c′ c″ : Page) (d d′ d″ : List ℕ) → c′ .writes ≡ c .writes → Wrote xs c d c′ d′ → Wrote ys c′ d′ c″ d″ → Wrote (xs ++ ys) c d c″ d″
+wrote-then xs ys c c′ c″ d d′ d″ w f g =
+    record {
+      within = g .within;
+      size = g .size ∙ f .size;
+      still = λ (q : c .writes ≡ false). g .still (w ∙ q) ∙ f .still q;
+      output = λ (d₀ out : List ℕ) (n : length d ≡ length d₀) (o : Output d₀ out (c .writes) (c .place) (c .short) d).
+          subst (λ (v : List ℕ). Output d₀ v (c .writes) (c″ .place) (c″ .short) d″) (append-assoc out xs ys)
+          (subst (λ (v : Bool). Output d₀ ((out ++ xs) ++ ys) v (c″ .place) (c″ .short) d″) w
+          (g .output d₀ (out ++ xs) (f .size ∙ n) (subst (λ (v : Bool). Output d₀ (out ++ xs) v (c′ .place) (c′ .short) d′) (sym w) (f .output d₀ out n o))));
+    }
+
+-- two writings change nothing but the count
+pub layout-then : (c c′ c″ : Page) → c′ ≡ outWith (c′ .place) (c′ .short) c → c″ ≡ outWith (c″ .place) (c″ .short) c′ → c″ ≡ outWith (c″ .place) (c″ .short) c
+layout-then c c′ c″ e f = f ∙ ap (outWith (c″ .place) (c″ .short)) e
+
+pub layout-writes : (c c′ : Page) → c′ ≡ outWith (c′ .place) (c′ .short) c → c′ .writes ≡ c .writes
+layout-writes c c′ e = ap (λ (k : Page). k .writes) e
+
+-- the start of a line writes nothing
+pub wrote-new : (xs : List ℕ) (c k c′ : Page) (d d′ : List ℕ) → Wrote xs c d k d′ → c′ ≡ newLine k → Wrote xs c d c′ d′
+wrote-new xs c k c′ d d′ f e =
+    subst (λ (q : Page). Wrote xs c d q d′) (sym e) (record { within = f .within; size = f .size; still = f .still; output = f .output })
+
+pub layout-new : (c k c′ : Page) → k ≡ outWith (k .place) (k .short) c → c′ ≡ newLine k → c′ ≡ newLine (outWith (c′ .place) (c′ .short) c)
+layout-new c k c′ f e = e ∙ ap newLine f ∙ ap (λ (q : Page). newLine (outWith (q .place) (q .short) c)) (sym e)
