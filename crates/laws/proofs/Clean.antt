@@ -120,7 +120,7 @@ module _ (ds : List ℕ) (five : length ds ≡ 5) (fine : firstWrongDelimiter ds
   both-ways t d e small h k =
       let w = escape ds t in
       let front : written t d ≡ w =
-      ap (λ (o : Outcome). take (answer o .length) (filled o d)) (escaping-fits t (length d) h) ∙ take-append-seam w (drop (length w) d) in
+      ap (λ (o : Outcome ℕ). take (answer o .length) (filled o d)) (escaping-fits t (length d) h) ∙ take-append-seam w (drop (length w) d) in
       let back : unescaping ds (written t d) (length e) ≡ text t =
       ap (λ (s : List ℕ). unescaping ds s (length e)) front ∙ round-trip ds five fine t (length e) small ∙ fits t (length e) k in
-      (ap answer back, ap (λ (o : Outcome). filled o e) back)
+      (ap answer back, ap (λ (o : Outcome ℕ). filled o e) back)

@@ -41,6 +41,7 @@ use Rattle.value.proofs.AskedLaws.{number-present, number-other, time-present, 
 use Rattle.escaping.specs.Outcomes.{Outcome, text, fault}
 use Rattle.escaping.specs.Outcomes.{escaping, answer, filled}
 use Rattle.text.specs.Unescape.{unescaping}
+use Rattle.formatting.specs.Formatting.{formatting}
 use Rattle.structure.specs.Listed.{In, here, there}
 use Rattle.structure.specs.SegmentNames.{segmentNames}
 use Rattle.structure.specs.Judged.{accepted, refused, Structured, no-structure, by, Answers, unread, read}
@@ -52,9 +53,9 @@ use Rattle.verdict.specs.Verdicts.VerdictsBy.{refused as by-structure, judged a
 use Rattle.acknowledgement.specs.Acknowledgement.{badId, acknowledgeable, refusing, roomy, answerTo, Acknowledges}
 use Rattle.acknowledgement.specs.Acknowledgement.Acknowledges.{not-written, written}
 use Rattle.laws.proofs.FaultNumbers.{fields-number}
-use Rattle.laws.specs.Entries.{ofReading, ofFinding, ofNm, ofForm, ofEscaping, ofUnescaping, ofStructure, ofVerdict, ofAcknowledging}
+use Rattle.laws.specs.Entries.{ofReading, ofFinding, ofNm, ofForm, ofEscaping, ofUnescaping, ofFormatting, ofStructure, ofVerdict, ofAcknowledging}
 use Rattle.laws.proofs.Among.{among, from, in-range, Given, given-or, given-if}
-use Rattle.laws.proofs.TextNumbers.{escaping-numbers, unescaping-numbers}
+use Rattle.laws.proofs.TextNumbers.{escaping-numbers, unescaping-numbers, formatting-numbers}
 
 -- ---- reading
 
@@ -139,6 +140,9 @@ escape-numbers = escaping-numbers
 pub unescape-numbers : (ds s : List ℕ) (room : ℕ) → In (numberOf (answer (unescaping ds s room) .kind)) ofUnescaping
 unescape-numbers = unescaping-numbers
 
+pub format-numbers : (ds s : List ℕ) (room : ℕ) → In (numberOf (answer (formatting ds s room) .kind)) ofFormatting
+format-numbers = formatting-numbers
+
 -- ---- the judges
 
 judged-numbers : {m : List ℕ} {j : FaultRecord} → Structured m j → In (numberOf (j .kind)) ofStructure
@@ -198,7 +202,7 @@ acknowledge-numbers m time id lent (written e found v) = at (leb (length w) (len
 
 -- ---- "After a refusal every buffer lent holds the bytes it held before."
 
-outcome-leaves : (o : Outcome) (lent : List ℕ) → (answer o .kind ≡ None → ⊥) → filled o lent ≡ lent
+outcome-leaves : (o : Outcome ℕ) (lent : List ℕ) → (answer o .kind ≡ None → ⊥) → filled o lent ≡ lent
 unfolding answer filled
 outcome-leaves (text t) lent some = absurd (some refl)
 outcome-leaves (fault k p) lent some = refl
@@ -208,3 +212,6 @@ escape-leaves ds t lent = outcome-leaves (escaping ds t (length lent)) lent
 
 pub unescape-leaves : (ds s lent : List ℕ) → (answer (unescaping ds s (length lent)) .kind ≡ None → ⊥) → filled (unescaping ds s (length lent)) lent ≡ lent
 unescape-leaves ds s lent = outcome-leaves (unescaping ds s (length lent)) lent
+
+pub format-leaves : (ds s lent : List ℕ) → (answer (formatting ds s (length lent)) .kind ≡ None → ⊥) → filled (formatting ds s (length lent)) lent ≡ lent
+format-leaves ds s lent = outcome-leaves (formatting ds s (length lent)) lent

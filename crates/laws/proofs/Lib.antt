@@ -44,3 +44,10 @@ pub mod FrameStates
 pub mod FrameGrammar
 pub mod FrameNumbers
 pub mod FrameSamples
+pub mod RuledLines
+pub mod RuledInk
+pub mod RuledSame
+pub mod RuledWords
+pub mod FormattedItems
+pub mod FormattedOutcomes
+pub mod FormattedGrammar

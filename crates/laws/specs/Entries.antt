@@ -27,6 +27,10 @@ ofEscaping = 0 ∷ 3 ∷ 14 ∷ []
 abbrev pub ofUnescaping : List ℕ
 ofUnescaping = 0 ∷ 3 ∷ 15 ∷ 4 ∷ 11 ∷ 12 ∷ 13 ∷ 14 ∷ []
 
+-- document 02, W5, by docs/FORMATTED.md: "3, 15, then the leftmost of 4, 11, 12, 13, then 42 (place 0), then 14"
+abbrev pub ofFormatting : List ℕ
+ofFormatting = 0 ∷ 3 ∷ 15 ∷ 4 ∷ 11 ∷ 12 ∷ 13 ∷ 42 ∷ 14 ∷ []
+
 -- "Judges answer a reading fault first, then 20, 21, 22, then fields."
 abbrev pub ofStructure : List ℕ
 ofStructure = 20 ∷ 21 ∷ 22 ∷ ofReading

@@ -6,3 +6,5 @@ pub mod Types
 pub mod Framed
 pub mod Rejected
 pub mod Told
+pub mod Ruled
+pub mod Formats

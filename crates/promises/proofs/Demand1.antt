@@ -21,13 +21,14 @@ use Rattle.frames.specs.Gathered.{gathered, lastAt}
 use Rattle.escaping.specs.Outcomes.{Outcome, text, fault}
 use Rattle.escaping.specs.Outcomes.{escaping, answer, filled}
 use Rattle.text.specs.Unescape.{unescaping}
+use Rattle.formatting.specs.Formatting.{formatting}
 use Rattle.structure.specs.Listed.{In}
 use Rattle.structure.specs.Judged.{Answers}
 use Rattle.fault.specs.declared.FaultRecord.{FaultRecord}
 use Rattle.verdict.specs.Verdicts.{Verdicts}
 use Rattle.acknowledgement.specs.Acknowledgement.{Acknowledges}
 use Rattle.acknowledgement.proofs.AnswerLaws.{refusal-leaves}
-use Rattle.laws.specs.Entries.{ofReading, ofFinding, ofNm, ofForm, ofEscaping, ofUnescaping, ofStructure, ofVerdict, ofAcknowledging, ofFraming}
+use Rattle.laws.specs.Entries.{ofReading, ofFinding, ofNm, ofForm, ofEscaping, ofUnescaping, ofFormatting, ofStructure, ofVerdict, ofAcknowledging, ofFraming}
 use Rattle.laws.proofs.EntryNumbers as Entries
 use Rattle.laws.proofs.FrameNumbers as Frames
 use Rattle.laws.proofs.FramePlaces.{call-holds, call-size}
@@ -72,6 +73,9 @@ escape-numbers = Entries.escape-numbers
 pub unescape-numbers : (ds s : List ℕ) (room : ℕ) → In (numberOf (answer (unescaping ds s room) .kind)) ofUnescaping
 unescape-numbers = Entries.unescape-numbers
 
+pub format-numbers : (ds s : List ℕ) (room : ℕ) → In (numberOf (answer (formatting ds s room) .kind)) ofFormatting
+format-numbers = Entries.format-numbers
+
 pub feed-numbers : (s : FrameState) (piece lent : List ℕ) → In (numberOf (fed s piece lent .said .answer .kind)) ofFraming
 feed-numbers = Frames.feed-numbers
 
@@ -83,11 +87,14 @@ escape-leaves = Entries.escape-leaves
 pub unescape-leaves : (ds s lent : List ℕ) → (answer (unescaping ds s (length lent)) .kind ≡ None → ⊥) → filled (unescaping ds s (length lent)) lent ≡ lent
 unescape-leaves = Entries.unescape-leaves
 
+pub format-leaves : (ds s lent : List ℕ) → (answer (formatting ds s (length lent)) .kind ≡ None → ⊥) → filled (formatting ds s (length lent)) lent ≡ lent
+format-leaves = Entries.format-leaves
+
 -- "A refusal gives number and place, length 0"; the place is 0 here
 pub acknowledge-leaves : (m time id lent : List ℕ) {r : Answer} {x : List ℕ} → Acknowledges m time id lent r x → (r .kind ≡ None → ⊥) → (x ≡ lent) × (r .place ≡ 0) × (r .length ≡ 0)
 acknowledge-leaves m time id lent a = refusal-leaves m time id lent a
 
-pub refused-length : (o : Outcome) → (answer o .kind ≡ None → ⊥) → answer o .length ≡ 0
+pub refused-length : (o : Outcome ℕ) → (answer o .kind ≡ None → ⊥) → answer o .length ≡ 0
 unfolding answer
 refused-length (text t) some = absurd (some refl)
 refused-length (fault kind place) some = refl

@@ -13,6 +13,7 @@ use Rattle.alphabet.specs.declared.answers.Refusal.the-variants.{None, NoRoom, 
 use Rattle.reading.specs.Reading.{reading}
 use Rattle.escaping.specs.Outcomes.{escaping, answer, filled}
 use Rattle.text.specs.Unescape.{unescaping}
+use Rattle.formatting.specs.Formatting.{formatting}
 use Rattle.structure.specs.Shapes.{Shape, Yields, names}
 use Rattle.structure.specs.Listed.{In}
 use Rattle.structure.specs.SegmentNames.{segmentNames, kept}
@@ -41,7 +42,7 @@ use Rattle.laws.proofs.FrameNumbers.{feed-framed, frame-in-buffer}
 use Rattle.promises.specs.Acknowledgements.{Carries}
 use Rattle.promises.specs.ForC.{NamesOneByOne}
 use Rattle.promises.specs.Structures.{Exactly, accepted, refused, RefusedExactly}
-use Rattle.promises.proofs.Demand1.{escape-leaves, unescape-leaves, acknowledge-leaves, feed-leaves}
+use Rattle.promises.proofs.Demand1.{escape-leaves, unescape-leaves, format-leaves, acknowledge-leaves, feed-leaves}
 use Rattle.promises.proofs.Demand2.{acknowledgement-carries}
 use Rattle.promises.proofs.Demand3.{structure-exactly, accepts-exactly}
 
@@ -52,6 +53,9 @@ c-escape-leaves ds t lent some = escape-leaves ds t lent (λ e. some (ap numberO
 
 pub c-unescape-leaves : (ds s lent : List ℕ) → (seen (answer (unescaping ds s (length lent))) .number ≡ 0 → ⊥) → filled (unescaping ds s (length lent)) lent ≡ lent
 c-unescape-leaves ds s lent some = unescape-leaves ds s lent (λ e. some (ap numberOf e))
+
+pub c-format-leaves : (ds s lent : List ℕ) → (seen (answer (formatting ds s (length lent))) .number ≡ 0 → ⊥) → filled (formatting ds s (length lent)) lent ≡ lent
+c-format-leaves ds s lent some = format-leaves ds s lent (λ e. some (ap numberOf e))
 
 module _ (m time id lent : List ℕ) {r : CAnswer} {left : List ℕ} (a : AcknowledgeSeen m time id lent r left) where
   pub c-acknowledge-leaves : (r .number ≡ 0 → ⊥) → left ≡ lent

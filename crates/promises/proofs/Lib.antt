@@ -9,3 +9,4 @@ pub mod ForC
 pub mod Texts
 pub mod Refusals
 pub mod Frames
+pub mod FormattedLines

@@ -1,5 +1,6 @@
--- No second answer meets any public contract. A contract `r ≡ f inputs` leaves one by its form; `escape` and `unescape` fix the buffer in the same way;
--- those of the structure judge, the verdict and the acknowledgement are relations. Assumes nothing.
+-- No second answer meets any public contract. A contract `r ≡ f inputs` leaves one by its form; `escape`, `unescape` and
+-- `format` fix the buffer in the same way; those of the structure judge, the verdict and the acknowledgement are
+-- relations. Assumes nothing.
 use mathlib.Core.Path.{_≡_, sym, _∙_}
 use mathlib.Core.List.{List}
 use Prim.Native.Nat.{ℕ}

@@ -20,7 +20,7 @@ use Rattle.grammars.proofs.EscapeRows as Rows
 use Rattle.grammars.proofs.Writing as Writing
 
 -- "Unescaping: 3, then 15, then the leftmost of 4, 11, 12, 13, then 14.": each outcome exactly where the grammar has it
-pub unescapes-exactly : (ds : List ℕ) → length ds ≡ 5 → (s : List ℕ) (room : ℕ) (o : Outcome) → Unescapes ds s room o ↔ (unescaping ds s room ≡ o)
+pub unescapes-exactly : (ds : List ℕ) → length ds ≡ 5 → (s : List ℕ) (room : ℕ) (o : Outcome ℕ) → Unescapes ds s room o ↔ (unescaping ds s room ≡ o)
 unescapes-exactly ds five s room o = (unescapes-only ds five s room o, λ e. subst (Unescapes ds s room) e (unescapes ds five s room))
 
 module _ (field component repetition escape subcomponent : ℕ) where
