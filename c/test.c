@@ -1,5 +1,6 @@
 /* Calls every function of the library from C with questions of crates/ask, and compares what comes back with their answers, so that the header,
  * the library and the program cannot drift apart. Lines that are no questions (answered `?`) are passed over: they are the program's own.
+ * Formatted text is also laid out by a table that stands here, in letters that can be read.
  * Prints how often each function was called; ends with 1 at the first difference, and where a function was never called.
  *
  *     c/test                              which calls it with files: QUESTIONS ANSWERS [QUESTIONS ANSWERS]..
@@ -190,7 +191,7 @@ typedef struct {
 static function functions[] = {
     {"read", 2, 0}, {"find", 7, 0}, {"nm", 7, 0},       {"si", 7, 0},        {"dt", 7, 0},      {"tm", 7, 0},
     {"ts", 7, 0},   {"escape", 4, 0}, {"unescape", 4, 0}, {"structure", 2, 0}, {"verdict", 2, 0}, {"ack", 5, 0},
-    {"frame", 6, 0}, {"frames", ANY_NUMBER, 0},
+    {"frame", 6, 0}, {"frames", ANY_NUMBER, 0}, {"format", 4, 0},
 };
 
 static void look_up(text verb, const uint8_t *m, size_t n, const text *words)
@@ -228,6 +229,8 @@ static void write_text(text verb, const uint8_t *m, size_t n, const text *words)
         say_written(turrethog_acknowledge(m, n, d, second, bytes[2], hex_of(words[3], bytes[2]), buffer, room), room);
     else if (is(verb, "escape"))
         say_written(turrethog_escape(d[0], d[1], d[2], d[3], d[4], m, n, buffer, room), room);
+    else if (is(verb, "format"))
+        say_written(turrethog_format(d[0], d[1], d[2], d[3], d[4], m, n, buffer, room), room);
     else
         say_written(turrethog_unescape(d[0], d[1], d[2], d[3], d[4], m, n, buffer, room), room);
 }
@@ -368,11 +371,64 @@ static bool agree(const char *of_questions, const char *of_answers)
     return compared != 0 && place == asked && other == answered && asked < MOST && answered < MOST;
 }
 
+/* ---- formatted text, by hand: what the page on it says, with the bytes as a C program writes them */
+
+typedef struct {
+    const char *sent;
+    const char *lines; /* NULL where it is refused */
+    uint32_t number;
+    size_t place;
+    size_t room;
+} layout;
+
+static const layout layouts[] = {
+    {"test\\.br\\", "test\n", 0, 0, 5},
+    {"Comment:\\.br\\\\.br\\", "Comment:\n\n", 0, 0, 90},
+    {"a\\.sp\\b", "a\n b", 0, 0, 90},
+    {"abc\\.sp2\\d", "abc\n\n   d", 0, 0, 90},
+    {"\\.in+4\\a\\.br\\b\\.in-4\\\\.br\\c", "    a\n    b\nc", 0, 0, 90},
+    {"\\.in+4\\\\.ti-4\\ 1. x\\.br\\y", " 1. x\n    y", 0, 0, 90},
+    {"a\\.sk 3\\b\\.sk 0\\c", "a   bc", 0, 0, 90},
+    {"Na  139  ", "Na  139", 0, 0, 7},
+    {"\\H\\HI\\N\\GH", "HIGH", 0, 0, 4},
+    {"10\\S\\9/l \\T\\ so on", "10^9/l & so on", 0, 0, 90},
+    {"", "", 0, 0, 0},
+    {"\"\"", NULL, TURRETHOG_NULL_TEXT, 0, 90},
+    {"a|b", NULL, TURRETHOG_SEPARATOR, 1, 90},
+    {"a\\.xx\\", NULL, TURRETHOG_UNKNOWN_ESCAPE, 1, 90},
+    {"ab\\.br", NULL, TURRETHOG_UNCLOSED_ESCAPE, 2, 90},
+    {"\\.in-1\\", NULL, TURRETHOG_LAYOUT, 0, 90},
+    {"\\.sk201\\a|", NULL, TURRETHOG_SEPARATOR, 9, 90},
+    {"a\\.sp\\b", NULL, TURRETHOG_NO_ROOM, 0, 3},
+};
+
+/* Whether a text is laid out so, in a buffer that else stays as it was. */
+static bool lays_out(const layout *l)
+{
+    size_t length = l->lines == NULL ? 0 : strlen(l->lines);
+    memset(buffer, 0xa5, sizeof buffer);
+    turrethog_answer a = turrethog_format('|', '^', '~', '\\', '&', (const uint8_t *)l->sent, strlen(l->sent), buffer, l->room);
+    return a.number == l->number && a.place == l->place && a.length == length && memcmp(buffer, l->lines == NULL ? "" : l->lines, length) == 0
+           && memcmp(buffer + length, unwritten, sizeof buffer - length) == 0;
+}
+
+static bool all_laid_out(void)
+{
+    for (size_t i = 0; i < sizeof layouts / sizeof *layouts; i++)
+        if (!lays_out(&layouts[i])) {
+            printf("C differs on the layout of: %s\n", layouts[i].sent);
+            return false;
+        }
+    return true;
+}
+
 int main(int count, char **names)
 {
     if (count < 3 || count % 2 == 0)
         return 2;
     memset(unwritten, 0xa5, sizeof unwritten);
+    if (!all_laid_out())
+        return 1;
     for (int i = 1; i < count; i += 2)
         if (!agree(names[i], names[i + 1]))
             return 1;

@@ -1,8 +1,8 @@
-/* Turrethog: takes the frames of HL7 v2.4 messages off the line, reads, judges and acknowledges the messages, and escapes and unescapes their
- * text.
+/* Turrethog: takes the frames of HL7 v2.4 messages off the line, reads, judges and acknowledges the messages, escapes and unescapes their text,
+ * and lays out formatted text in lines.
  *
  * Any bytes may be handed in. Every function ends, answers or refuses by a number of the table below, keeps no state, and may be called from
- * any thread. Nothing is written but the buffer that is lent to the four functions that write, and after a refusal that buffer holds the
+ * any thread. Nothing is written but the buffer that is lent to the five functions that write, and after a refusal that buffer holds the
  * bytes that it held before; but for 40 and 41 of turrethog_feed, after which each place of it holds the byte last gathered there, or what it
  * held at first.
  *
@@ -38,7 +38,7 @@ enum {
     TURRETHOG_ACKNOWLEDGEMENT_TOO_LONG = 10, /* longer than the buffer, or than 32,768 bytes */
     /* text: the place is a byte's offset in the text */
     TURRETHOG_SEPARATOR = 11,                /* a delimiter that stands as itself */
-    TURRETHOG_UNKNOWN_ESCAPE = 12,           /* an escape that is not in the table */
+    TURRETHOG_UNKNOWN_ESCAPE = 12,           /* an escape that is not in the table, nor in formatted text a command */
     TURRETHOG_UNCLOSED_ESCAPE = 13,          /* an escape that never ends */
     TURRETHOG_NO_ROOM = 14,                  /* the result is longer than the buffer; place 0. In framing: see there */
     TURRETHOG_TEXT_TOO_LONG = 14,            /* the same, by its older name */
@@ -62,7 +62,9 @@ enum {
     TURRETHOG_VALUE_TOO_LONG = 37,           /* over 20 bytes, or well formed and over 18 digits */
     /* framing: no place is given. 14 is there a state that no run with that buffer's length could have reached */
     TURRETHOG_BROKEN_FRAME = 40,             /* a frame has 0B in it, or behind its 1C another byte than 0D */
-    TURRETHOG_FRAME_TOO_LONG = 41            /* a frame has over 32,768 bytes, or more than the buffer */
+    TURRETHOG_FRAME_TOO_LONG = 41,           /* a frame has over 32,768 bytes, or more than the buffer */
+    /* formatted text: place 0 */
+    TURRETHOG_LAYOUT = 42                    /* no lines can be made: a number or a margin out of its range, or what does not go into a line */
 };
 
 /* The four states of an element. An empty box is not a zero, and null is neither. */
@@ -222,6 +224,17 @@ turrethog_answer turrethog_escape(uint8_t field, uint8_t component, uint8_t repe
 /* What a written text says: 0, 3, 15, 4, 11, 12, 13, 14. The result is never longer than the text. */
 turrethog_answer turrethog_unescape(uint8_t field, uint8_t component, uint8_t repetition, uint8_t escape, uint8_t subcomponent,
                                     const uint8_t *text, size_t length, uint8_t *buffer, size_t room);
+
+/* The lines of a formatted text (FT), as a clinician reads them: 0, 3, 15, 4, 11, 12, 13, 42, 14. It unescapes, and obeys the commands
+ * \.br\ \.sp\ \.sk\ \.in\ \.ti\ \.fi\ \.nf\ \.ce\ by blanks and LF: docs/FORMATTED.md says how. \H\ and \N\ (highlight) leave no trace.
+ * Lines are ended by LF and by nothing else, and none is added behind the last. No line is longer than 200 bytes or ends in a blank: filled
+ * text is wrapped between words.
+ *
+ * 42, with place 0, is a number out of its range (0 to 200; -200 to 200 for .in and .ti), a margin below 0 or over 200, a word that does
+ * not go into a line, or an unfilled line of over 200 bytes. It is looked for only where there is no other fault but 14. The result may be
+ * longer than the text: up to 200 LF for the eight bytes of \.sp200\, and a margin's blanks for each line. */
+turrethog_answer turrethog_format(uint8_t field, uint8_t component, uint8_t repetition, uint8_t escape, uint8_t subcomponent,
+                                  const uint8_t *text, size_t length, uint8_t *buffer, size_t room);
 
 /* ---- Judging */
 

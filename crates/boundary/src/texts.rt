@@ -1,4 +1,5 @@
-// What writes into a lent buffer: text escaped and unescaped, and the acknowledgement. A refusal writes nothing.
+// What writes into a lent buffer: text escaped, unescaped and laid out in lines, and the acknowledgement. A refusal
+// writes nothing.
 use crate::answers::CAnswer;
 use crate::answers::shown;
 use alphabet::Delimiters;
@@ -7,6 +8,7 @@ ghost use mathlib.Core.List.{[], _∷_};
 ghost use lib.ListN.{length};
 ghost use Rattle.escaping.specs.Outcomes.{escaping, answer, filled};
 ghost use Rattle.text.specs.Unescape.{unescaping};
+ghost use Rattle.formatting.specs.Formatting.{formatting};
 ghost use Rattle.boundary.specs.Seen.{seen, AcknowledgeSeen};
 
 // Escapes a text, under the five delimiters in the message's order.
@@ -55,6 +57,30 @@ pub extern "C" fn turrethog_unescape(
         bytes: [field, component, repetition, escape, subcomponent],
     };
     shown(text::unescape(delimiters, text, buffer))
+}
+
+// Lays out the lines of a formatted text (FT), under the five delimiters in the message's order.
+#[no_mangle]
+pub extern "C" fn turrethog_format(
+    field: u8,
+    component: u8,
+    repetition: u8,
+    escape: u8,
+    subcomponent: u8,
+    text: &[u8],
+    buffer: &mut [u8],
+) -> CAnswer
+    ensures { λ r. ⌜ r ≡ seen
+        (answer (formatting (field ∷ component ∷ repetition ∷ escape ∷ subcomponent ∷ []) (now (text .entry))
+        (length (now (buffer .entry))))) ⌝ }
+    ensures { λ _. ⌜ now (buffer .exit)
+        ≡ filled (formatting (field ∷ component ∷ repetition ∷ escape ∷ subcomponent ∷ []) (now (text .entry))
+        (length (now (buffer .entry)))) (now (buffer .entry)) ⌝ }
+{
+    let delimiters = Delimiters {
+        bytes: [field, component, repetition, escape, subcomponent],
+    };
+    shown(formatting::format(delimiters, text, buffer))
 }
 
 // Acknowledges a message, with the caller's time and ID.

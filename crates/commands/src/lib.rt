@@ -1,14 +1,16 @@
-// The four commands on the message that a file holds, `check`, `show`, `get` and `ack`, and the one on the frames of a
-// file, `frames`. What they find is printed to the output that they are handed. Why there is nothing to find is said on
-// standard error, as `check` says it where there is no message; and so are the letters of an acknowledgement, and why.
+// The five commands on the message that a file holds, `check`, `show`, `get`, `lines` and `ack`, and the one on the
+// frames of a file, `frames`. What they find is printed to the output that they are handed. Why there is nothing to
+// find is said on standard error, as `check` says it where there is no message; and so are the letters of an
+// acknowledgement, and why.
 ghost use Prim.Native.Nat.{_≤_};
 use alphabet::Refusal;
 use arguments::Asked;
 use arguments::CHECK;
 use arguments::FRAMES;
-use arguments::GET;
+use arguments::LINES;
 use arguments::SHOW;
 use element::Address;
+use element::Element;
 use terminal::Output;
 
 // Every message was accepted, or what was asked for was found or written.
@@ -71,19 +73,52 @@ fn show(out: Output, name: &[u8], message: &[u8], room: &mut [u8]) -> Outcome {
     }
 }
 
-// Says what stands at an address: its state, and its bytes. An address that no message has is refused by its number.
-fn get_element(out: Output, name: &[u8], message: &[u8], address: Address) -> Outcome {
+// Says what an element says: for `lines` its text, laid out in lines that are made in `room`, and for `get` its state
+// and its bytes. A text that has no lines is refused, and shown as it was sent.
+fn say_element(
+    command: u8,
+    out: Output,
+    name: &[u8],
+    message: &[u8],
+    address: Address,
+    element: Element,
+    room: &mut [u8],
+) -> Outcome {
+    if command != LINES {
+        return Outcome {
+            out: showing::show_element(out, message, address, element),
+            status: DONE,
+        };
+    }
+    let laid = showing::show_lines(out, message, address, element, room);
+    let shown = laid.out;
+    let kind = laid.kind;
+    if alphabet::number(kind) == 0 {
+        return Outcome {
+            out: shown,
+            status: DONE,
+        };
+    }
+    let said = wording::print_refused_text(terminal::standard_error(), name, kind, laid.place);
+    refused(shown, said)
+}
+
+// Says what stands at an address. One that no message has is refused by its number.
+fn get_element(
+    command: u8,
+    out: Output,
+    name: &[u8],
+    message: &[u8],
+    address: Address,
+    room: &mut [u8],
+) -> Outcome {
     let found = element::find(message, address);
     let answer = found.answer;
     let kind = answer.kind;
     let number = alphabet::number(kind);
     if number == 0 {
         let place = found.element;
-        let shown = showing::show_element(out, message, address, place);
-        return Outcome {
-            out: shown,
-            status: DONE,
-        };
+        return say_element(command, out, name, message, address, place, room);
     }
     if number < 9 {
         return refuse_message(out, name, message);
@@ -91,11 +126,19 @@ fn get_element(out: Output, name: &[u8], message: &[u8], address: Address) -> Ou
     refuse(out, name, kind)
 }
 
-// `get`: the element of a message at the address that the words from `first` on say. A buffer is lent for each word.
-fn get(out: Output, name: &[u8], message: &[u8], first: usize, word: &mut [u8]) -> Outcome {
-    let asked = arguments::address_at(first, word, message);
+// `get` and `lines`: the element of a message at the address that the words from `first` on say. `room` is lent for
+// each word, and then for the lines.
+fn get(
+    command: u8,
+    out: Output,
+    name: &[u8],
+    message: &[u8],
+    first: usize,
+    room: &mut [u8],
+) -> Outcome {
+    let asked = arguments::address_at(first, room, message);
     match asked {
-        Asked::At(address) => get_element(out, name, message, address),
+        Asked::At(address) => get_element(command, out, name, message, address, room),
         Asked::Refused => {
             terminal::print_line(
                 terminal::standard_error(),
@@ -144,8 +187,8 @@ fn answer(
     if command == SHOW {
         return show(out, name, message, room);
     }
-    if command == GET {
-        return get(out, name, message, first, room);
+    if arguments::takes_address(command) {
+        return get(command, out, name, message, first, room);
     }
     acknowledge(out, name, message, first, room)
 }

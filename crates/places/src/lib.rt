@@ -1,9 +1,11 @@
-// Where the parts of a message stand, and the address by which people name them. Places are looked for without a proof
-// that a message was read: whoever draws or shows has any bytes.
+// Where the parts of a message stand, and the address by which people name them; and the lines of a text. Places are
+// looked for without a proof that a message was read: whoever draws or shows has any bytes.
 mod addresses;
+mod lines;
 mod parts;
 
 pub use addresses::print_address;
+pub use lines::print_lines;
 pub use parts::Segment;
 pub use parts::count_segments;
 pub use parts::part_end;

@@ -1,6 +1,9 @@
 // `show`: every segment of a message and its parts, down to those that are split no further, each with its address, its
-// state and its text. The message is walked once: each level hands its parts on to the level below.
+// state and its text. The message is walked once: each level hands its parts on to the level below. A result of
+// formatted text is laid out in lines below its address. `lines` lays out one element.
 use alphabet::Delimiters;
+use alphabet::Part;
+use alphabet::Refusal;
 use element::Address;
 use element::Element;
 use element::State;
@@ -10,6 +13,13 @@ ghost use lib.ListN.{length};
 
 // The column in which the state of each part stands.
 const COLUMN: usize = 16;
+
+// What came of laying out an element: the output, and the refusal and its place where it has no lines.
+pub struct Laid {
+    pub out: Output,
+    pub kind: Refusal,
+    pub place: usize,
+}
 
 // The address of a field. Where its segment stands is told by the line above all of its parts.
 fn field_address(number: usize) -> Address {
@@ -68,6 +78,14 @@ fn holds(bytes: &[u8], separator: u8) -> bool {
     alphabet::find(bytes, separator) < bytes.len()
 }
 
+// Prints bytes as they were sent, and why they say no text.
+fn print_as_sent(out: Output, bytes: &[u8], kind: Refusal) -> Output {
+    let out = wording::print_behind(out, bytes);
+    let out = terminal::print(out, b"  (as sent: ");
+    let out = wording::print_words(out, kind);
+    terminal::print(out, b")")
+}
+
 // Prints the text that bytes say, or the bytes as they were sent and why they say none. `room` is lent for the text.
 fn print_text(out: Output, delimiters: Delimiters, bytes: &[u8], room: &mut [u8]) -> Output {
     let answer = text::unescape(delimiters, bytes, room);
@@ -75,10 +93,32 @@ fn print_text(out: Output, delimiters: Delimiters, bytes: &[u8], room: &mut [u8]
     if alphabet::number(kind) == 0 {
         return wording::print_behind(out, places::piece(room, 0, answer.length));
     }
-    let out = wording::print_behind(out, bytes);
-    let out = terminal::print(out, b"  (as sent: ");
-    let out = wording::print_words(out, kind);
-    terminal::print(out, b")")
+    print_as_sent(out, bytes, kind)
+}
+
+// Ends the line of an address, and prints the lines of the formatted text that bytes say below it; or the bytes as they
+// were sent, and why they have none. `room` is lent for the lines.
+fn print_lines_below(out: Output, delimiters: Delimiters, bytes: &[u8], room: &mut [u8]) -> Output {
+    let answer = formatting::format(delimiters, bytes, room);
+    let kind = answer.kind;
+    if alphabet::number(kind) != 0 {
+        return terminal::end_line(print_as_sent(out, bytes, kind));
+    }
+    let out = terminal::end_line(out);
+    places::print_lines(out, b"      ", places::piece(room, 0, answer.length))
+}
+
+// Whether a field of a segment has formatted text: OBX-5, the value, where OBX-2, its type, is FT.
+fn is_formatted(delimiters: Delimiters, segment: &[u8], field: usize) -> bool {
+    if (field != 5) | !alphabet::same(places::piece(segment, 0, 3), b"OBX") {
+        return false;
+    }
+    let separators = delimiters.bytes;
+    let value_type = alphabet::nth_part(segment, separators[0], 2);
+    let Part::At { start, end } = value_type else {
+        return false;
+    };
+    alphabet::same(places::piece(segment, start, end), b"FT")
 }
 
 // Prints the front of a part's line: its address and its state.
@@ -88,21 +128,7 @@ fn print_front(out: Output, segment: &[u8], address: Address, state: State) -> O
     wording::print_state(out, state)
 }
 
-// Prints what a part in some state says: its text where it is present, and else its bytes.
-fn print_part(
-    out: Output,
-    delimiters: Delimiters,
-    state: State,
-    bytes: &[u8],
-    room: &mut [u8],
-) -> Output {
-    let State::Present = state else {
-        return wording::print_behind(out, bytes);
-    };
-    print_text(out, delimiters, bytes, room)
-}
-
-// Shows a part that is split no further.
+// Shows a part that is split no further: its text where it is present, and else its bytes.
 fn show_leaf(
     out: Output,
     delimiters: Delimiters,
@@ -113,8 +139,13 @@ fn show_leaf(
 ) -> Output {
     let state = element::state_of(delimiters, bytes);
     let out = print_front(out, segment, address, state);
-    let out = print_part(out, delimiters, state, bytes, room);
-    terminal::end_line(out)
+    let State::Present = state else {
+        return terminal::end_line(wording::print_behind(out, bytes));
+    };
+    if is_formatted(delimiters, segment, address.field) {
+        return print_lines_below(out, delimiters, bytes, room);
+    }
+    terminal::end_line(print_text(out, delimiters, bytes, room))
 }
 
 // Shows a component by its subcomponents.
@@ -274,4 +305,38 @@ pub fn show_element(out: Output, message: &[u8], address: Address, element: Elem
     let out = wording::print_state(out, state);
     let out = wording::print_behind(out, element::bytes_at(message, element));
     terminal::end_line(out)
+}
+
+// Lays out one element of a message that was read: the lines of its formatted text, made in `room`, and nothing else.
+// One that is not present, or has no lines, is shown as it was sent.
+pub fn show_lines(
+    out: Output,
+    message: &[u8],
+    address: Address,
+    element: Element,
+    room: &mut [u8],
+) -> Laid {
+    let state = element.state;
+    let State::Present = state else {
+        return Laid {
+            out: show_element(out, message, address, element),
+            kind: Refusal::None,
+            place: 0,
+        };
+    };
+    let delimiters = reading::delimiters_of(message);
+    let answer = formatting::format(delimiters, element::bytes_at(message, element), room);
+    let kind = answer.kind;
+    if alphabet::number(kind) != 0 {
+        return Laid {
+            out: show_element(out, message, address, element),
+            kind: kind,
+            place: answer.place,
+        };
+    }
+    Laid {
+        out: places::print_lines(out, b"", places::piece(room, 0, answer.length)),
+        kind: kind,
+        place: 0,
+    }
 }

@@ -3,7 +3,8 @@ use Prim.Native.Nat.{ℕ}
 use mathlib.Core.List.{List}
 use Rattle.alphabet.specs.Bytes.{ascii}
 
--- `escape` and `unescape`
+-- `escape`, `unescape` and `format`
 pub data Verb : List ℕ → Type 0 where
   escape : Verb (ascii "escape")
   unescape : Verb (ascii "unescape")
+  format : Verb (ascii "format")

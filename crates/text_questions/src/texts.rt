@@ -18,6 +18,7 @@ use asking::words;
 pub enum Writing {
     Escape,
     Unescape,
+    Format,
 }
 
 // What a verb asks: that something is written, or nothing that is known here.
@@ -35,6 +36,9 @@ pub fn meaning_of(verb: &[u8]) -> Meaning
     }
     if alphabet::same(verb, b"unescape") {
         return Meaning::Asks(Writing::Unescape);
+    }
+    if alphabet::same(verb, b"format") {
+        return Meaning::Asks(Writing::Format);
     }
     Meaning::Unknown
 }
@@ -59,6 +63,11 @@ fn put_writing(
         ),
         Writing::Unescape => writings::put_written(
             text::unescape(delimiters, text, buffer),
+            buffer,
+            answer,
+        ),
+        Writing::Format => writings::put_written(
+            formatting::format(delimiters, text, buffer),
             buffer,
             answer,
         ),

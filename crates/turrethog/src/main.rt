@@ -1,6 +1,6 @@
 // `turrethog` is the command of the person on the bench: it tells whether a file holds a message that is accepted,
-// shows what it says, gets an element out of it, acknowledges it, and tells of each frame that was taken off a link.
-// This file holds it together: it reads the arguments, lends the buffers, and hands the files on.
+// shows what it says, gets an element out of it or its lines, acknowledges it, and tells of each frame that was taken
+// off a link. This file holds it together: it reads the arguments, lends the buffers, and hands the files on.
 mod status;
 
 use arguments::HELP;
@@ -14,6 +14,11 @@ ghost use Rattle.alphabet.specs.Limits.{messageLimit};
 
 // One byte more than a message may have: a file that fills it is over the limit.
 const ROOM: usize = 32_769;
+
+// Room for what is made of a message: the text of an element, its lines, an acknowledgement; and for a piece of a file
+// of frames. Lines may have more bytes than the text that they are made of, since a command of a few bytes asks for
+// many blanks or lines: eight times the longest message is more than any text needs that is written to be read.
+const LARGE_ROOM: usize = 262_144;
 
 // Does what a command asks of each file that the arguments from the one before `first` up to and without `until` name:
 // that is one where words stand behind it. Returns the worst status.
@@ -76,18 +81,22 @@ fn is_script(word: &mut [u8]) -> bool {
     alphabet::same(&word[..length], b"--status-on-3")
 }
 
-// Bytes for a message, or for the text of an element. By a call of its own it is no list of so many bytes in the
-// caller's proof.
+// Bytes for a message. By a call of its own it is no list of so many bytes in the caller's proof, nor is the next.
 fn room_for_message() -> [u8; ROOM]
     ensures { λ r. ⌜ messageLimit + 1 ≡ length r ⌝ }
 {
     [0; ROOM]
 }
 
+// Bytes for what is made of it.
+fn large_room() -> [u8; LARGE_ROOM] {
+    [0; LARGE_ROOM]
+}
+
 fn main() {
     let mut name = io::buffer();
     let mut message = room_for_message();
-    let mut room = room_for_message();
+    let mut room = large_room();
     if is_script(&mut name) {
         status::tell(run(2, &mut name, &mut message, &mut room));
     } else {

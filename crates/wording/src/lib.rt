@@ -8,6 +8,7 @@ mod usage;
 pub use names::print_could_stand;
 pub use refusals::print_numbered;
 pub use refusals::print_refused;
+pub use refusals::print_refused_text;
 pub use refusals::print_words;
 pub use states::print_behind;
 pub use states::print_state;

@@ -35,9 +35,13 @@ fn print_segments(out: Output, kind: Refusal) -> Output {
     }
 }
 
-// The words for 12, 13 and 19: what is refused to the one who asks for a text or for an element.
+// The words for 11, 12, 13 and 19: what is refused to the one who asks for a text or for an element.
 fn print_asking(out: Output, kind: Refusal) -> Output {
     match kind {
+        Refusal::Separator => terminal::print(
+            out,
+            b"a delimiter stands here as itself: this has parts, and is no text",
+        ),
         Refusal::UnknownEscape => terminal::print(out, b"an escape that is not known"),
         Refusal::UnclosedEscape => terminal::print(out, b"an escape that is never closed"),
         _ => terminal::print(out, b"there is no such segment, or no such address"),
@@ -120,6 +124,17 @@ fn print_framing(out: Output, kind: Refusal) -> Output {
     }
 }
 
+// The words for 14 and 42: why a text that can be read has no lines.
+fn print_layout(out: Output, kind: Refusal) -> Output {
+    match kind {
+        Refusal::NoRoom => terminal::print(out, b"this has more bytes than there is room for"),
+        _ => terminal::print(
+            out,
+            b"this cannot be laid out: a number or a margin is out of its range, or a line would be over 200 bytes",
+        ),
+    }
+}
+
 // The words for a refusal.
 pub fn print_words(out: Output, kind: Refusal) -> Output {
     let number = alphabet::number(kind);
@@ -131,6 +146,9 @@ pub fn print_words(out: Output, kind: Refusal) -> Output {
     }
     if (number < 11) | ((number == 16) | (number == 17)) {
         return print_acknowledging(out, kind);
+    }
+    if (number == 14) | (number == 42) {
+        return print_layout(out, kind);
     }
     if number < 20 {
         return print_asking(out, kind);
@@ -147,6 +165,22 @@ pub fn print_numbered(out: Output, word: &[u8], kind: Refusal) -> Output {
     let number = alphabet::number(kind) as usize;
     let out = terminal::print_counted(out, b" (", number, b"): ");
     print_words(out, kind)
+}
+
+// The place of a fault in an element's text. 14 and 42, of the text as a whole, have none.
+fn print_place(out: Output, kind: Refusal, place: usize) -> Output {
+    if 13 < alphabet::number(kind) {
+        return out;
+    }
+    terminal::print_counted(out, b" (byte ", place, b" of the element)")
+}
+
+// A line that says of a file that the text of an element is refused: the number, the words and the place.
+pub fn print_refused_text(out: Output, name: &[u8], kind: Refusal, place: usize) -> Output {
+    let out = terminal::print(out, name);
+    let out = print_numbered(out, b": refused", kind);
+    let out = print_place(out, kind, place);
+    terminal::end_line(out)
 }
 
 // A line that says of a file that it is refused: the number, and the words.

@@ -2,25 +2,11 @@
 // Each way to ask has a line that can be typed as it stands. The command's version stands here too.
 use terminal::Output;
 
-// LF, which ends each line of the texts below.
-const LINE_FEED: u8 = 10;
-
-// Prints the lines of a text.
-fn print_lines(out: Output, text: &[u8]) -> Output {
-    let mut printed = out;
-    let mut start = 0;
-    while start < text.len() {
-        let end = places::part_end(text, LINE_FEED, start);
-        printed = terminal::print_line(printed, &text[start..end]);
-        start = end + 1;
-    }
-    printed
-}
-
-// What is asked of messages.
-fn print_asking(out: Output) -> Output {
-    print_lines(
+// What is asked of a file by its name alone.
+fn print_asked_by_name(out: Output) -> Output {
+    places::print_lines(
         out,
+        b"",
         b"turrethog: what an HL7 v2.4 message says, and whether it is one
 
   ./turrethog check FILE..
@@ -34,14 +20,29 @@ fn print_asking(out: Output) -> Output {
       ./turrethog frames examples/link.mllp
 
   ./turrethog show FILE
-      Every segment and its parts: each with its address, its state and its text.
+      Every segment and its parts: each with its address, its state and its text. A result of formatted
+      text (OBX-5 where OBX-2 is FT) stands below its address, in its lines.
       ./turrethog show examples/blood-count.hl7
 
-  ./turrethog get FILE SEGMENT FIELD [REPETITION [COMPONENT [SUBCOMPONENT]]]
+",
+    )
+}
+
+// What is asked with words behind the file's name, and of the command itself.
+fn print_asked_by_words(out: Output) -> Output {
+    places::print_lines(
+        out,
+        b"",
+        b"  ./turrethog get FILE SEGMENT FIELD [REPETITION [COMPONENT [SUBCOMPONENT]]]
       One element: its state (absent, empty, null or present) and its bytes as they were sent.
       SEGMENT is a number, 0 for the first, or a name, which means the first of that name.
       The others count from 1, as in PID-5.1. A repetition or a component of 0 is the whole.
       ./turrethog get examples/blood-count.hl7 PID 5 1 1
+
+  ./turrethog lines FILE SEGMENT FIELD [REPETITION [COMPONENT [SUBCOMPONENT]]]
+      The lines of formatted text, as a clinician reads them: one element, with its commands obeyed. One that is
+      not present, or has no lines, stands as for get; why it has none is said on standard error.
+      ./turrethog lines examples/histology.hl7 OBX 5 1
 
   ./turrethog ack FILE TIME ID
       The acknowledgement, AA, AE or AR, of a message at a time, with an ID of its own. Its bytes are written raw.
@@ -58,7 +59,8 @@ fn print_asking(out: Output) -> Output {
 
 // The usage text. The LF at the end of a line is printed as any LF that stands in a message.
 pub fn print_usage(out: Output) -> Output {
-    let out = print_asking(out);
+    let out = print_asked_by_name(out);
+    let out = print_asked_by_words(out);
     let out = terminal::print_line(
         out,
         b"Bytes and segments count from 0. A byte that is not printable ASCII stands as hex in braces: LF is \n",

@@ -3,14 +3,14 @@ use borrow.Author.Needs.{needs}
 use native.Mathlib.Omega.{arith}
 use Prim.Native.Nat.{_≤_, _+_, _-_}
 use lib.ListN.{length}
-use Rattle.wording.proofs.usage.print_lines.Statement.{statement}
-use Rattle.wording.proofs.usage.print_lines.Tie as tie
+use Rattle.places.proofs.lines.print_lines.Statement.{statement}
+use Rattle.places.proofs.lines.print_lines.Tie as tie
 
 abbrev Inv-loop : tie.InvT-loop
-Inv-loop text printed₀ start₀ printed start = start ≤ length text + 1
+Inv-loop before text printed₀ start₀ printed start = start ≤ length text + 1
 
 abbrev μ-loop : tie.MeasureT-loop
-μ-loop text printed₀ start₀ printed start = length text + 1 - start
+μ-loop before text printed₀ start₀ printed start = length text + 1 - start
 
 pub print-lines-spec : {M : Type 1} → statement M
 print-lines-spec =
