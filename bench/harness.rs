@@ -120,6 +120,17 @@ mod library {
             buffer: *mut u8,
             room: usize,
         ) -> Answer;
+        pub fn turrethog_format(
+            field: u8,
+            component: u8,
+            repetition: u8,
+            escape: u8,
+            subcomponent: u8,
+            text: *const u8,
+            length: usize,
+            buffer: *mut u8,
+            room: usize,
+        ) -> Answer;
     }
 }
 
@@ -171,6 +182,12 @@ fn baseline_unescape(delimiters: &[u8; 5], text: &[u8], buffer: &mut [u8]) -> ba
 
 #[no_mangle]
 #[inline(never)]
+fn baseline_format(delimiters: &[u8; 5], text: &[u8], buffer: &mut [u8]) -> baseline::Answer {
+    baseline::format(delimiters, text, buffer)
+}
+
+#[no_mangle]
+#[inline(never)]
 fn baseline_feed(state: baseline::FrameState, piece: &[u8], buffer: &mut [u8]) -> baseline::Fed {
     baseline::feed(state, piece, buffer)
 }
@@ -208,6 +225,7 @@ enum Entry {
     Acknowledge,
     Escape,
     Unescape,
+    Format,
     /// A line of one frame, handed over in pieces of so many bytes at most.
     Feed(usize),
     /// The element at this address.
@@ -238,6 +256,7 @@ impl Job {
             Entry::Acknowledge => "acknowledge",
             Entry::Escape => "escape",
             Entry::Unescape => "unescape",
+            Entry::Format => "format",
             Entry::Feed(_) => "feed",
             Entry::Find(_) => "find",
         }
@@ -268,6 +287,18 @@ impl Job {
         match self.entry {
             Entry::Feed(_) => self.bytes.len() - 3,
             _ => self.bytes.len(),
+        }
+    }
+
+    /// The bytes that what a call takes is told by: those of the result too where a text is formatted,
+    /// since a short command may stand for many.
+    fn measure(&self) -> usize {
+        match self.entry {
+            Entry::Format => {
+                let mut buffer = vec![0; ROOM];
+                self.length() + baseline::format(&DELIMITERS, &self.bytes, &mut buffer).length
+            }
+            _ => self.length(),
         }
     }
 
@@ -306,6 +337,9 @@ impl Job {
                 Entry::Unescape => Told::Answer(library::turrethog_unescape(
                     field, component, repetition, escape, subcomponent, at, length, to, room,
                 )),
+                Entry::Format => Told::Answer(library::turrethog_format(
+                    field, component, repetition, escape, subcomponent, at, length, to, room,
+                )),
                 Entry::Feed(most) => Told::Fed(serve(bytes, most, buffer, feed_library, |_, _| ())),
                 Entry::Find(address) => Told::Element(library::turrethog_find(
                     at, length, address.segment, address.field, address.repetition,
@@ -339,6 +373,7 @@ impl Job {
             Entry::Acknowledge => told(baseline_acknowledge(bytes, TIME, ID, buffer)),
             Entry::Escape => told(baseline_escape(&DELIMITERS, bytes, buffer)),
             Entry::Unescape => told(baseline_unescape(&DELIMITERS, bytes, buffer)),
+            Entry::Format => told(baseline_format(&DELIMITERS, bytes, buffer)),
             Entry::Feed(most) => Told::Fed(serve(bytes, most, buffer, feed_baseline, |_, _| ())),
             Entry::Find(address) => {
                 let found = baseline_find(bytes, address);
@@ -418,6 +453,9 @@ fn jobs() -> Vec<Job> {
     let text = reports::text(32_768);
     jobs.push(Job { entry: Entry::Escape, size: "text", bytes: text });
     jobs.push(Job { entry: Entry::Unescape, size: "text", bytes: written_text(32_768) });
+    for (size, length) in [("small", 1_024), ("usual", 5_120), ("largest", 32_768)] {
+        jobs.push(Job { entry: Entry::Format, size, bytes: reports::formatted_text(length) });
+    }
     for (size, message) in &sizes {
         let bytes = framed(message);
         jobs.push(Job { entry: Entry::Feed(bytes.len()), size, bytes });
@@ -585,7 +623,7 @@ fn table(jobs: &[Job], counts: &HashMap<String, u64>) -> ExitCode {
             |side: &str| counts.get(&format!("{side} {} {}", job.name(), job.size)).copied();
         let instructions = match (count("library"), count("baseline")) {
             (Some(ours), Some(theirs)) => {
-                let each = ours as f64 / bytes as f64;
+                let each = ours as f64 / job.measure() as f64;
                 let ratio = ours as f64 / theirs as f64;
                 format!("{ours} | {each:.1} | {theirs} | {ratio:.2}")
             }
@@ -605,18 +643,19 @@ fn table(jobs: &[Job], counts: &HashMap<String, u64>) -> ExitCode {
         ("acknowledge", "small", "largest"),
         ("acknowledge", "small-refused", "largest-refused"),
         ("feed", "small", "largest"),
+        ("format", "small", "largest"),
     ];
     for (entry, small, largest) in pairs {
         let job_of = |size: &str| jobs.iter().find(|job| job.name() == entry && job.size == size);
         let each = |side: &str, size: &str| {
             let count = *counts.get(&format!("{side} {entry} {size}"))?;
-            Some(count as f64 / job_of(size)?.length() as f64)
+            Some(count as f64 / job_of(size)?.measure() as f64)
         };
         let growth = |side| Some(each(side, largest)? / each(side, small)?);
         if let (Some(ours), Some(theirs)) = (growth("library"), growth("baseline")) {
             let title = job_of(largest).map_or(entry, Job::title);
             println!(
-                "{title}: per byte, the largest report takes {ours:.2} times the instructions of the small one \
+                "{title}: per byte, the largest takes {ours:.2} times the instructions of the small one \
                  (baseline: {theirs:.2})"
             );
         }

@@ -4,6 +4,7 @@
 use crate::acknowledgement;
 use crate::element::{self, Address, State};
 use crate::fields;
+use crate::formatting;
 use crate::frames::{self, Event, Fed, FrameState, Stop};
 use crate::hex;
 use crate::numbers::{self, Numeric};
@@ -45,6 +46,7 @@ fn answer_question(line: &[u8]) -> Option<String> {
         b"ts" => answer_value(words, times::time_stamp, time_words),
         b"escape" => answer_text(words, text::escape),
         b"unescape" => answer_text(words, text::unescape),
+        b"format" => answer_text(words, formatting::format),
         b"structure" => answer_structure(words),
         b"verdict" => answer_verdict(words),
         b"ack" => answer_acknowledgement(words),
@@ -95,7 +97,7 @@ fn answer_value<Value: Default>(
     })
 }
 
-/// `escape` and `unescape` are asked by `TEXT DELIMITERS ROOM`; "DELIMITERS are five bytes: field,
+/// `escape`, `unescape` and `format` are asked by `TEXT DELIMITERS ROOM`; "DELIMITERS are five bytes: field,
 /// component, repetition, escape, subcomponent".
 fn answer_text(
     words: &[&[u8]],

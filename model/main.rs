@@ -15,6 +15,7 @@ mod chance;
 mod element;
 mod error_segment;
 mod fields;
+mod formatting;
 mod frames;
 mod hex;
 mod numbers;

@@ -8,6 +8,9 @@ mod ack_wide;
 mod error_places;
 mod filled;
 mod find_stored;
+mod format_fresh;
+mod format_stored;
+mod format_wide;
 mod frame_fresh;
 mod frame_stored;
 mod frame_wide;
@@ -71,6 +74,7 @@ pub fn stored() -> Vec<Bytes> {
         verdict_stored::stored(),
         ack_stored::stored(),
         frame_stored::stored(),
+        format_stored::stored(),
     ];
     // Two sets may hold the same question: once is enough.
     lines.extend(once_each(others.concat()));
@@ -87,6 +91,7 @@ pub fn wide() -> Vec<Bytes> {
         verdict_wide::wide(),
         ack_wide::wide(),
         frame_wide::wide(),
+        format_wide::wide(),
         limits(),
     ];
     once_each(sets.concat())
@@ -102,6 +107,7 @@ pub fn limits() -> Vec<Bytes> {
         verdict_wide::limits(),
         ack_wide::limits(),
         frame_wide::limits(),
+        format_wide::limits(),
     ];
     once_each(sets.concat())
 }
@@ -117,7 +123,7 @@ pub fn fresh(chance: &mut Chance) -> Bytes {
 
 fn fresh_question(chance: &mut Chance) -> Bytes {
     // An acknowledgement tells of every fault that the judges find, so it has most to be asked for.
-    let others = ["read", "structure", "verdict", "ack", "ack"];
+    let others = ["read", "structure", "verdict", "ack", "ack", "format"];
     let verbs = [&others, &LOOKUPS[..], &TEXTS[..], &FRAMES[..]].concat();
     match chance.pick(&verbs) {
         "read" => read_fresh::fresh(chance),
@@ -125,6 +131,7 @@ fn fresh_question(chance: &mut Chance) -> Bytes {
         "verdict" => verdict_fresh::fresh(chance),
         "ack" => ack_fresh::fresh(chance),
         verb @ ("escape" | "unescape") => text_fresh::fresh(chance, verb),
+        "format" => format_fresh::fresh(chance),
         "frame" => frame_fresh::one_call(chance),
         "frames" => frame_fresh::all_pieces(chance),
         verb => lookup_fresh::fresh(chance, verb),
@@ -156,6 +163,11 @@ fn field_question(verb: &str, field: &[u8]) -> Bytes {
 fn text_question(verb: &str, text: &[u8], delimiters: &[u8], room: usize) -> Bytes {
     let (text, delimiters) = (bytes_word(text), bytes_word(delimiters));
     format!("{verb} {text} {delimiters} {room}").into_bytes()
+}
+
+/// What the formatted text takes, or none where there is none.
+fn format_length(text: &[u8], delimiters: Delimiters) -> usize {
+    crate::formatting::format(text, delimiters, usize::MAX).unwrap_or_default().len()
 }
 
 fn structure_question(message: &[u8]) -> Bytes {

@@ -27,22 +27,29 @@ pub fn escape(text: &[u8], delimiters: Delimiters, room: usize) -> Result<Vec<u8
 /// (ruling 16).
 pub fn unescape(text: &[u8], delimiters: Delimiters, room: usize) -> Result<Vec<u8>, Refusal> {
     check_delimiters(delimiters)?;
-    if text == NULL {
-        return refuse(15, 0);
-    }
-    check_room(unescaped(text, delimiters)?, room)
+    check_not_null(text)?;
+    let meaning = |inside: &[u8]| meaning(inside, delimiters);
+    check_room(read_from_the_left(text, delimiters, |byte| byte, meaning)?, room)
 }
 
 /// 3: "first delimiter byte not permitted or equal to an earlier one".
-fn check_delimiters(delimiters: Delimiters) -> Result<(), Refusal> {
+pub fn check_delimiters(delimiters: Delimiters) -> Result<(), Refusal> {
     match first_bad_delimiter(&delimiters) {
         Some(place) => refuse(3, place),
         None => Ok(()),
     }
 }
 
+/// 15: null, which is no text.
+pub fn check_not_null(text: &[u8]) -> Result<(), Refusal> {
+    if text == NULL {
+        return refuse(15, 0);
+    }
+    Ok(())
+}
+
 /// 14: "result longer than the buffer".
-fn check_room(result: Vec<u8>, room: usize) -> Result<Vec<u8>, Refusal> {
+pub fn check_room(result: Vec<u8>, room: usize) -> Result<Vec<u8>, Refusal> {
     if result.len() > room {
         return refuse(14, 0);
     }
@@ -75,16 +82,22 @@ fn sequence(inside: &str, delimiters: Delimiters) -> Vec<u8> {
     [&[escape], inside.as_bytes(), &[escape]].concat()
 }
 
-/// "It works from the left, and a sequence is judged whole at its opening byte." So the first fault
-/// met is "the leftmost of 4, 11, 12, 13".
-fn unescaped(text: &[u8], delimiters: Delimiters) -> Result<Vec<u8>, Refusal> {
+/// What a text is made of, by the meaning of a plain byte and of what stands between two escape
+/// delimiters. "It works from the left, and a sequence is judged whole at its opening byte." So the
+/// first fault met is "the leftmost of 4, 11, 12, 13".
+pub fn read_from_the_left<Item>(
+    text: &[u8],
+    delimiters: Delimiters,
+    plain: impl Fn(u8) -> Item,
+    meaning: impl Fn(&[u8]) -> Option<Vec<Item>>,
+) -> Result<Vec<Item>, Refusal> {
     let escape = delimiters[ESCAPE];
     let mut result = Vec::new();
     let mut place = 0;
     while place < text.len() {
         if text[place] != escape {
             check_plain_byte(text[place], delimiters, place)?;
-            result.push(text[place]);
+            result.push(plain(text[place]));
             place += 1;
             continue;
         }
@@ -94,7 +107,7 @@ fn unescaped(text: &[u8], delimiters: Delimiters) -> Result<Vec<u8>, Refusal> {
         let Some(length) = behind.iter().position(|&byte| byte == escape) else {
             return refuse(13, place);
         };
-        let Some(meant) = meaning(&behind[..length], delimiters) else {
+        let Some(meant) = meaning(&behind[..length]) else {
             return refuse(12, place);
         };
         result.extend(meant);
@@ -116,7 +129,7 @@ fn check_plain_byte(byte: u8, delimiters: Delimiters, place: usize) -> Result<()
 
 /// The bytes that a sequence stands for, by what is between its escape delimiters: a letter, or `X`
 /// and "one or more pairs of hex digits of either case". "Others are refused."
-fn meaning(inside: &[u8], delimiters: Delimiters) -> Option<Vec<u8>> {
+pub fn meaning(inside: &[u8], delimiters: Delimiters) -> Option<Vec<u8>> {
     match inside {
         [b'X', digits @ ..] => hex::bytes_of_pairs(digits),
         [letter] => {

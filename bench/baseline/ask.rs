@@ -1,6 +1,6 @@
 //! Answers questions to the baseline in the form of the program `ask`, one line for each: those
-//! that read, find, judge, acknowledge, escape, unescape and take frames off a line. bench/check
-//! compares the answers with the model's.
+//! that read, find, judge, acknowledge, escape, unescape, format and take frames off a line.
+//! bench/check compares the answers with the model's.
 
 use baseline::{acknowledge, escape, feed, find, read, unescape, verdict};
 use baseline::{Address, Answer, FrameState, State, Stop};
@@ -45,6 +45,7 @@ fn answer(line: &[u8]) -> Option<String> {
         ["verdict", message] => verdict_words(&bytes(message)?),
         ["escape", text, delimiters, room] => text_words(text, delimiters, room, escape),
         ["unescape", text, delimiters, room] => text_words(text, delimiters, room, unescape),
+        ["format", text, delimiters, room] => text_words(text, delimiters, room, baseline::format),
         ["ack", message, time, id, room] => {
             let (message, time, id) = (bytes(message)?, bytes(time)?, bytes(id)?);
             let mut buffer = buffer_of(room)?;

@@ -2,6 +2,8 @@
 //! branch inside, which the compiler turns into vector instructions; short ones a word at a time.
 
 pub const CR: u8 = 0x0D;
+pub const LF: u8 = 0x0A;
+pub const BLANK: u8 = 0x20;
 pub const NULL: &[u8] = b"\"\"";
 
 /// The five delimiters in the message's order, by their places.

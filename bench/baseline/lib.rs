@@ -1,6 +1,7 @@
-//! The baseline: framing, reading, finding, judging, acknowledging, escaping and unescaping as one
-//! would write them in Rust for speed, with std alone and no unsafe code. It stands beside the
-//! proved library to be measured, and it answers as the model does: bench/check holds it to that.
+//! The baseline: framing, reading, finding, judging, acknowledging, escaping, unescaping and
+//! formatting as one would write them in Rust for speed, with std alone and no unsafe code. It stands
+//! beside the proved library to be measured, and it answers as the model does: bench/check holds it
+//! to that.
 
 #![forbid(unsafe_code)]
 
@@ -8,6 +9,7 @@ mod acknowledging;
 mod bytes;
 mod fields;
 mod finding;
+mod formatting;
 mod frames;
 mod reading;
 mod structure;
@@ -17,6 +19,7 @@ mod values;
 pub use acknowledging::acknowledge;
 pub use bytes::State;
 pub use finding::{find, Address, Element};
+pub use formatting::format;
 pub use frames::{feed, Fed, FrameState, Stop};
 pub use structure::Names;
 pub use text::{escape, unescape};

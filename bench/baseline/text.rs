@@ -5,7 +5,7 @@ use crate::bytes::{find, is_printable, wrong_delimiter, Delimiters, ESCAPE, NULL
 use crate::{Answer, Refusal};
 
 /// The letters of the delimiters, in their order.
-const LETTERS: &[u8; 5] = b"FSRET";
+pub const LETTERS: &[u8; 5] = b"FSRET";
 
 const BLOCK: usize = 32;
 
@@ -118,7 +118,7 @@ fn meant_length(text: &[u8], delimiters: &Delimiters) -> Result<usize, Refusal> 
     Ok(length + text.len() - place)
 }
 
-fn is_pairs(digits: &[u8]) -> bool {
+pub fn is_pairs(digits: &[u8]) -> bool {
     !digits.is_empty() && digits.len() % 2 == 0 && digits.iter().all(u8::is_ascii_hexdigit)
 }
 
@@ -154,7 +154,7 @@ fn put_meaning(text: &[u8], delimiters: &Delimiters, buffer: &mut [u8]) {
 }
 
 /// What a hex digit of either case says.
-fn digit(byte: u8) -> u8 {
+pub fn digit(byte: u8) -> u8 {
     if byte.is_ascii_digit() {
         byte - b'0'
     } else {

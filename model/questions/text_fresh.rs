@@ -43,7 +43,7 @@ fn mixture(chance: &mut Chance, delimiters: Delimiters) -> Bytes {
     (0..length).map(|_| telling_byte(chance, delimiters)).collect()
 }
 
-fn telling_byte(chance: &mut Chance, delimiters: Delimiters) -> u8 {
+pub fn telling_byte(chance: &mut Chance, delimiters: Delimiters) -> u8 {
     match chance.below(10) {
         0..=2 => delimiters[ESCAPE],
         3 => chance.pick(&delimiters),
@@ -104,7 +104,7 @@ fn piece(chance: &mut Chance, delimiters: Delimiters) -> Bytes {
     }
 }
 
-fn sequence(delimiters: Delimiters, inside: &[u8]) -> Bytes {
+pub fn sequence(delimiters: Delimiters, inside: &[u8]) -> Bytes {
     let escape = delimiters[ESCAPE];
     [&[escape], inside, &[escape]].concat()
 }
@@ -156,7 +156,7 @@ fn odd_sequence(chance: &mut Chance, delimiters: Delimiters) -> Bytes {
 }
 
 /// One byte changed, removed or put in, or the end cut off.
-fn damage(chance: &mut Chance, text: &mut Bytes, delimiters: Delimiters) {
+pub fn damage(chance: &mut Chance, text: &mut Bytes, delimiters: Delimiters) {
     let place = chance.below(text.len() + 1);
     let byte = telling_byte(chance, delimiters);
     match chance.below(4) {
@@ -168,7 +168,7 @@ fn damage(chance: &mut Chance, text: &mut Bytes, delimiters: Delimiters) {
 }
 
 /// One or two of them not permitted, or equal to another.
-fn damage_delimiters(chance: &mut Chance, delimiters: &mut Delimiters) {
+pub fn damage_delimiters(chance: &mut Chance, delimiters: &mut Delimiters) {
     for _ in 0..chance.between(1, 2) {
         let place = chance.below(delimiters.len());
         delimiters[place] = match chance.below(4) {
