@@ -226,7 +226,8 @@ turrethog_answer turrethog_unescape(uint8_t field, uint8_t component, uint8_t re
                                     const uint8_t *text, size_t length, uint8_t *buffer, size_t room);
 
 /* The lines of a formatted text (FT), as a clinician reads them: 0, 3, 15, 4, 11, 12, 13, 42, 14. It unescapes, and obeys the commands
- * \.br\ \.sp\ \.sk\ \.in\ \.ti\ \.fi\ \.nf\ \.ce\ by blanks and LF: docs/FORMATTED.md says how. \H\ and \N\ (highlight) leave no trace.
+ * \.br\ \.sp n\ \.sk n\ \.in n\ \.ti n\ \.fi\ \.nf\ \.ce\ by blanks and LF, n being a number, which only .sp may be without:
+ * docs/FORMATTED.md says how. \H\ and \N\ (highlight) leave no trace.
  * Lines are ended by LF and by nothing else, and none is added behind the last. No line is longer than 200 bytes or ends in a blank: filled
  * text is wrapped between words.
  *

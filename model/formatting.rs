@@ -1,5 +1,5 @@
-//! Formatted text: the text of an FT element as plain lines, by FORMATTED.md. "It is unescaping with
-//! more sequences": 3, then 15, then the leftmost of 4, 11, 12, 13, then 42, then 14. The place of 42
+//! Formatted text: the text of an FT element as plain lines, by docs/FORMATTED.md. "It is unescaping
+//! with more sequences": 3, then 15, then the leftmost of 4, 11, 12, 13, then 42, then 14. The place of 42
 //! is 0.
 
 use crate::reading::{refuse, Refusal, CR};

@@ -1,10 +1,10 @@
-//! The stored questions of the verb `format`: every row of FORMATTED.md, the forms of each command and
-//! the forms next to them, numbers and lines about as long as may be, line ends of every kind, and each
+//! The stored questions of the verb `format`: every row of docs/FORMATTED.md, the forms of each command
+//! and the forms next to them, numbers and lines about as long as may be, line ends of every kind, and each
 //! two faults together. The wide set has more of each.
 
 use super::{changed, format_length, latin, text_question, Bytes, USUAL_DELIMITERS};
 
-/// HL7's own example, the impression of a radiologist's report (SOURCES.md, section 4).
+/// HL7's own example, the impression of a radiologist's report (docs/FORMATTED.md).
 pub const IMPRESSION: &str = r"\.in+4\\.ti-4\ 1. The cardio-mediastinal silhouette is now within normal limits.\.br\\.ti-4\ 2. Lung fields show minimal ground glass appearance.\.br\\.ti-4\ 3. A loop of colon visible in the left upper quadrant is distinctly abnormal with the appearance of mucosal effacement suggesting colitis.\.in-4\";
 
 pub fn stored() -> Vec<Bytes> {
