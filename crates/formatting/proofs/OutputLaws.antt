@@ -1,18 +1,19 @@
 -- What was written: bytes behind bytes, counted where they go into the room. Assumes nothing.
-use mathlib.Core.Path.{_≡_, refl, sym, ap, subst, _∙_}
+use mathlib.Core.Path.{_≡_, refl, sym, ap, ap₂, subst, _∙_}
 use mathlib.Core.List.{List, [], _++_, append-assoc, append-nil}
 use mathlib.Core.Bool.{Bool, true, false, cond}
 use Prim.Native.Nat.{ℕ, _+_, _-_, _≤_, _<_}
 use native.Mathlib.Omega.{arith}
-use lib.Dec.{ltb}
-use lib.ListN.{length, take, drop, length-append}
+use lib.Dec.{ltb, leb}
+use lib.ListN.{length, take, drop, replicate, length-append, length-replicate}
 use lib.Seq.{length-take-le}
-use borrow.Author.Tests.{ltb-true, ltb-false}
+use borrow.Author.Tests.{ltb-true, ltb-false, leb-true}
 use Rattle.alphabet.proofs.BoolLaws.{false-true}
-use Rattle.alphabet.specs.Filling.{over, pasted, putAt}
-use Rattle.alphabet.proofs.FillingLaws.{fill-more, fill-end, fill-from, fill-length, put-fits, put-none}
+use Rattle.alphabet.specs.Filling.{over, pasted, putAt, behind}
+use Rattle.alphabet.proofs.FillingLaws.{fill-more, fill-end, fill-from, fill-from-end, fill-length, put-fits, put-none}
 use Rattle.formatting.specs.declared.page.Page.{Page}
-use Rattle.formatting.specs.Pages.{outWith, newLine, spentOf, Output, Wrote}
+use Rattle.formatting.specs.Sheet.{blanks}
+use Rattle.formatting.specs.Pages.{outWith, newLine, spentOf, indentOf, shownOf, Output, Wrote}
 
 -- ---- into a buffer
 
@@ -27,6 +28,32 @@ over-more d₀ out xs d at e f =
     fill-end
     (fill-more {W = out ++ xs} {d₀ = d₀} {rest₀ = xs} {d = d} {o = at} xs [] (pasted d at xs) (at + length xs)
     (record { front = out; whole = refl; size = sym e; holds = f ∙ ap (λ (n : ℕ). out ++ drop n d₀) (sym e) }) (sym (append-nil xs)) refl refl) refl
+
+-- three writings one behind another, where there is room for all
+pub put-three : (d : List ℕ) (at : ℕ) (xs ys zs d₁ d₂ d₃ : List ℕ) (a b : ℕ) → at + length (xs ++ (ys ++ zs)) ≤ length d
+    → d₁ ≡ putAt d at xs → a ≡ at + length xs → d₂ ≡ putAt d₁ a ys → b ≡ behind (length d₁) a (length ys) → d₃ ≡ putAt d₂ b zs
+    → d₃ ≡ putAt d at (xs ++ (ys ++ zs))
+put-three d at xs ys zs d₁ d₂ d₃ a b h e₁ ea e₂ eb e₃ =
+    let n = length-append xs (ys ++ zs) in
+    let m = length-append ys zs in
+    let w = length-append (take at d) (xs ++ (ys ++ zs)) in
+    let k = length-take-le at d (omega arith) in
+    let f₁ = fill-more xs (ys ++ zs) d₁ a (fill-from (xs ++ (ys ++ zs)) d at (omega arith)) refl (e₁ ∙ put-fits d xs at (omega arith) .1) ea in
+    let l₁ = fill-length f₁ (omega arith) in
+    let p = put-fits d₁ ys a (omega arith) in
+    let f₂ = fill-more ys zs d₂ b f₁ refl (e₂ ∙ p .1) (eb ∙ p .0) in
+    let l₂ = fill-length f₂ (omega arith) in
+    let q = eb ∙ p .0 in
+    let f₃ = fill-more zs [] d₃ (b + length zs) f₂ (sym (append-nil zs)) (e₃ ∙ put-fits d₂ zs b (omega arith) .1) refl in
+    fill-from-end (xs ++ (ys ++ zs)) at f₃ (omega arith) refl .1 ∙ sym (put-fits d (xs ++ (ys ++ zs)) at h .1)
+
+pub line-length : (i n : ℕ) (l : List ℕ) → length (blanks i ++ (l ++ replicate n 10)) ≡ i + (length l + n)
+line-length i n l =
+    let a = length-append (blanks i) (l ++ replicate n 10) in
+    let b = length-append l (replicate n 10) in
+    let c = length-replicate {A = ℕ} i 32 in
+    let d = length-replicate {A = ℕ} n 10 in
+    omega arith
 
 -- ---- bytes behind bytes
 
@@ -111,25 +138,32 @@ module _ (xs d : List ℕ) (c : Page) (h : c .place ≤ length d) where
       by true q = let z = e ∙ spent-short n (length d) c q in z ∙ ap (λ (k : Page). outWith (k .place) (k .short) c) (sym z)
       by false q = let z = e ∙ spent-fits n (length d) c q in z ∙ ap (λ (k : Page). outWith (k .place) (k .short) c) (sym z)
 
--- one writing behind another
-pub wrote-then : (xs ys : List ℕ) (c c′ c″ : Page) (d d′ d″ : List ℕ) → c′ .writes ≡ c .writes → Wrote xs c d c′ d′ → Wrote ys c′ d′ c″ d″ → Wrote (xs ++ ys) c d c″ d″
-wrote-then xs ys c c′ c″ d d′ d″ w f g =
-    record {
-      within = g .within;
-      size = g .size ∙ f .size;
-      still = λ (q : c .writes ≡ false). g .still (w ∙ q) ∙ f .still q;
-      output = λ (d₀ out : List ℕ) (n : length d ≡ length d₀) (o : Output d₀ out (c .writes) (c .place) (c .short) d).
-          subst (λ (v : List ℕ). Output d₀ v (c .writes) (c″ .place) (c″ .short) d″) (append-assoc out xs ys)
-          (subst (λ (v : Bool). Output d₀ ((out ++ xs) ++ ys) v (c″ .place) (c″ .short) d″) w
-          (g .output d₀ (out ++ xs) (f .size ∙ n) (subst (λ (v : Bool). Output d₀ (out ++ xs) v (c′ .place) (c′ .short) d′) (sym w) (f .output d₀ out n o))));
-    }
+-- ---- a line, as it is shown
 
--- two writings change nothing but the count
-pub layout-then : (c c′ c″ : Page) → c′ ≡ outWith (c′ .place) (c′ .short) c → c″ ≡ outWith (c″ .place) (c″ .short) c′ → c″ ≡ outWith (c″ .place) (c″ .short) c
-layout-then c c′ c″ e f = f ∙ ap (outWith (c″ .place) (c″ .short)) e
+put-length : (d xs : List ℕ) (at : ℕ) → length (putAt d at xs) ≡ length d
+unfolding putAt
+put-length d xs at = by (leb (at + length xs) (length d)) refl
+  where
+    by : (t : Bool) → leb (at + length xs) (length d) ≡ t → length (cond t (pasted d at xs) d) ≡ length d
+    by true e = pasted-length d xs at (leb-true (at + length xs) (length d) e)
+    by false e = refl
 
-pub layout-writes : (c c′ : Page) → c′ ≡ outWith (c′ .place) (c′ .short) c → c′ .writes ≡ c .writes
-layout-writes c c′ e = ap (λ (k : Page). k .writes) e
+pub kept-length : (w : Bool) (d xs : List ℕ) (at : ℕ) → length (cond w (putAt d at xs) d) ≡ length d
+kept-length true d xs at = put-length d xs at
+kept-length false d xs at = refl
+
+-- the line and LFs behind it are written, and counted
+pub shown-wrote : (c c′ : Page) (t d d′ : List ℕ) (i n : ℕ) → c .place ≤ length d → length (take (c .line) t) ≡ c .line → i ≡ indentOf c
+    → d′ ≡ cond (c .writes) (putAt d (c .place) (blanks i ++ (take (c .line) t ++ replicate n 10))) d → c′ ≡ spentOf (i + c .line + n) (length d′) c
+    → (c′ ≡ outWith (c′ .place) (c′ .short) c) × Wrote (shownOf c t ++ replicate n 10) c d c′ d′
+shown-wrote c c′ t d d′ i n h b e f g =
+    let xs = shownOf c t ++ replicate n 10 in
+    let same : blanks i ++ (take (c .line) t ++ replicate n 10) ≡ xs = ap (λ (k : ℕ). blanks k ++ (take (c .line) t ++ replicate n 10)) e ∙ sym (append-assoc (blanks (indentOf c)) (take (c .line) t) (replicate n 10)) in
+    let l = line-length i n (take (c .line) t) in
+    let m = ap length same in
+    let z : i + c .line + n ≡ length xs = omega arith in
+    let counted : c′ ≡ spentOf (length xs) (length d) c = g ∙ ap₂ (λ (k r : ℕ). spentOf k r c) z (ap length f ∙ kept-length (c .writes) d _ (c .place)) in
+    (spent-layout xs d c h c′ (length xs) counted, wrote xs d c h c′ d′ counted (f ∙ ap (λ (v : List ℕ). cond (c .writes) (putAt d (c .place) v) d) same))
 
 -- the start of a line writes nothing
 pub wrote-new : (xs : List ℕ) (c k c′ : Page) (d d′ : List ℕ) → Wrote xs c d k d′ → c′ ≡ newLine k → Wrote xs c d c′ d′

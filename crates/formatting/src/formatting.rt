@@ -23,7 +23,7 @@ fn finish(page: Page, line: &[u8], buffer: &mut [u8]) -> Page
     ensures { λ r. ⌜ Finishes page (now (line .entry)) (now (buffer .entry)) r (now (buffer .exit)) ⌝ }
 {
     let closed = page.close_word();
-    show_line(closed, line, buffer)
+    show_line(closed, 0, line, buffer)
 }
 
 // What a page says at the end: 42, then 14, then the length of its lines.

@@ -50,7 +50,7 @@ fn moved_by(margin: usize, a: Amount) -> usize
 
 // The line is ended, and n - 1 empty lines with it; the next begins at the same column.
 fn go_down(page: Page, n: usize, line: &[u8], buffer: &mut [u8]) -> Page
-    requires { ⌜ (Sound page (now line) (now buffer)) × (page .word ≡ 0) ⌝ }
+    requires { ⌜ (Sound page (now line) (now buffer)) × (page .word ≡ 0) × (n ≤ 200) ⌝ }
     ensures { λ r. ⌜ Acts (λ s. laid (down n s)) page (now (line .entry)) (now (buffer .entry)) r (now (line .entry))
         (now (buffer .exit)) ⌝ }
 {

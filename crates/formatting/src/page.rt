@@ -10,20 +10,22 @@ ghost use Rattle.formatting.specs.Pages.{indentOf, positionOf, closed};
 // How many bytes a line has at the most.
 pub const WIDTH: usize = 200;
 
-// The state of the layout. What is owed and where a line begins are held at 201, which fits on no line.
+// The state of the layout. What is owed and where a line begins are held at 201, which fits on no line. The numbers stand
+// before what is true or false, so that the compiler has no gaps between them to copy.
 pub struct Page {
-    // whether the lines are written, or measured alone
-    pub writes: bool,
-    // how many bytes were written, and whether the room was too short for more
+    // how many bytes were written
     pub place: usize,
-    pub short: bool,
-    // whether something could not be laid
-    pub unfit: bool,
     pub line: usize,
     pub owed: usize,
     pub word: usize,
     pub margin: usize,
     pub left: usize,
+    // whether the lines are written, or measured alone
+    pub writes: bool,
+    // whether the room was too short for more
+    pub short: bool,
+    // whether something could not be laid
+    pub unfit: bool,
     pub fill: bool,
     pub centre: bool,
     // whether the item before was the byte CR
@@ -35,15 +37,15 @@ pub fn first_page(writes: bool) -> Page
     ensures { λ r. ⌜ r ≡ firstPage writes ⌝ }
 {
     Page {
-        writes: writes,
         place: 0,
-        short: false,
-        unfit: false,
         line: 0,
         owed: 0,
         word: 0,
         margin: 0,
         left: 0,
+        writes: writes,
+        short: false,
+        unfit: false,
         fill: true,
         centre: false,
         after: false,

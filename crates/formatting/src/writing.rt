@@ -3,9 +3,11 @@
 use crate::page::Page;
 ghost use mathlib.Core.Path.{_≡_};
 ghost use mathlib.Core.List.{_++_};
+ghost use mathlib.Core.Bool.{cond};
 ghost use Prim.Native.Nat.{_≤_};
 ghost use lib.ListN.{length, replicate};
 ghost use Rattle.alphabet.specs.Filling.{putAt};
+ghost use Rattle.formatting.specs.Sheet.{blanks};
 ghost use Rattle.formatting.specs.Pages.{Sound, spentOf, outWith, newLine, shownOf, Wrote};
 
 // The page with n bytes more written, where they go into the room.
@@ -38,54 +40,44 @@ pub fn fill(buffer: &mut [u8], at: usize, n: usize, b: u8)
     }
 }
 
-// Writes a byte n times behind the rest.
-pub fn put_times(page: Page, b: u8, n: usize, buffer: &mut [u8]) -> Page
-    requires { ⌜ page .place ≤ length (now buffer) ⌝ }
-    ensures { λ r. ⌜ r ≡ outWith (r .place) (r .short) page ⌝ }
-    ensures { λ r. ⌜ Wrote (replicate n b) page (now (buffer .entry)) r (now (buffer .exit)) ⌝ }
+// Writes blanks, bytes and LFs, one behind another, into the buffer from `at` on: all of them, where lines are written
+// and there is room, or none.
+fn put_line(writes: bool, buffer: &mut [u8], at: usize, indent: usize, line: &[u8], n: usize)
+    requires { ⌜ (at ≤ length (now buffer)) × (indent ≤ 200) × (length (now line) ≤ 200) × (n ≤ 200) ⌝ }
+    ensures { λ _. ⌜ now (buffer .exit) ≡ cond writes (putAt (now (buffer .entry)) at
+        (blanks indent ++ (now (line .entry) ++ replicate n 10))) (now (buffer .entry)) ⌝ }
 {
-    let spent = spend(page, n, buffer.len());
-    if page.writes {
-        fill(buffer, page.place, n, b);
-        return spent;
+    if !writes {
+        return;
     }
-    spent
+    if buffer.len() - at < indent + line.len() + n {
+        return;
+    }
+    fill(buffer, at, indent, 32);
+    let behind = alphabet::put(buffer, at + indent, line);
+    fill(buffer, behind, n, 10);
 }
 
-// Writes bytes behind the rest.
-pub fn put_bytes(page: Page, bytes: &[u8], buffer: &mut [u8]) -> Page
-    requires { ⌜ page .place ≤ length (now buffer) ⌝ }
+// Writes the line as it is shown, and n LF.
+pub fn show_line(page: Page, n: usize, line: &[u8], buffer: &mut [u8]) -> Page
+    requires { ⌜ (Sound page (now line) (now buffer)) × (n ≤ 200) ⌝ }
     ensures { λ r. ⌜ r ≡ outWith (r .place) (r .short) page ⌝ }
-    ensures { λ r. ⌜ Wrote (now (bytes .entry)) page (now (buffer .entry)) r (now (buffer .exit)) ⌝ }
-{
-    let spent = spend(page, bytes.len(), buffer.len());
-    if page.writes {
-        alphabet::put(buffer, page.place, bytes);
-        return spent;
-    }
-    spent
-}
-
-// Writes the line as it is shown.
-pub fn show_line(page: Page, line: &[u8], buffer: &mut [u8]) -> Page
-    requires { ⌜ Sound page (now line) (now buffer) ⌝ }
-    ensures { λ r. ⌜ r ≡ outWith (r .place) (r .short) page ⌝ }
-    ensures { λ r. ⌜ Wrote (shownOf page (now (line .entry))) page (now (buffer .entry)) r (now (buffer .exit)) ⌝ }
+    ensures { λ r. ⌜ Wrote (shownOf page (now (line .entry)) ++ replicate n 10) page (now (buffer .entry)) r
+        (now (buffer .exit)) ⌝ }
 {
     let indent = page.indent();
     let length = page.line;
-    let before = put_times(page, 32, indent, buffer);
-    put_bytes(before, &line[..length], buffer)
+    put_line(page.writes, buffer, page.place, indent, &line[..length], n);
+    spend(page, indent + length + n, buffer.len())
 }
 
 // Writes the line and n LF, and begins another line.
 pub fn end_lines(page: Page, n: usize, line: &[u8], buffer: &mut [u8]) -> Page
-    requires { ⌜ Sound page (now line) (now buffer) ⌝ }
+    requires { ⌜ (Sound page (now line) (now buffer)) × (n ≤ 200) ⌝ }
     ensures { λ r. ⌜ r ≡ newLine (outWith (r .place) (r .short) page) ⌝ }
     ensures { λ r. ⌜ Wrote (shownOf page (now (line .entry)) ++ replicate n 10) page (now (buffer .entry)) r
         (now (buffer .exit)) ⌝ }
 {
-    let shown = show_line(page, line, buffer);
-    let ended = put_times(shown, 10, n, buffer);
-    ended.new_line()
+    let shown = show_line(page, n, line, buffer);
+    shown.new_line()
 }

@@ -25,7 +25,7 @@ returns-2 c =
 end-lines-requires : tie.Need-end-lines-requires
 end-lines-requires c κs =
     let a = c .before .before .before .before .before .before .before in
-    sound-closing (a .args .b) (a .pre .1) (a .args .page) (now (a .args .line)) (now (a .args .buffer)) (a .pre .0) (c .before .before .before .before .close-word .result) (c .before .before .before .before .close-word .ensures)
+    (sound-closing (a .args .b) (a .pre .1) (a .args .page) (now (a .args .line)) (now (a .args .buffer)) (a .pre .0) (c .before .before .before .before .close-word .result) (c .before .before .before .before .close-word .ensures), omega arith)
 
 returns-3 : tie.Need-returns-3
 returns-3 c =
