@@ -5,11 +5,13 @@ use mathlib.Core.Bool.{Bool, true, false, cond, not, _&&_}
 use Prim.Native.Nat.{ℕ, _+_, _≤_, _<_}
 use native.Mathlib.Omega.{arith}
 use lib.Dec.{leb}
-use lib.ListN.{length}
-use borrow.Author.Tests.{lt-ltb, le-ltb, le-leb, lt-leb}
+use lib.ListN.{length, take, drop}
+use lib.Seq.{take-at}
+use borrow.Author.Tests.{lt-ltb, le-ltb, le-leb, lt-leb, leb-true}
 use Rattle.alphabet.specs.Bytes.{isNull}
 use Rattle.alphabet.specs.Delimiters.{firstWrongDelimiter}
-use Rattle.alphabet.specs.Filling.{over}
+use Rattle.alphabet.specs.Filling.{over, pasted, putAt}
+use Rattle.alphabet.proofs.FillingLaws.{put-fits}
 use Rattle.alphabet.specs.declared.answers.Refusal.{Refusal}
 use Rattle.alphabet.specs.declared.answers.Refusal.the-variants.{None, Delimiter, NoRoom, NullText, Layout}
 use Rattle.alphabet.specs.declared.answers.Check.{Check}
@@ -20,7 +22,7 @@ use Rattle.text.specs.declared.unescaping.Judged.{Judged}
 use Rattle.text.specs.Judging.{judged, textOf}
 use Rattle.text.proofs.OutcomeLaws.{judged-text, judged-fault}
 use Rattle.text.specs.Unescape.{before}
-use Rattle.format_commands.specs.Items.{Item}
+use Rattle.format_commands.specs.Items.{Item, itemsOf}
 use Rattle.format_commands.proofs.CommandLaws.{held-own}
 use Rattle.formatting.specs.declared.page.Page.{Page}
 use Rattle.formatting.specs.declared.laying.Laying.{Laying}
@@ -209,21 +211,63 @@ answer-text : (u : List ℕ) (n : ℕ) → length u ≡ n → record { kind = No
 unfolding answer
 answer-text u n e = ap (λ (k : ℕ). record { kind = None; place = 0; length = k }) (sym e)
 
+-- a fault, or lines, and the answer to it
+module _ (ds s d : List ℕ) where
+  laid-fault : (k : Refusal) (p : ℕ) → laidIn ds s (length d) ≡ fault k p → (answer (fault k p) ≡ answer (laidIn ds s (length d))) × (d ≡ filled (laidIn ds s (length d)) d)
+  laid-fault k p y = let r = ended (laidIn ds s (length d)) (fault k p) d y in (r .0, filled-fault k p d ∙ r .1)
+
+  laid-text : (u : List ℕ) (n : ℕ) → laidIn ds s (length d) ≡ text u → length u ≡ n → (record { kind = None; place = 0; length = n } ≡ answer (laidIn ds s (length d))) × (over u d ≡ filled (laidIn ds s (length d)) d)
+  laid-text u n y e = let r = ended (laidIn ds s (length d)) (text u) d y in (answer-text u n e ∙ r .0, filled-text u d ∙ r .1)
+
 -- measured with a fault, or measured and then written
-module _ (ds s d d₁ : List ℕ) (f : Judged) (m : Typesets ds s false d f d₁) (o : formatting ds s (length d) ≡ laidIn ds s (length d)) where
-  pub format-refused : (k : Refusal) (p : ℕ) → f ≡ Judged.Fault k p → (answer (fault k p) ≡ answer (formatting ds s (length d))) × (d₁ ≡ filled (formatting ds s (length d)) d)
+module _ (ds s d d₁ : List ℕ) (f : Judged) (m : Typesets ds s false d f d₁) where
+  pub format-refused : (k : Refusal) (p : ℕ) → f ≡ Judged.Fault k p → (answer (fault k p) ≡ answer (laidIn ds s (length d))) × (d₁ ≡ filled (laidIn ds s (length d)) d)
   format-refused k p e =
-      let y = o ∙ judged-fault (laidIn ds s (length d)) k p (sym e ∙ m .gives) in
-      let r = ended (formatting ds s (length d)) (fault k p) d y in
-      (r .0, m .still refl ∙ filled-fault k p d ∙ r .1)
+      let r = laid-fault ds s d k p (judged-fault (laidIn ds s (length d)) k p (sym e ∙ m .gives)) in
+      (r .0, m .still refl ∙ r .1)
 
   pub format-written : (n : ℕ) (g : Judged) (d₂ : List ℕ) → f ≡ Judged.Text n → Typesets ds s true d₁ g d₂
-      → (record { kind = None; place = 0; length = n } ≡ answer (formatting ds s (length d))) × (d₂ ≡ filled (formatting ds s (length d)) d)
+      → (record { kind = None; place = 0; length = n } ≡ answer (laidIn ds s (length d))) × (d₂ ≡ filled (laidIn ds s (length d)) d)
   format-written n g d₂ e w =
       let y = judged-text (laidIn ds s (length d)) n (sym e ∙ m .gives) in
       let u = textOf (laidIn ds s (length d)) in
-      let r = ended (formatting ds s (length d)) (text u) d (o ∙ y .0) in
-      let same : d₁ ≡ d = m .still refl in (
-        answer-text u n (y .1) ∙ r .0,
-        w .holds u (ap (λ (v : List ℕ). laidIn ds s (length v)) same ∙ y .0) refl ∙ ap (over u) same ∙ filled-text u d ∙ r .1,
-      )
+      let r = laid-text ds s d u n (y .0) (y .1) in
+      let same : d₁ ≡ d = m .still refl in
+      (r .0, w .holds u (ap (λ (v : List ℕ). laidIn ds s (length v)) same ∙ y .0) refl ∙ ap (over u) same ∙ r .1)
+
+-- what is put at the front
+front-over : (d u : List ℕ) → pasted d 0 u ≡ over u d
+front-over d u =
+    let n : 0 + length u ≡ length u = omega arith in
+    ap (λ (k : ℕ). u ++ drop k d) n
+
+-- written on a sheet p, and handed over to the buffer d
+module _ (ds s d p p₁ : List ℕ) (f : Judged) (m : Typesets ds s true p f p₁) (n : ℕ) (e : f ≡ Judged.Text n) where
+  lines-told : (u : List ℕ) × (laidIn ds s (length p) ≡ text u) × (length u ≡ n)
+  lines-told = let y = judged-text (laidIn ds s (length p)) n (sym e ∙ m .gives) in (textOf (laidIn ds s (length p)), y .0, y .1)
+
+  fit-told : (o : Outcome ℕ) (u : List ℕ) (room : ℕ) → fitting room o ≡ text u → (o ≡ text u) × (length u ≤ room)
+  unfolding fitting
+  fit-told (fault k q) u room h = absurd (not-text k q u h)
+  fit-told (text t) u room h = by (leb (length t) room) refl h
+    where
+      by : (b : Bool) → leb (length t) room ≡ b → cond b (text t) (fault NoRoom 0) ≡ text u → (text t ≡ text u) × (length u ≤ room)
+      by true q h = let z = ap length (text-same t u h) in let l = leb-true (length t) room q in (h, omega arith)
+      by false q h = absurd (not-text NoRoom 0 u h)
+
+  sheet-lines : (laidOut (itemsOf ds s) ≡ text (lines-told .0)) × (length (lines-told .0) ≤ length p)
+  sheet-lines = fit-told (laidOut (itemsOf ds s)) (lines-told .0) (length p) (lines-told .1)
+
+  pub sheet-size : n ≤ length p₁
+  sheet-size = let a = sheet-lines .1 in let b = lines-told .2 in let c = m .size in omega arith
+
+  pub sheet-short : length d < n → (answer (fault NoRoom 0) ≡ answer (laidIn ds s (length d))) × (d ≡ filled (laidIn ds s (length d)) d)
+  sheet-short h = let z = lines-told .2 in laid-fault ds s d NoRoom 0 (ap (fitting (length d)) (sheet-lines .0) ∙ fit-long (length d) (lines-told .0) (omega arith))
+
+  pub sheet-handed : n ≤ length d → (d₁ : List ℕ) → d₁ ≡ putAt d 0 (take n p₁) → (record { kind = None; place = 0; length = n } ≡ answer (laidIn ds s (length d))) × (d₁ ≡ filled (laidIn ds s (length d)) d)
+  sheet-handed h d₁ g =
+      let u = lines-told .0 in
+      let z = lines-told .2 in
+      let r = laid-text ds s d u n (ap (fitting (length d)) (sheet-lines .0) ∙ fit-text (length d) u (omega arith)) z in
+      let held : take n p₁ ≡ u = ap (take n) (m .holds u (lines-told .1) refl) ∙ take-at u (drop (length u) p) n z in
+      (r .0, g ∙ ap (putAt d 0) held ∙ put-fits d u 0 (omega arith) .1 ∙ front-over d u ∙ r .1)

@@ -14,8 +14,13 @@ ghost use mathlib.Core.Path.{_≡_};
 ghost use lib.ListN.{length};
 ghost use Rattle.escaping.specs.Outcomes.{answer, filled};
 ghost use Rattle.formatting.specs.Pages.{Sound};
-ghost use Rattle.formatting.specs.Laying.{Finishes, concluded, Typesets};
+ghost use Rattle.formatting.specs.Laying.{Finishes, concluded, laidIn, Typesets};
 ghost use Rattle.formatting.specs.Formatting.{formatting};
+
+// The longest texts whose lines are first written on the small sheet, and on the large one.
+const SHORT: usize = 1_536;
+
+const LONG: usize = 32_768;
 
 // The end of the text: the word is ended, and the line is written, with no LF.
 fn finish(page: Page, line: &[u8], buffer: &mut [u8]) -> Page
@@ -62,6 +67,91 @@ fn typeset(delimiters: Delimiters, text: &[u8], writes: bool, buffer: &mut [u8])
     }
 }
 
+// Measures the lines, so that a refusal writes nothing, and then writes them: the text is walked twice.
+fn measure_first(delimiters: Delimiters, text: &[u8], buffer: &mut [u8]) -> Answer
+    ensures { λ r. ⌜ r ≡ answer (laidIn (delimiters .bytes) (now (text .entry)) (length (now (buffer .entry)))) ⌝ }
+    ensures { λ _. ⌜ now (buffer .exit)
+        ≡ filled (laidIn (delimiters .bytes) (now (text .entry)) (length (now (buffer .entry)))) (now (buffer .entry)) ⌝ }
+{
+    let found = typeset(delimiters, text, false, buffer);
+    match found {
+        Judged::Fault { kind, place } => refused(kind, place),
+        Judged::Text(n) => {
+            typeset(delimiters, text, true, buffer);
+            Answer {
+                kind: Refusal::None,
+                place: 0,
+                length: n,
+            }
+        }
+    }
+}
+
+// Writes the lines on a sheet of our own, and hands them over: where they fit there, the text is walked once.
+fn write_first(delimiters: Delimiters, text: &[u8], sheet: &mut [u8], buffer: &mut [u8]) -> Answer
+    ensures { λ r. ⌜ r ≡ answer (laidIn (delimiters .bytes) (now (text .entry)) (length (now (buffer .entry)))) ⌝ }
+    ensures { λ _. ⌜ now (buffer .exit)
+        ≡ filled (laidIn (delimiters .bytes) (now (text .entry)) (length (now (buffer .entry)))) (now (buffer .entry)) ⌝ }
+{
+    let found = typeset(delimiters, text, true, sheet);
+    let Judged::Text(n) = found else {
+        return measure_first(delimiters, text, buffer);
+    };
+    if buffer.len() < n {
+        return refused(Refusal::NoRoom, 0);
+    }
+    alphabet::put(buffer, 0, &sheet[..n]);
+    Answer {
+        kind: Refusal::None,
+        place: 0,
+        length: n,
+    }
+}
+
+// Two sheets, for short texts and for long ones. What they are filled with does not matter.
+fn small_sheet() -> [u8; 2_048] {
+    [32; 2_048]
+}
+
+fn large_sheet() -> [u8; 32_768] {
+    [32; 32_768]
+}
+
+// A short text.
+fn format_short(delimiters: Delimiters, text: &[u8], buffer: &mut [u8]) -> Answer
+    ensures { λ r. ⌜ r ≡ answer (laidIn (delimiters .bytes) (now (text .entry)) (length (now (buffer .entry)))) ⌝ }
+    ensures { λ _. ⌜ now (buffer .exit)
+        ≡ filled (laidIn (delimiters .bytes) (now (text .entry)) (length (now (buffer .entry)))) (now (buffer .entry)) ⌝ }
+{
+    let mut sheet = small_sheet();
+    write_first(delimiters, text, &mut sheet, buffer)
+}
+
+// A long text, that fits on the large sheet if its lines are no longer than itself.
+fn format_long(delimiters: Delimiters, text: &[u8], buffer: &mut [u8]) -> Answer
+    ensures { λ r. ⌜ r ≡ answer (laidIn (delimiters .bytes) (now (text .entry)) (length (now (buffer .entry)))) ⌝ }
+    ensures { λ _. ⌜ now (buffer .exit)
+        ≡ filled (laidIn (delimiters .bytes) (now (text .entry)) (length (now (buffer .entry)))) (now (buffer .entry)) ⌝ }
+{
+    let mut sheet = large_sheet();
+    write_first(delimiters, text, &mut sheet, buffer)
+}
+
+// Turns a text that is not null into lines, under permitted delimiters.
+fn lay_out(delimiters: Delimiters, text: &[u8], buffer: &mut [u8]) -> Answer
+    ensures { λ r. ⌜ r ≡ answer (laidIn (delimiters .bytes) (now (text .entry)) (length (now (buffer .entry)))) ⌝ }
+    ensures { λ _. ⌜ now (buffer .exit)
+        ≡ filled (laidIn (delimiters .bytes) (now (text .entry)) (length (now (buffer .entry)))) (now (buffer .entry)) ⌝ }
+{
+    if text.len() <= SHORT {
+        return format_short(delimiters, text, buffer);
+    }
+    if text.len() <= LONG {
+        return format_long(delimiters, text, buffer);
+    }
+    measure_first(delimiters, text, buffer)
+}
+
 // Turns a formatted text into plain lines, and writes them to the front of the buffer.
 pub fn format(delimiters: Delimiters, text: &[u8], buffer: &mut [u8]) -> Answer
     ensures { λ r. ⌜ r ≡ answer (formatting (delimiters .bytes) (now (text .entry)) (length (now (buffer .entry)))) ⌝ }
@@ -76,16 +166,5 @@ pub fn format(delimiters: Delimiters, text: &[u8], buffer: &mut [u8]) -> Answer
     if alphabet::is_null(text) {
         return refused(Refusal::NullText, 0);
     }
-    let found = typeset(delimiters, text, false, buffer);
-    match found {
-        Judged::Fault { kind, place } => refused(kind, place),
-        Judged::Text(n) => {
-            typeset(delimiters, text, true, buffer);
-            Answer {
-                kind: Refusal::None,
-                place: 0,
-                length: n,
-            }
-        }
-    }
+    lay_out(delimiters, text, buffer)
 }

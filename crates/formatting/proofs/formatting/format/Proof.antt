@@ -7,7 +7,7 @@ use borrow.Author.Needs.{needs}
 use Rattle.alphabet.specs.declared.answers.Refusal.the-variants.{Delimiter}
 use Rattle.escaping.specs.Outcomes.{fault, answer, filled}
 use Rattle.escaping.proofs.OutcomeLaws.{ended}
-use Rattle.formatting.proofs.FormatLaws.{formatting-bad, formatting-null, formatting-laid, format-refused, format-written}
+use Rattle.formatting.proofs.FormatLaws.{formatting-bad, formatting-null, formatting-laid}
 use Rattle.formatting.proofs.formatting.format.Statement.{statement}
 use Rattle.formatting.proofs.formatting.format.Tie as tie
 
@@ -29,24 +29,11 @@ returns-2 c =
 
 returns-3 : tie.Need-returns-3
 returns-3 c =
-    let a = c .before .before .before .before .before .before .before .before .before .before .before .before .before .before .args in
-    let ds = a .delimiters .bytes in
-    let s = now (a .text) in
+    let a = c .before .before .before .before .before .before .before .before .before .before .args in
     let d = now (a .buffer) in
-    let g = c .before .before .found .given in
-    let o = formatting-laid ds s (length d) (omega arith) (sym (c .before .before .before .before .before .before .before .before .before .is-null .ensures) ∙ c .before .before .before .before .before .before .before .before .if2 .left) in
-    let r = format-refused ds s d _ (c .before .before .before .before .before .before .typeset .result) (c .before .before .before .before .before .before .typeset .ensures) o (g .0 .0) (g .0 .1 .0) (g .1) in
-    (c .refused3 .ensures ∙ r .0, r .1)
-
-returns-4 : tie.Need-returns-4
-returns-4 c =
-    let a = c .before .before .before .before .before .before .before .before .before .before .before .before .before .before .before .before .before .args in
-    let ds = a .delimiters .bytes in
-    let s = now (a .text) in
-    let d = now (a .buffer) in
-    let g = c .before .before .before .before .before .found2 .given in
-    let o = formatting-laid ds s (length d) (omega arith) (sym (c .before .before .before .before .before .before .before .before .before .before .before .before .is-null .ensures) ∙ c .before .before .before .before .before .before .before .before .before .before .before .if2 .left) in
-    format-written ds s d _ (c .before .before .before .before .before .before .before .before .before .typeset .result) (c .before .before .before .before .before .before .before .before .before .typeset .ensures) o (g .0 .0) (c .before .before .typeset2 .result) _ (g .1) (c .before .before .typeset2 .ensures)
+    let l = c .before .before .lay-out .ensures in
+    let o = sym (formatting-laid (a .delimiters .bytes) (now (a .text)) (length d) (omega arith) (sym (c .before .before .before .before .before .is-null .ensures) ∙ c .before .before .before .before .if2 .left)) in
+    (l .0 ∙ ap answer o, l .1 ∙ ap (λ (v : _). filled v d) o)
 
 pub format-spec : {M : Type 1} → statement M
 format-spec =
@@ -60,10 +47,4 @@ format-spec =
     returns-2
     (λ c κs. search needs)
     (λ c. search needs)
-    (λ c κs. search needs)
-    (λ c. search needs)
-    (λ c κs. search needs)
-    (λ c. search needs)
-    returns-3
-    (λ c. search needs)
-    returns-4)
+    returns-3)
