@@ -3,18 +3,20 @@
 use mathlib.Core.Logic.{_⊎_, inl, inr, ⊎-elim}
 use mathlib.Core.Path.{_≡_, refl, sym, ap, _∙_}
 use mathlib.Core.List.{List, [], _∷_}
-use mathlib.Core.Bool.{Bool, true, false, cond}
+use mathlib.Core.Bool.{Bool, true, false, cond, _&&_}
 use Prim.Native.Nat.{ℕ, zero, suc, _+_, _-_, _*_, _≤_, _<_}
 use native.Mathlib.Omega.{arith}
-use lib.Dec.{ltb}
-use lib.ListN.{length, getD, take, drop}
+use lib.Dec.{ltb, eqb}
+use lib.ListN.{length, getD, take, drop, drop-of-length-le}
 use borrow.Author.Tests.{lt-ltb, le-ltb, ltb-true, ltb-false}
 use Rattle.alphabet.specs.Bytes.{digit}
 use Rattle.alphabet.specs.Digits.{allDigits, counted, decimal}
 use Rattle.alphabet.specs.Bytes.{ascii}
 use Rattle.alphabet.specs.Lists.{same}
+use Rattle.alphabet.proofs.ListLaws.{same-unlike}
 use Rattle.alphabet.proofs.DigitLaws.{counted-next}
-use Rattle.format_commands.specs.Commands.{pastIf, digitsOf, numbered, orderOf, command, isOrder, heldSize, heldAmount, heldNumber, heldOrder}
+use Rattle.format_commands.specs.Commands.{pastIf, digitsOf, signedOf, numberOf, numbered, orderOf, command, isOrder, heldSize, heldAmount, heldNumber, heldOrder}
+use Rattle.format_commands.specs.declared.numbers.Amount.{Amount}
 use Rattle.format_commands.specs.declared.numbers.Number.{Number}
 use Rattle.format_commands.specs.declared.numbers.Number.the-variants.{Missing, Given}
 use Rattle.format_commands.specs.declared.orders.Order.{Order}
@@ -124,16 +126,6 @@ held-numbered name (Given a) = at (same name (ascii ".sp")) (same name (ascii ".
     at false false false true = refl
     at false false false false = refl
 
-pub held-if : (t : Bool) (x y : Order) → heldOrder (cond t x y) ≡ cond t (heldOrder x) (heldOrder y)
-held-if true x y = refl
-held-if false x y = refl
-
-pub if-so : {r y y′ : Order} {t t′ : Bool} (x : Order) → r ≡ cond t x y → t ≡ t′ → y ≡ y′ → r ≡ cond t′ x y′
-if-so x e f g = rw (← f, ← g) e
-
-pub if-held : {r y : Order} {t t′ : Bool} (x y′ : Order) → r ≡ cond t (heldOrder x) y → t ≡ t′ → y ≡ heldOrder y′ → r ≡ heldOrder (cond t′ x y′)
-if-held {t′ = t′} x y′ e f g = if-so (heldOrder x) e f g ∙ sym (held-if t′ x y′)
-
 pub known-held : (o : Order) → isOrder (heldOrder o) ≡ isOrder o
 unfolding heldOrder
 known-held Unknown = refl
@@ -151,3 +143,107 @@ known-held (Once a) = refl
 pub command-held : (c : List ℕ) (o : Order) → o ≡ heldOrder (orderOf c) → isOrder o ≡ command c
 unfolding command
 command-held c o e = ap isOrder e ∙ known-held (orderOf c)
+
+-- ---- by the length of a sequence
+
+and-true : (b : Bool) → (b && true) ≡ b
+and-true true = refl
+and-true false = refl
+
+pub name-same : (x y z one two : ℕ) → (eqb x 46 && (eqb y one && eqb z two)) ≡ same (x ∷ y ∷ z ∷ []) (46 ∷ one ∷ two ∷ [])
+unfolding same
+name-same x y z one two = ap (λ (b : Bool). eqb x 46 && (eqb y one && b)) (sym (and-true (eqb z two)))
+
+abbrev one : Amount
+one = record { minus = false; size = 1 }
+
+-- a letter
+letter-alone : (x : ℕ) → orderOf (x ∷ []) ≡ cond (eqb x 72) Highlight (cond (eqb x 78) Highlight Unknown)
+unfolding orderOf same numbered numberOf signedOf digitsOf
+letter-alone x = at (eqb x 72) (eqb x 78) (eqb x 46)
+  where
+    at : (t u v : Bool)
+        → cond (t && true) Highlight (cond (u && true) Highlight (cond (v && false) Break (cond (v && false) Centre (cond (v && false) Fill (cond (v && false) Unfill (cond (v && false) (Down one) Unknown))))))
+        ≡ cond t Highlight (cond u Highlight Unknown)
+    at true u v = refl
+    at false true v = refl
+    at false false true = refl
+    at false false false = refl
+
+pub letter-order : (x : ℕ) (r n : Order) → n ≡ cond (eqb x 78) Highlight Unknown → r ≡ cond (eqb x 72) Highlight n → r ≡ orderOf (x ∷ [])
+letter-order x r n e f = f ∙ ap (cond (eqb x 72) Highlight) e ∙ sym (letter-alone x)
+
+held-letter : (t u : Bool) → heldOrder (cond t Highlight (cond u Highlight Unknown)) ≡ cond t Highlight (cond u Highlight Unknown)
+unfolding heldOrder
+held-letter true u = refl
+held-letter false true = refl
+held-letter false false = refl
+
+-- a name
+abbrev named : Bool → Bool → Bool → Bool → Bool → Order
+named t u v w s = cond t Break (cond u Centre (cond v Fill (cond w Unfill (cond s (Down one) Unknown))))
+
+module _ (x y z : ℕ) where
+  abbrev is : ℕ → ℕ → Bool
+  is a b = same (x ∷ y ∷ z ∷ []) (46 ∷ a ∷ b ∷ [])
+
+  pub name-alone : orderOf (x ∷ y ∷ z ∷ []) ≡ named (is 98 114) (is 99 101) (is 102 105) (is 110 102) (is 115 112)
+  unfolding orderOf numbered numberOf signedOf digitsOf
+  name-alone = rw (same-unlike (x ∷ y ∷ z ∷ []) (72 ∷ []) (λ (e : 3 ≡ 1). omega arith), same-unlike (x ∷ y ∷ z ∷ []) (78 ∷ []) (λ (e : 3 ≡ 1). omega arith))
+
+  pub numbered-name : (n : Amount) → numbered (x ∷ y ∷ z ∷ []) (Given n) ≡ cond (is 115 112) (Down n) (cond (is 115 107) (Across n) (cond (is 105 110) (Margin n) (cond (is 116 105) (Once n) Unknown)))
+  unfolding numbered
+  numbered-name n = refl
+
+held-named : (t u v w s : Bool) → heldOrder (named t u v w s) ≡ named t u v w s
+unfolding heldOrder heldSize
+held-named true u v w s = refl
+held-named false true v w s = refl
+held-named false false true w s = refl
+held-named false false false true s = refl
+held-named false false false false true = refl
+held-named false false false false false = refl
+
+held-name : (x y z : ℕ) → orderOf (x ∷ y ∷ z ∷ []) ≡ heldOrder (orderOf (x ∷ y ∷ z ∷ []))
+held-name x y z =
+    name-alone x y z ∙ sym (held-named (is x y z 98 114) (is x y z 99 101) (is x y z 102 105) (is x y z 110 102) (is x y z 115 112)) ∙ ap heldOrder (sym (name-alone x y z))
+
+-- what the code gives, by the length
+module _ (c : List ℕ) where
+  front-three : 3 ≤ length c → take 3 c ≡ getD c 0 0 ∷ getD c 1 0 ∷ getD c 2 0 ∷ []
+  front-three h = by c h
+    where
+      by : (l : List ℕ) → 3 ≤ length l → take 3 l ≡ getD l 0 0 ∷ getD l 1 0 ∷ getD l 2 0 ∷ []
+      by [] h = absurd (omega arith)
+      by (x ∷ []) h = absurd (omega arith)
+      by (x ∷ y ∷ []) h = absurd (omega arith)
+      by (x ∷ y ∷ z ∷ r) h = refl
+
+  pub order-three : length c ≡ 3 → orderOf (getD c 0 0 ∷ getD c 1 0 ∷ getD c 2 0 ∷ []) ≡ heldOrder (orderOf c)
+  order-three h =
+      held-name (getD c 0 0) (getD c 1 0) (getD c 2 0) ∙ ap (λ (v : List ℕ). heldOrder (orderOf v)) (sym (front-three (omega arith)) ∙ take-all 3 c (omega arith))
+
+  pub order-one : length c ≡ 1 → orderOf (getD c 0 0 ∷ []) ≡ heldOrder (orderOf c)
+  order-one h =
+      let e = letter-alone (getD c 0 0) in
+      e ∙ sym (held-letter (eqb (getD c 0 0) 72) (eqb (getD c 0 0) 78)) ∙ ap heldOrder (sym e) ∙ ap (λ (v : List ℕ). heldOrder (orderOf v)) (by c h)
+    where
+      by : (l : List ℕ) → length l ≡ 1 → getD l 0 0 ∷ [] ≡ l
+      by [] h = absurd (omega arith)
+      by (x ∷ []) h = refl
+      by (x ∷ y ∷ r) h = absurd (omega arith)
+
+  -- no name, and no letter
+  rest-unlike : (length c ≡ 1 → ⊥) → (length c ≡ 3 → ⊥) → orderOf c ≡ numbered (take 3 c) (numberOf (drop 3 c))
+  unfolding orderOf
+  rest-unlike f g =
+      rw (same-unlike c (72 ∷ []) f, same-unlike c (78 ∷ []) f, same-unlike c (46 ∷ 98 ∷ 114 ∷ []) g, same-unlike c (46 ∷ 99 ∷ 101 ∷ []) g, same-unlike c (46 ∷ 102 ∷ 105 ∷ []) g, same-unlike c (46 ∷ 110 ∷ 102 ∷ []) g, same-unlike c (46 ∷ 115 ∷ 112 ∷ []) g)
+
+  pub order-none : (length c ≡ 1 → ⊥) → (length c ≡ 3 → ⊥) → length c < 4 → Unknown ≡ heldOrder (orderOf c)
+  unfolding heldOrder numbered numberOf signedOf digitsOf
+  order-none f g h = sym (ap heldOrder (rest-unlike f g ∙ ap (λ (l : List ℕ). numbered (take 3 c) (numberOf l)) (drop-of-length-le c {i = 3} (omega arith))))
+
+  pub order-more : (r : Order) (n : Number) → 4 ≤ length c → n ≡ heldNumber (numberOf (drop 3 c)) → r ≡ numbered (getD c 0 0 ∷ getD c 1 0 ∷ getD c 2 0 ∷ []) n → r ≡ heldOrder (orderOf c)
+  order-more r n h e f =
+      f ∙ ap (numbered _) e ∙ held-numbered _ (numberOf (drop 3 c)) ∙ ap (λ (l : List ℕ). heldOrder (numbered l (numberOf (drop 3 c)))) (sym (front-three (omega arith)))
+      ∙ ap heldOrder (sym (rest-unlike (λ (k : length c ≡ 1). omega arith) (λ (k : length c ≡ 3). omega arith)))

@@ -4,7 +4,8 @@ use crate::numbers::Number;
 use crate::numbers::number_of;
 ghost use mathlib.Core.Path.{_≡_};
 ghost use mathlib.Core.Bool.{cond};
-ghost use lib.ListN.{take, drop};
+ghost use mathlib.Core.List.{[], _∷_};
+ghost use Rattle.alphabet.specs.Lists.{same};
 ghost use Rattle.format_commands.specs.Commands.{numbered, orderOf, isOrder, command, heldOrder};
 
 // What a sequence asks for.
@@ -21,27 +22,6 @@ pub enum Order {
     Once(Amount),
 }
 
-// The first three bytes, or fewer where there are no more.
-fn name_of(bytes: &[u8]) -> &[u8]
-    ensures { λ r. ⌜ now r ≡ take 3 (now (bytes .entry)) ⌝ }
-{
-    if bytes.len() < 3 {
-        return bytes;
-    }
-    &bytes[..3]
-}
-
-// What stands behind the first three bytes.
-fn behind_name(bytes: &[u8]) -> &[u8]
-    ensures { λ r. ⌜ now r ≡ drop 3 (now (bytes .entry)) ⌝ }
-{
-    let n = bytes.len();
-    if n < 3 {
-        return &bytes[n..];
-    }
-    &bytes[3..]
-}
-
 // One of two orders.
 fn order_if(test: bool, one: Order, other: Order) -> Order
     ensures { λ r. ⌜ r ≡ cond test one other ⌝ }
@@ -49,43 +29,86 @@ fn order_if(test: bool, one: Order, other: Order) -> Order
     if test { one } else { other }
 }
 
+// Whether three bytes are the name of a command: a point and two letters.
+fn is_name(x: u8, y: u8, z: u8, one: u8, two: u8) -> bool
+    ensures { λ r. ⌜ r ≡ same (x ∷ y ∷ z ∷ []) (46 ∷ one ∷ two ∷ []) ⌝ }
+{
+    (x == 46) & ((y == one) & (z == two))
+}
+
 // The command of a name that takes a number.
-fn with_number(name: &[u8], number: Number) -> Order
-    ensures { λ r. ⌜ r ≡ numbered (now (name .entry)) number ⌝ }
+fn with_number(x: u8, y: u8, z: u8, number: Number) -> Order
+    ensures { λ r. ⌜ r ≡ numbered (x ∷ y ∷ z ∷ []) number ⌝ }
 {
     match number {
         Number::Missing => Order::Unknown,
         Number::Given(amount) => {
-            let down = alphabet::same(name, b".sp");
-            let across = alphabet::same(name, b".sk");
-            let margin = alphabet::same(name, b".in");
-            let once = alphabet::same(name, b".ti");
-            let last = order_if(once, Order::Once(amount), Order::Unknown);
-            let third = order_if(margin, Order::Margin(amount), last);
-            let second = order_if(across, Order::Across(amount), third);
-            order_if(down, Order::Down(amount), second)
+            if is_name(x, y, z, 115, 112) {
+                return Order::Down(amount);
+            }
+            if is_name(x, y, z, 115, 107) {
+                return Order::Across(amount);
+            }
+            if is_name(x, y, z, 105, 110) {
+                return Order::Margin(amount);
+            }
+            if is_name(x, y, z, 116, 105) {
+                return Order::Once(amount);
+            }
+            Order::Unknown
         }
     }
 }
 
-// What the bytes between two escape delimiters ask for.
+// The command of a name alone.
+fn by_name(x: u8, y: u8, z: u8) -> Order
+    ensures { λ r. ⌜ r ≡ orderOf (x ∷ y ∷ z ∷ []) ⌝ }
+{
+    if is_name(x, y, z, 98, 114) {
+        return Order::Break;
+    }
+    if is_name(x, y, z, 99, 101) {
+        return Order::Centre;
+    }
+    if is_name(x, y, z, 102, 105) {
+        return Order::Fill;
+    }
+    if is_name(x, y, z, 110, 102) {
+        return Order::Unfill;
+    }
+    if is_name(x, y, z, 115, 112) {
+        let one = Amount {
+            minus: false,
+            size: 1,
+        };
+        return Order::Down(one);
+    }
+    Order::Unknown
+}
+
+// The command of a letter.
+fn by_letter(x: u8) -> Order
+    ensures { λ r. ⌜ r ≡ orderOf (x ∷ []) ⌝ }
+{
+    let normal = order_if(x == 78, Order::Highlight, Order::Unknown);
+    order_if(x == 72, Order::Highlight, normal)
+}
+
+// What the bytes between two escape delimiters ask for: by their length first, since most have three.
 pub fn order_of(inside: &[u8]) -> Order
     ensures { λ r. ⌜ r ≡ heldOrder (orderOf (now (inside .entry))) ⌝ }
 {
-    let name = name_of(inside);
-    let number = number_of(behind_name(inside));
-    let numbered = with_number(name, number);
-    let one = Amount {
-        minus: false,
-        size: 1,
-    };
-    let down = order_if(alphabet::same(inside, b".sp"), Order::Down(one), numbered);
-    let unfill = order_if(alphabet::same(inside, b".nf"), Order::Unfill, down);
-    let fill = order_if(alphabet::same(inside, b".fi"), Order::Fill, unfill);
-    let centre = order_if(alphabet::same(inside, b".ce"), Order::Centre, fill);
-    let line = order_if(alphabet::same(inside, b".br"), Order::Break, centre);
-    let normal = order_if(alphabet::same(inside, b"N"), Order::Highlight, line);
-    order_if(alphabet::same(inside, b"H"), Order::Highlight, normal)
+    if inside.len() == 3 {
+        return by_name(inside[0], inside[1], inside[2]);
+    }
+    if inside.len() == 1 {
+        return by_letter(inside[0]);
+    }
+    if inside.len() < 4 {
+        return Order::Unknown;
+    }
+    let number = number_of(&inside[3..]);
+    with_number(inside[0], inside[1], inside[2], number)
 }
 
 // Whether an order is one.

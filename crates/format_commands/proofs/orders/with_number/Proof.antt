@@ -1,28 +1,45 @@
 -- Each return is a case of `numbered`.
-use mathlib.Core.Path.{refl, sym, ap, _∙_}
+use mathlib.Core.Path.{sym, ap, _∙_}
+use mathlib.Core.List.{[], _∷_}
 use borrow.Author.Needs.{needs}
-use denote.Ref.{now}
 use Rattle.format_commands.specs.Commands.{numbered}
-use Rattle.format_commands.specs.declared.orders.Order.the-variants.{Down, Across, Margin, Once}
-use Rattle.format_commands.proofs.CommandLaws.{if-so}
+use Rattle.format_commands.proofs.CommandLaws.{numbered-name}
 use Rattle.format_commands.proofs.orders.with_number.Statement.{statement}
 use Rattle.format_commands.proofs.orders.with_number.Tie as tie
 
 returns : tie.Need-returns
-unfolding numbered
-returns c = ap (numbered (now (c .before .before .before .args .name))) (sym (c .enum-told .given .1))
+returns c =
+    let a = c .before .before .before .before .before .args in
+    let g = c .before .before .before .number .given in
+    sym (ap (numbered (a .x ∷ a .y ∷ a .z ∷ [])) (g .1) ∙ numbered-name (a .x) (a .y) (a .z) (g .0 .0) ∙ rw (sym (c .before .is-name .ensures) ∙ c .if1 .taken))
 
 returns-2 : tie.Need-returns-2
-unfolding numbered
 returns-2 c =
-    let k = c .before .before .before .before in
-    let n = k .before .before .before .before .before .before .before .before .before in
-    let a = n .number .given .0 .0 in
-    if-so (Down a) (c .order-if4 .ensures) (k .before .before .before .before .before .before .same .ensures)
-    (if-so (Across a) (c .before .order-if3 .ensures) (k .before .before .before .before .same2 .ensures)
-    (if-so (Margin a) (c .before .before .order-if2 .ensures) (k .before .before .same3 .ensures)
-    (if-so (Once a) (c .before .before .before .order-if .ensures) (k .same4 .ensures) refl)))
-    ∙ ap (numbered (now (n .before .before .before .args .name))) (sym (n .number .given .1))
+    let a = c .before .before .before .before .before .before .before .args in
+    let g = c .before .before .before .before .before .number .given in
+    sym (ap (numbered (a .x ∷ a .y ∷ a .z ∷ [])) (g .1) ∙ numbered-name (a .x) (a .y) (a .z) (g .0 .0) ∙ rw (sym (c .before .before .before .is-name .ensures) ∙ c .before .before .if1 .left, sym (c .before .is-name2 .ensures) ∙ c .if2 .taken))
+
+returns-3 : tie.Need-returns-3
+returns-3 c =
+    let a = c .before .before .before .before .before .before .before .before .before .args in
+    let g = c .before .before .before .before .before .before .before .number .given in
+    sym (ap (numbered (a .x ∷ a .y ∷ a .z ∷ [])) (g .1) ∙ numbered-name (a .x) (a .y) (a .z) (g .0 .0) ∙ rw (sym (c .before .before .before .before .before .is-name .ensures) ∙ c .before .before .before .before .if1 .left, sym (c .before .before .before .is-name2 .ensures) ∙ c .before .before .if2 .left, sym (c .before .is-name3 .ensures) ∙ c .if3 .taken))
+
+returns-4 : tie.Need-returns-4
+returns-4 c =
+    let a = c .before .before .before .before .before .before .before .before .before .before .before .args in
+    let g = c .before .before .before .before .before .before .before .before .before .number .given in
+    sym (ap (numbered (a .x ∷ a .y ∷ a .z ∷ [])) (g .1) ∙ numbered-name (a .x) (a .y) (a .z) (g .0 .0) ∙ rw (sym (c .before .before .before .before .before .before .before .is-name .ensures) ∙ c .before .before .before .before .before .before .if1 .left, sym (c .before .before .before .before .before .is-name2 .ensures) ∙ c .before .before .before .before .if2 .left, sym (c .before .before .before .is-name3 .ensures) ∙ c .before .before .if3 .left, sym (c .before .is-name4 .ensures) ∙ c .if4 .taken))
+
+returns-6 : tie.Need-returns-6
+returns-6 c =
+    let a = c .before .before .before .before .before .before .before .before .before .before .before .args in
+    let g = c .before .before .before .before .before .before .before .before .before .number .given in
+    sym (ap (numbered (a .x ∷ a .y ∷ a .z ∷ [])) (g .1) ∙ numbered-name (a .x) (a .y) (a .z) (g .0 .0) ∙ rw (sym (c .before .before .before .before .before .before .before .is-name .ensures) ∙ c .before .before .before .before .before .before .if1 .left, sym (c .before .before .before .before .before .is-name2 .ensures) ∙ c .before .before .before .before .if2 .left, sym (c .before .before .before .is-name3 .ensures) ∙ c .before .before .if3 .left, sym (c .before .is-name4 .ensures) ∙ c .if4 .left))
+
+returns-5 : tie.Need-returns-5
+unfolding numbered
+returns-5 c = let a = c .before .before .args in ap (numbered (a .x ∷ a .y ∷ a .z ∷ [])) (sym (c .enum-told .given .1))
 
 pub with-number-spec : {M : Type 1} → statement M
 with-number-spec =
@@ -30,17 +47,13 @@ with-number-spec =
     (tie.spec
     (λ c. search needs)
     (λ c. search needs)
-    (λ c. search needs)
-    (λ c κs. search needs)
-    (λ c. search needs)
-    (λ c κs. search needs)
-    (λ c. search needs)
-    (λ c κs. search needs)
-    (λ c. search needs)
-    (λ c κs. search needs)
-    (λ c κs. search needs)
-    (λ c κs. search needs)
-    (λ c κs. search needs)
     (λ c κs. search needs)
     returns
-    returns-2)
+    (λ c κs. search needs)
+    returns-2
+    (λ c κs. search needs)
+    returns-3
+    (λ c κs. search needs)
+    returns-4
+    returns-5
+    returns-6)
