@@ -56,8 +56,8 @@ fn smaller(a: usize, b: usize) -> usize
     if a < b { a } else { b }
 }
 
-// Bytes that stand plainly: as many at each turn as fit on the line, or one where none fits.
-pub fn take_run(page: Page, line: &mut [u8], buffer: &mut [u8], run: &[u8]) -> Page
+// Bytes that stand plainly and go on past the line's end: as many at each turn as fit on the line, or one where none fits.
+fn take_long(page: Page, line: &mut [u8], buffer: &mut [u8], run: &[u8]) -> Page
     requires { ⌜ (Sound page (now line) (now buffer)) × (clear (now run) ≡ true) ⌝ }
     ensures { λ r. ⌜ Follows (map byte (now (run .entry))) page (now (line .entry)) (now (buffer .entry)) r
         (now (line .exit)) (now (buffer .exit)) ⌝ }
@@ -76,6 +76,21 @@ pub fn take_run(page: Page, line: &mut [u8], buffer: &mut [u8], run: &[u8]) -> P
         }
     }
     p
+}
+
+// Bytes that stand plainly: together, where all fit on the line, as most do.
+pub fn take_run(page: Page, line: &mut [u8], buffer: &mut [u8], run: &[u8]) -> Page
+    requires { ⌜ (Sound page (now line) (now buffer)) × (clear (now run) ≡ true) ⌝ }
+    ensures { λ r. ⌜ Follows (map byte (now (run .entry))) page (now (line .entry)) (now (buffer .entry)) r
+        (now (line .exit)) (now (buffer .exit)) ⌝ }
+{
+    let reach = page.reach();
+    if reach < WIDTH {
+        if (0 < run.len()) & (run.len() <= WIDTH - reach) {
+            return append(page, line, buffer, run);
+        }
+    }
+    take_long(page, line, buffer, run)
 }
 
 // The bytes that pairs of digits say.

@@ -17,8 +17,10 @@ ghost use Rattle.formatting.specs.Pages.{Sound};
 ghost use Rattle.formatting.specs.Laying.{Finishes, concluded, laidIn, Typesets};
 ghost use Rattle.formatting.specs.Formatting.{formatting};
 
-// The longest texts whose lines are first written on the small sheet, and on the large one.
+// The longest texts whose lines are first written on the small sheet, the middle one and the large one.
 const SHORT: usize = 1_536;
+
+const MIDDLE: usize = 6_144;
 
 const LONG: usize = 32_768;
 
@@ -108,16 +110,21 @@ fn write_first(delimiters: Delimiters, text: &[u8], sheet: &mut [u8], buffer: &m
     }
 }
 
-// Two sheets, for short texts and for long ones. What they are filled with does not matter.
+// Sheets of three sizes, since a short text should not wait for a large one to be cleared. What they are filled with does
+// not matter.
 fn small_sheet() -> [u8; 2_048] {
     [32; 2_048]
+}
+
+fn middle_sheet() -> [u8; 8_192] {
+    [32; 8_192]
 }
 
 fn large_sheet() -> [u8; 32_768] {
     [32; 32_768]
 }
 
-// A short text.
+// A text whose lines go on the small sheet, where they are not much longer than itself; so with the others.
 fn format_short(delimiters: Delimiters, text: &[u8], buffer: &mut [u8]) -> Answer
     ensures { λ r. ⌜ r ≡ answer (laidIn (delimiters .bytes) (now (text .entry)) (length (now (buffer .entry)))) ⌝ }
     ensures { λ _. ⌜ now (buffer .exit)
@@ -127,7 +134,17 @@ fn format_short(delimiters: Delimiters, text: &[u8], buffer: &mut [u8]) -> Answe
     write_first(delimiters, text, &mut sheet, buffer)
 }
 
-// A long text, that fits on the large sheet if its lines are no longer than itself.
+// A longer one.
+fn format_middle(delimiters: Delimiters, text: &[u8], buffer: &mut [u8]) -> Answer
+    ensures { λ r. ⌜ r ≡ answer (laidIn (delimiters .bytes) (now (text .entry)) (length (now (buffer .entry)))) ⌝ }
+    ensures { λ _. ⌜ now (buffer .exit)
+        ≡ filled (laidIn (delimiters .bytes) (now (text .entry)) (length (now (buffer .entry)))) (now (buffer .entry)) ⌝ }
+{
+    let mut sheet = middle_sheet();
+    write_first(delimiters, text, &mut sheet, buffer)
+}
+
+// A long one.
 fn format_long(delimiters: Delimiters, text: &[u8], buffer: &mut [u8]) -> Answer
     ensures { λ r. ⌜ r ≡ answer (laidIn (delimiters .bytes) (now (text .entry)) (length (now (buffer .entry)))) ⌝ }
     ensures { λ _. ⌜ now (buffer .exit)
@@ -145,6 +162,9 @@ fn lay_out(delimiters: Delimiters, text: &[u8], buffer: &mut [u8]) -> Answer
 {
     if text.len() <= SHORT {
         return format_short(delimiters, text, buffer);
+    }
+    if text.len() <= MIDDLE {
+        return format_middle(delimiters, text, buffer);
     }
     if text.len() <= LONG {
         return format_long(delimiters, text, buffer);
