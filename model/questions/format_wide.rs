@@ -43,7 +43,7 @@ pub fn wide() -> Vec<Bytes> {
 
 /// What is as large as a limit.
 pub fn limits() -> Vec<Bytes> {
-    [largest_buffer(), longest_texts()].concat()
+    [largest_buffer(), longest_texts(), sizes()].concat()
 }
 
 /// A question for each choice of so many items, with a byte more than it needs; every eighth has one
@@ -384,6 +384,27 @@ fn longest_texts() -> Vec<Bytes> {
     ];
     for fault in ["|", "\\", "\r", r"\.x\", r"\.sk201\"] {
         lines.push(format(format!("{}{fault}", &words[..room - 400]).as_bytes(), room));
+    }
+    lines
+}
+
+/// Texts and lines of sizes at which a program may change its ways, just enough room for them and one
+/// byte less, and what is refused at their end.
+fn sizes() -> Vec<Bytes> {
+    let words = "seven x ".repeat(5_000);
+    let mut lines = Vec::new();
+    for size in [1_536, 2_048, 6_144, 8_192, 32_768] {
+        for length in [size - 1, size, size + 1] {
+            let text = &words.as_bytes()[..length];
+            let enough = format_length(text, USUAL_DELIMITERS);
+            lines.extend([enough, enough - 1].map(|room| format(text, room)));
+            // Lines of that many bytes, from few.
+            let ends = format!(r"{}\.sp{}\", r"\.sp200\".repeat(length / 200), length % 200);
+            lines.extend([length, length - 1].map(|room| format(ends.as_bytes(), room)));
+            for fault in ["|", r"\.sk201\"] {
+                lines.push(format(format!("{ends}{fault}").as_bytes(), length));
+            }
+        }
     }
     lines
 }

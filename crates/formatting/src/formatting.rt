@@ -124,50 +124,24 @@ fn large_sheet() -> [u8; 32_768] {
     [32; 32_768]
 }
 
-// A text whose lines go on the small sheet, where they are not much longer than itself; so with the others.
-fn format_short(delimiters: Delimiters, text: &[u8], buffer: &mut [u8]) -> Answer
-    ensures { λ r. ⌜ r ≡ answer (laidIn (delimiters .bytes) (now (text .entry)) (length (now (buffer .entry)))) ⌝ }
-    ensures { λ _. ⌜ now (buffer .exit)
-        ≡ filled (laidIn (delimiters .bytes) (now (text .entry)) (length (now (buffer .entry)))) (now (buffer .entry)) ⌝ }
-{
-    let mut sheet = small_sheet();
-    write_first(delimiters, text, &mut sheet, buffer)
-}
-
-// A longer one.
-fn format_middle(delimiters: Delimiters, text: &[u8], buffer: &mut [u8]) -> Answer
-    ensures { λ r. ⌜ r ≡ answer (laidIn (delimiters .bytes) (now (text .entry)) (length (now (buffer .entry)))) ⌝ }
-    ensures { λ _. ⌜ now (buffer .exit)
-        ≡ filled (laidIn (delimiters .bytes) (now (text .entry)) (length (now (buffer .entry)))) (now (buffer .entry)) ⌝ }
-{
-    let mut sheet = middle_sheet();
-    write_first(delimiters, text, &mut sheet, buffer)
-}
-
-// A long one.
-fn format_long(delimiters: Delimiters, text: &[u8], buffer: &mut [u8]) -> Answer
-    ensures { λ r. ⌜ r ≡ answer (laidIn (delimiters .bytes) (now (text .entry)) (length (now (buffer .entry)))) ⌝ }
-    ensures { λ _. ⌜ now (buffer .exit)
-        ≡ filled (laidIn (delimiters .bytes) (now (text .entry)) (length (now (buffer .entry)))) (now (buffer .entry)) ⌝ }
-{
-    let mut sheet = large_sheet();
-    write_first(delimiters, text, &mut sheet, buffer)
-}
-
-// Turns a text that is not null into lines, under permitted delimiters.
+// Turns a text that is not null into lines, under permitted delimiters: by way of the smallest sheet on which they go if
+// they are not much longer than the text.
 fn lay_out(delimiters: Delimiters, text: &[u8], buffer: &mut [u8]) -> Answer
     ensures { λ r. ⌜ r ≡ answer (laidIn (delimiters .bytes) (now (text .entry)) (length (now (buffer .entry)))) ⌝ }
     ensures { λ _. ⌜ now (buffer .exit)
         ≡ filled (laidIn (delimiters .bytes) (now (text .entry)) (length (now (buffer .entry)))) (now (buffer .entry)) ⌝ }
 {
     if text.len() <= SHORT {
-        return format_short(delimiters, text, buffer);
+        let mut sheet = small_sheet();
+        return write_first(delimiters, text, &mut sheet, buffer);
     }
     if text.len() <= MIDDLE {
-        return format_middle(delimiters, text, buffer);
+        let mut sheet = middle_sheet();
+        return write_first(delimiters, text, &mut sheet, buffer);
     }
     if text.len() <= LONG {
-        return format_long(delimiters, text, buffer);
+        let mut sheet = large_sheet();
+        return write_first(delimiters, text, &mut sheet, buffer);
     }
     measure_first(delimiters, text, buffer)
 }
