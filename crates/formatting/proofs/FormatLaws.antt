@@ -241,7 +241,7 @@ front-over d u =
     let n : 0 + length u ≡ length u = omega arith in
     ap (λ (k : ℕ). u ++ drop k d) n
 
--- written on a sheet p, and handed over to the buffer d
+-- written as a draft over p, and handed over to the buffer d
 module _ (ds s d p p₁ : List ℕ) (f : Judged) (m : Typesets ds s true p f p₁) (n : ℕ) (e : f ≡ Judged.Text n) where
   lines-told : (u : List ℕ) × (laidIn ds s (length p) ≡ text u) × (length u ≡ n)
   lines-told = let y = judged-text (laidIn ds s (length p)) n (sym e ∙ m .gives) in (textOf (laidIn ds s (length p)), y .0, y .1)
@@ -255,19 +255,19 @@ module _ (ds s d p p₁ : List ℕ) (f : Judged) (m : Typesets ds s true p f p�
       by true q h = let z = ap length (text-same t u h) in let l = leb-true (length t) room q in (h, omega arith)
       by false q h = absurd (not-text NoRoom 0 u h)
 
-  sheet-lines : (laidOut (itemsOf ds s) ≡ text (lines-told .0)) × (length (lines-told .0) ≤ length p)
-  sheet-lines = fit-told (laidOut (itemsOf ds s)) (lines-told .0) (length p) (lines-told .1)
+  draft-lines : (laidOut (itemsOf ds s) ≡ text (lines-told .0)) × (length (lines-told .0) ≤ length p)
+  draft-lines = fit-told (laidOut (itemsOf ds s)) (lines-told .0) (length p) (lines-told .1)
 
-  pub sheet-size : n ≤ length p₁
-  sheet-size = let a = sheet-lines .1 in let b = lines-told .2 in let c = m .size in omega arith
+  pub draft-size : n ≤ length p₁
+  draft-size = let a = draft-lines .1 in let b = lines-told .2 in let c = m .size in omega arith
 
-  pub sheet-short : length d < n → (answer (fault NoRoom 0) ≡ answer (laidIn ds s (length d))) × (d ≡ filled (laidIn ds s (length d)) d)
-  sheet-short h = let z = lines-told .2 in laid-fault ds s d NoRoom 0 (ap (fitting (length d)) (sheet-lines .0) ∙ fit-long (length d) (lines-told .0) (omega arith))
+  pub draft-short : length d < n → (answer (fault NoRoom 0) ≡ answer (laidIn ds s (length d))) × (d ≡ filled (laidIn ds s (length d)) d)
+  draft-short h = let z = lines-told .2 in laid-fault ds s d NoRoom 0 (ap (fitting (length d)) (draft-lines .0) ∙ fit-long (length d) (lines-told .0) (omega arith))
 
-  pub sheet-handed : n ≤ length d → (d₁ : List ℕ) → d₁ ≡ putAt d 0 (take n p₁) → (record { kind = None; place = 0; length = n } ≡ answer (laidIn ds s (length d))) × (d₁ ≡ filled (laidIn ds s (length d)) d)
-  sheet-handed h d₁ g =
+  pub draft-handed : n ≤ length d → (d₁ : List ℕ) → d₁ ≡ putAt d 0 (take n p₁) → (record { kind = None; place = 0; length = n } ≡ answer (laidIn ds s (length d))) × (d₁ ≡ filled (laidIn ds s (length d)) d)
+  draft-handed h d₁ g =
       let u = lines-told .0 in
       let z = lines-told .2 in
-      let r = laid-text ds s d u n (ap (fitting (length d)) (sheet-lines .0) ∙ fit-text (length d) u (omega arith)) z in
+      let r = laid-text ds s d u n (ap (fitting (length d)) (draft-lines .0) ∙ fit-text (length d) u (omega arith)) z in
       let held : take n p₁ ≡ u = ap (take n) (m .holds u (lines-told .1) refl) ∙ take-at u (drop (length u) p) n z in
       (r .0, g ∙ ap (putAt d 0) held ∙ put-fits d u 0 (omega arith) .1 ∙ front-over d u ∙ r .1)

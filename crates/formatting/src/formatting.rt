@@ -1,4 +1,5 @@
-// What becomes of a formatted text: its lines are measured first, so that a refusal writes nothing, and then written.
+// What becomes of a formatted text. A refusal writes nothing, and is known only at the end: so the lines are written as a
+// draft first, in memory of our own, or where there is not enough of it measured first, and then written.
 use crate::laying::lay;
 use crate::page::Page;
 use crate::page::first_page;
@@ -17,7 +18,7 @@ ghost use Rattle.formatting.specs.Pages.{Sound};
 ghost use Rattle.formatting.specs.Laying.{Finishes, concluded, laidIn, Typesets};
 ghost use Rattle.formatting.specs.Formatting.{formatting};
 
-// The longest texts whose lines are first written on the small sheet, the middle one and the large one.
+// The longest texts whose lines are first written as a small draft, a middle one and a large one.
 const SHORT: usize = 1_536;
 
 const MIDDLE: usize = 6_144;
@@ -89,20 +90,20 @@ fn measure_first(delimiters: Delimiters, text: &[u8], buffer: &mut [u8]) -> Answ
     }
 }
 
-// Writes the lines on a sheet of our own, and hands them over: where they fit there, the text is walked once.
-fn write_first(delimiters: Delimiters, text: &[u8], sheet: &mut [u8], buffer: &mut [u8]) -> Answer
+// Writes the lines into memory of our own, as a draft, and hands them over: where they fit there, the text is walked once.
+fn draft_first(delimiters: Delimiters, text: &[u8], draft: &mut [u8], buffer: &mut [u8]) -> Answer
     ensures { λ r. ⌜ r ≡ answer (laidIn (delimiters .bytes) (now (text .entry)) (length (now (buffer .entry)))) ⌝ }
     ensures { λ _. ⌜ now (buffer .exit)
         ≡ filled (laidIn (delimiters .bytes) (now (text .entry)) (length (now (buffer .entry)))) (now (buffer .entry)) ⌝ }
 {
-    let found = typeset(delimiters, text, true, sheet);
+    let found = typeset(delimiters, text, true, draft);
     let Judged::Text(n) = found else {
         return measure_first(delimiters, text, buffer);
     };
     if buffer.len() < n {
         return refused(Refusal::NoRoom, 0);
     }
-    alphabet::put(buffer, 0, &sheet[..n]);
+    alphabet::put(buffer, 0, &draft[..n]);
     Answer {
         kind: Refusal::None,
         place: 0,
@@ -110,21 +111,21 @@ fn write_first(delimiters: Delimiters, text: &[u8], sheet: &mut [u8], buffer: &m
     }
 }
 
-// Sheets of three sizes, since a short text should not wait for a large one to be cleared. What they are filled with does
-// not matter.
-fn small_sheet() -> [u8; 2_048] {
+// Room for drafts, of three sizes, since a short text should not wait for a large one to be cleared. What it is filled
+// with does not matter.
+fn small_draft() -> [u8; 2_048] {
     [32; 2_048]
 }
 
-fn middle_sheet() -> [u8; 8_192] {
+fn middle_draft() -> [u8; 8_192] {
     [32; 8_192]
 }
 
-fn large_sheet() -> [u8; 32_768] {
+fn large_draft() -> [u8; 32_768] {
     [32; 32_768]
 }
 
-// Turns a text that is not null into lines, under permitted delimiters: by way of the smallest sheet on which they go if
+// Turns a text that is not null into lines, under permitted delimiters: by way of the smallest draft that holds them if
 // they are not much longer than the text.
 fn lay_out(delimiters: Delimiters, text: &[u8], buffer: &mut [u8]) -> Answer
     ensures { λ r. ⌜ r ≡ answer (laidIn (delimiters .bytes) (now (text .entry)) (length (now (buffer .entry)))) ⌝ }
@@ -132,16 +133,16 @@ fn lay_out(delimiters: Delimiters, text: &[u8], buffer: &mut [u8]) -> Answer
         ≡ filled (laidIn (delimiters .bytes) (now (text .entry)) (length (now (buffer .entry)))) (now (buffer .entry)) ⌝ }
 {
     if text.len() <= SHORT {
-        let mut sheet = small_sheet();
-        return write_first(delimiters, text, &mut sheet, buffer);
+        let mut draft = small_draft();
+        return draft_first(delimiters, text, &mut draft, buffer);
     }
     if text.len() <= MIDDLE {
-        let mut sheet = middle_sheet();
-        return write_first(delimiters, text, &mut sheet, buffer);
+        let mut draft = middle_draft();
+        return draft_first(delimiters, text, &mut draft, buffer);
     }
     if text.len() <= LONG {
-        let mut sheet = large_sheet();
-        return write_first(delimiters, text, &mut sheet, buffer);
+        let mut draft = large_draft();
+        return draft_first(delimiters, text, &mut draft, buffer);
     }
     measure_first(delimiters, text, buffer)
 }

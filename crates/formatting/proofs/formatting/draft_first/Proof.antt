@@ -1,13 +1,13 @@
--- Rests on lines that were written on a sheet, and handed over.
+-- Rests on lines that were written as a draft, and handed over.
 use mathlib.Core.Path.{sym, _∙_}
 use native.Mathlib.Omega.{arith}
 use lib.Seq.{length-take-le}
 use denote.Ref.{now}
 use borrow.Author.Needs.{needs}
 use Rattle.escaping.specs.Outcomes.{answer}
-use Rattle.formatting.proofs.FormatLaws.{sheet-size, sheet-short, sheet-handed}
-use Rattle.formatting.proofs.formatting.write_first.Statement.{statement}
-use Rattle.formatting.proofs.formatting.write_first.Tie as tie
+use Rattle.formatting.proofs.FormatLaws.{draft-size, draft-short, draft-handed}
+use Rattle.formatting.proofs.formatting.draft_first.Statement.{statement}
+use Rattle.formatting.proofs.formatting.draft_first.Tie as tie
 
 returns-2 : tie.Need-returns-2
 unfolding answer
@@ -15,7 +15,7 @@ returns-2 c =
     let k = c .before .before .before .before .before .before .before in
     let a = k .before .before .before .before .before .args in
     let g = c .before .before .before .found .given in
-    let r = sheet-short (a .delimiters .bytes) (now (a .text)) (now (a .buffer)) (now (a .sheet)) _ (k .typeset .result) (k .typeset .ensures) (g .0 .0) (g .1) (c .before .if1 .taken) in
+    let r = draft-short (a .delimiters .bytes) (now (a .text)) (now (a .buffer)) (now (a .draft)) _ (k .typeset .result) (k .typeset .ensures) (g .0 .0) (g .1) (c .before .if1 .taken) in
     (c .refused .ensures ∙ r .0, r .1)
 
 slice-reshare-prefix-put : tie.Need-slice-reshare-prefix-put
@@ -23,7 +23,7 @@ slice-reshare-prefix-put c =
     let k = c .before .before .before .before .before .before .before in
     let a = k .before .before .before .before .before .args in
     let g = c .before .before .before .found .given in
-    sheet-size (a .delimiters .bytes) (now (a .text)) (now (a .buffer)) (now (a .sheet)) _ (k .typeset .result) (k .typeset .ensures) (g .0 .0) (g .1)
+    draft-size (a .delimiters .bytes) (now (a .text)) (now (a .buffer)) (now (a .draft)) _ (k .typeset .result) (k .typeset .ensures) (g .0 .0) (g .1)
 
 slice-aggregate-put : tie.Need-slice-aggregate-put
 slice-aggregate-put c =
@@ -35,10 +35,10 @@ returns-3 c =
     let k = c .before .before .before .before .before .before .before .before .before .before .before in
     let a = k .before .before .before .before .before .args in
     let g = c .before .before .before .before .before .before .before .found .given in
-    sheet-handed (a .delimiters .bytes) (now (a .text)) (now (a .buffer)) (now (a .sheet)) _ (k .typeset .result) (k .typeset .ensures) (g .0 .0) (g .1) (let h = c .before .before .before .before .before .if1 .left in omega arith) _ (c .before .before .put .ensures .1)
+    draft-handed (a .delimiters .bytes) (now (a .text)) (now (a .buffer)) (now (a .draft)) _ (k .typeset .result) (k .typeset .ensures) (g .0 .0) (g .1) (let h = c .before .before .before .before .before .if1 .left in omega arith) _ (c .before .before .put .ensures .1)
 
-pub write-first-spec : {M : Type 1} → statement M
-write-first-spec =
+pub draft-first-spec : {M : Type 1} → statement M
+draft-first-spec =
     tie.close
     (tie.spec
     (λ c κs. search needs)
