@@ -233,7 +233,8 @@ turrethog_answer turrethog_unescape(uint8_t field, uint8_t component, uint8_t re
  *
  * 42, with place 0, is a number out of its range (0 to 200; -200 to 200 for .in and .ti), a margin below 0 or over 200, a word that does
  * not go into a line, or an unfilled line of over 200 bytes. It is looked for only where there is no other fault but 14. The result may be
- * longer than the text: up to 200 LF for the eight bytes of \.sp200\, and a margin's blanks for each line. */
+ * longer than the text: up to 200 LF for the eight bytes of \.sp200\, and a margin's blanks for each line. Up to 48 KiB of stack are
+ * taken, whatever the text. */
 turrethog_answer turrethog_format(uint8_t field, uint8_t component, uint8_t repetition, uint8_t escape, uint8_t subcomponent,
                                   const uint8_t *text, size_t length, uint8_t *buffer, size_t room);
 

@@ -174,7 +174,7 @@ append-follows c c′ t d u t′ f h n e g q =
     let x = settled-same g in
     subst (λ (v : List ℕ). Follows (map byte u) c t d c′ v d) (sym q)
     (record {
-      sound = record { slight = settled-slight c u h (f .slight) g; place = subst (λ (k : ℕ). k ≤ length d) (sym (x .2)) (f .place); broad = down-length c t u (f .broad) h };
+      sound = record { slight = settled-slight c u h (f .slight) g; place = subst (λ (k : ℕ). k ≤ length d) (sym (x .2)) (f .place); broad = down-length c t u (f .broad) };
       writes = x .0;
       size = refl;
       still = λ (w : c .writes ≡ false). refl;

@@ -16,7 +16,8 @@ use Rattle.formatting.specs.Sheet.{Sheet, blanks, isEmpty, shown, lead, 
 use Rattle.formatting.specs.Pages.{leadOf, reachOf, Slight, newLine, indentOf, outWith, shownOf, Output, Wrote, ahead, Matches, Sound, Wraps}
 use Rattle.formatting.proofs.SheetLaws.{ahead-length}
 use Rattle.formatting.proofs.PageLaws.{reach-exact, reach-least, some-length, lead-most}
-use Rattle.formatting.proofs.LineLaws.{begins-more, put-length}
+use Rattle.formatting.proofs.OutputLaws.{put-length}
+use Rattle.formatting.proofs.LineLaws.{begins-more}
 
 -- ---- the word's bytes
 
@@ -34,7 +35,7 @@ kept-part k l k′ from word n e h b f =
 pub moved-word : (t w t′ t″ : List ℕ) (n : ℕ) → length t ≡ 200 → n + length w ≤ 200 → t′ ≡ putAt t 0 (blanks n) → t″ ≡ putAt t′ n w → take (length (blanks n ++ w)) t″ ≡ blanks n ++ w
 moved-word t w t′ t″ n b h e f =
     let l = length-replicate {A = ℕ} n 32 in
-    let a = ap length e ∙ put-length t (blanks n) 0 (omega arith) in
+    let a = ap length e ∙ put-length t (blanks n) 0 in
     ap (take (length (blanks n ++ w))) (f ∙ put-fits t′ w n (omega arith) .1)
     ∙ begins-more t′ (blanks n) w n (sym l) (ap (take n) (e ∙ put-fits t (blanks n) 0 (omega arith) .1) ∙ take-at (blanks n) (drop (0 + length (blanks n)) t) n l) (omega arith)
 

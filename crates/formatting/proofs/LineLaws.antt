@@ -12,7 +12,7 @@ use Rattle.alphabet.proofs.FillingLaws.{put-fits}
 use Rattle.formatting.specs.Sheet.{Sheet, blanks, isEmpty, lead}
 use Rattle.formatting.specs.declared.page.Page.{Page}
 use Rattle.formatting.specs.Pages.{leadOf, reachOf, ahead, Matches}
-use Rattle.formatting.proofs.OutputLaws.{pasted-length}
+use Rattle.formatting.proofs.OutputLaws.{put-length}
 use Rattle.formatting.proofs.SheetLaws.{ahead-length}
 use Rattle.formatting.proofs.PageLaws.{reach-exact, empty-is}
 
@@ -34,19 +34,12 @@ pasted-same t xs ys n e f =
     ap (λ (v : List ℕ). v ++ ys ++ drop (n + length ys) t) (ap (λ (k : ℕ). take k t) e ∙ begins-less t xs ys f)
     ∙ ap (λ (k : ℕ). xs ++ ys ++ drop k t) m ∙ ap (λ (v : List ℕ). v ++ drop (length (xs ++ ys)) t) (sym f) ∙ take-append-drop (length (xs ++ ys)) t
 
-pub put-length : (t ys : List ℕ) (n : ℕ) → n + length ys ≤ length t → length (putAt t n ys) ≡ length t
-put-length t ys n h = ap length (put-fits t ys n h .1) ∙ pasted-length t ys n h
-
 -- the blanks that are owed, and bytes behind them
 abbrev pub putDown : Page → List ℕ → List ℕ → List ℕ
 putDown c t u = putAt (putAt t (c .line) (blanks (leadOf c))) (reachOf c) u
 
-pub down-length : (c : Page) (t u : List ℕ) → length t ≡ 200 → reachOf c + length u ≤ 200 → length (putDown c t u) ≡ 200
-unfolding reachOf
-down-length c t u b h =
-    let n = length-replicate {A = ℕ} (leadOf c) 32 in
-    let a = put-length t (blanks (leadOf c)) (c .line) (omega arith) in
-    put-length (putAt t (c .line) (blanks (leadOf c))) u (reachOf c) (omega arith) ∙ a ∙ b
+pub down-length : (c : Page) (t u : List ℕ) → length t ≡ 200 → length (putDown c t u) ≡ 200
+down-length c t u b = put-length (putAt t (c .line) (blanks (leadOf c))) u (reachOf c) ∙ put-length t (blanks (leadOf c)) (c .line) ∙ b
 
 module _ {d₀ : List ℕ} {s : Sheet} {c : Page} {t d : List ℕ} (m : Matches d₀ s c t d) (u : List ℕ) (broad : length t ≡ 200) (h : reachOf c + length u ≤ 200) where
   exact : (length (ahead s) ≡ reachOf c) × (lead s ≡ leadOf c)
@@ -59,8 +52,7 @@ module _ {d₀ : List ℕ} {s : Sheet} {c : Page} {t d : List ℕ} (m : Matches 
       put-fits t (blanks (leadOf c)) (c .line) (omega arith) .1 ∙ ap₂ (λ (x y : ℕ). pasted t x (blanks y)) (m .line) (sym (exact .1))
 
   first-length : length (putAt t (c .line) (blanks (leadOf c))) ≡ 200
-  unfolding reachOf
-  first-length = let n = length-replicate {A = ℕ} (leadOf c) 32 in put-length t (blanks (leadOf c)) (c .line) (omega arith) ∙ broad
+  first-length = put-length t (blanks (leadOf c)) (c .line) ∙ broad
 
   abbrev front : List ℕ
   front = s .line ++ blanks (lead s)

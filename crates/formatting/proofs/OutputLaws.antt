@@ -23,6 +23,14 @@ pasted-length d xs at h =
     let m = length-take-le at d (omega arith) in
     fill-length (fill-more xs [] (pasted d at xs) (at + length xs) (fill-from xs d at (omega arith)) (sym (append-nil xs)) refl refl) (omega arith)
 
+pub put-length : (d xs : List ℕ) (at : ℕ) → length (putAt d at xs) ≡ length d
+unfolding putAt
+put-length d xs at = by (leb (at + length xs) (length d)) refl
+  where
+    by : (t : Bool) → leb (at + length xs) (length d) ≡ t → length (cond t (pasted d at xs) d) ≡ length d
+    by true e = pasted-length d xs at (leb-true (at + length xs) (length d) e)
+    by false e = refl
+
 over-more : (d₀ out xs d : List ℕ) (at : ℕ) → at ≡ length out → d ≡ over out d₀ → pasted d at xs ≡ over (out ++ xs) d₀
 over-more d₀ out xs d at e f =
     fill-end
@@ -139,14 +147,6 @@ module _ (xs d : List ℕ) (c : Page) (h : c .place ≤ length d) where
       by false q = let z = e ∙ spent-fits n (length d) c q in z ∙ ap (λ (k : Page). outWith (k .place) (k .short) c) (sym z)
 
 -- ---- a line, as it is shown
-
-put-length : (d xs : List ℕ) (at : ℕ) → length (putAt d at xs) ≡ length d
-unfolding putAt
-put-length d xs at = by (leb (at + length xs) (length d)) refl
-  where
-    by : (t : Bool) → leb (at + length xs) (length d) ≡ t → length (cond t (pasted d at xs) d) ≡ length d
-    by true e = pasted-length d xs at (leb-true (at + length xs) (length d) e)
-    by false e = refl
 
 pub kept-length : (w : Bool) (d xs : List ℕ) (at : ℕ) → length (cond w (putAt d at xs) d) ≡ length d
 kept-length true d xs at = put-length d xs at
