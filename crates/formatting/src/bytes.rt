@@ -56,7 +56,8 @@ fn smaller(a: usize, b: usize) -> usize
     if a < b { a } else { b }
 }
 
-// Bytes that stand plainly and go on past the line's end: as many at each turn as fit on the line, or one where none fits.
+// Bytes that stand plainly and go on past the line's end: as many at each turn as fit on the line, or one where none
+// fits.
 fn take_long(page: Page, line: &mut [u8], buffer: &mut [u8], run: &[u8]) -> Page
     requires { ⌜ (Sound page (now line) (now buffer)) × (clear (now run) ≡ true) ⌝ }
     ensures { λ r. ⌜ Follows (map byte (now (run .entry))) page (now (line .entry)) (now (buffer .entry)) r

@@ -1,5 +1,5 @@
-// What becomes of a formatted text. A refusal writes nothing, and is known only at the end: so the lines are written as a
-// draft first, in memory of our own, or where there is not enough of it measured first, and then written.
+// What becomes of a formatted text. A refusal writes nothing, and is known only at the end: so the lines are written as
+// a draft first, in memory of our own, or where there is not enough of it measured first, and then written.
 use crate::laying::lay;
 use crate::page::Page;
 use crate::page::first_page;
@@ -74,7 +74,8 @@ fn typeset(delimiters: Delimiters, text: &[u8], writes: bool, buffer: &mut [u8])
 fn measure_first(delimiters: Delimiters, text: &[u8], buffer: &mut [u8]) -> Answer
     ensures { λ r. ⌜ r ≡ answer (laidIn (delimiters .bytes) (now (text .entry)) (length (now (buffer .entry)))) ⌝ }
     ensures { λ _. ⌜ now (buffer .exit)
-        ≡ filled (laidIn (delimiters .bytes) (now (text .entry)) (length (now (buffer .entry)))) (now (buffer .entry)) ⌝ }
+        ≡ filled (laidIn (delimiters .bytes) (now (text .entry)) (length (now (buffer .entry))))
+        (now (buffer .entry)) ⌝ }
 {
     let found = typeset(delimiters, text, false, buffer);
     match found {
@@ -90,11 +91,13 @@ fn measure_first(delimiters: Delimiters, text: &[u8], buffer: &mut [u8]) -> Answ
     }
 }
 
-// Writes the lines into memory of our own, as a draft, and hands them over: where they fit there, the text is walked once.
+// Writes the lines into memory of our own, as a draft, and hands them over: where they fit there, the text is walked
+// once.
 fn draft_first(delimiters: Delimiters, text: &[u8], draft: &mut [u8], buffer: &mut [u8]) -> Answer
     ensures { λ r. ⌜ r ≡ answer (laidIn (delimiters .bytes) (now (text .entry)) (length (now (buffer .entry)))) ⌝ }
     ensures { λ _. ⌜ now (buffer .exit)
-        ≡ filled (laidIn (delimiters .bytes) (now (text .entry)) (length (now (buffer .entry)))) (now (buffer .entry)) ⌝ }
+        ≡ filled (laidIn (delimiters .bytes) (now (text .entry)) (length (now (buffer .entry))))
+        (now (buffer .entry)) ⌝ }
 {
     let found = typeset(delimiters, text, true, draft);
     let Judged::Text(n) = found else {
@@ -130,7 +133,8 @@ fn large_draft() -> [u8; 32_768] {
 fn lay_out(delimiters: Delimiters, text: &[u8], buffer: &mut [u8]) -> Answer
     ensures { λ r. ⌜ r ≡ answer (laidIn (delimiters .bytes) (now (text .entry)) (length (now (buffer .entry)))) ⌝ }
     ensures { λ _. ⌜ now (buffer .exit)
-        ≡ filled (laidIn (delimiters .bytes) (now (text .entry)) (length (now (buffer .entry)))) (now (buffer .entry)) ⌝ }
+        ≡ filled (laidIn (delimiters .bytes) (now (text .entry)) (length (now (buffer .entry))))
+        (now (buffer .entry)) ⌝ }
 {
     if text.len() <= SHORT {
         let mut draft = small_draft();

@@ -10,8 +10,8 @@ ghost use Rattle.formatting.specs.Pages.{indentOf, positionOf, closed};
 // How many bytes a line has at the most.
 pub const WIDTH: usize = 200;
 
-// The state of the layout. What is owed and where a line begins are held at 201, which fits on no line. The numbers stand
-// before what is true or false, so that the compiler has no gaps between them to copy.
+// The state of the layout. What is owed and where a line begins are held at 201, which fits on no line. The numbers
+// stand before what is true or false, so that the compiler has no gaps between them to copy.
 pub struct Page {
     // how many bytes were written
     pub place: usize,
