@@ -1,5 +1,5 @@
--- What a sequence asks for: its parts, the digits of its number along a loop, and that a number held at 201 is read as
--- the exact one is. Assumes nothing.
+-- What a sequence asks for: its parts, the digits of its number along a loop, that a number held at 201 is read as the
+-- exact one is, and what is asked for by the length of the sequence. Assumes nothing.
 use mathlib.Core.Logic.{_⊎_, inl, inr, ⊎-elim}
 use mathlib.Core.Path.{_≡_, refl, sym, ap, _∙_}
 use mathlib.Core.List.{List, [], _∷_}
@@ -8,6 +8,7 @@ use Prim.Native.Nat.{ℕ, zero, suc, _+_, _-_, _*_, _≤_, _<_}
 use native.Mathlib.Omega.{arith}
 use lib.Dec.{ltb, eqb}
 use lib.ListN.{length, getD, take, drop, drop-of-length-le}
+use lib.Seq.{take-all}
 use borrow.Author.Tests.{lt-ltb, le-ltb, ltb-true, ltb-false}
 use Rattle.alphabet.specs.Bytes.{digit}
 use Rattle.alphabet.specs.Digits.{allDigits, counted, decimal}
@@ -23,12 +24,6 @@ use Rattle.format_commands.specs.declared.orders.Order.{Order}
 use Rattle.format_commands.specs.declared.orders.Order.the-variants.{Unknown, Highlight, Break, Centre, Fill, Unfill, Down, Across, Margin, Once}
 
 -- ---- parts
-
-pub take-all : (n : ℕ) (l : List ℕ) → length l ≤ n → take n l ≡ l
-take-all zero [] h = refl
-take-all (suc n) [] h = refl
-take-all zero (x ∷ r) h = absurd (omega arith)
-take-all (suc n) (x ∷ r) h = ap (λ (t : List ℕ). x ∷ t) (take-all n r (omega arith))
 
 pub past-yes : (t : Bool) (l : List ℕ) → t ≡ true → pastIf t l ≡ drop 1 l
 past-yes t l e = rw e
@@ -95,10 +90,6 @@ digits-good m [] h e = absurd (omega arith)
 digits-good m (d ∷ r) h e = rw e
 
 -- ---- held numbers
-
-pub held-one : heldSize 1 ≡ 1
-unfolding heldSize
-held-one = refl
 
 pub held-own : (n : ℕ) → n ≤ 201 → heldSize n ≡ n
 held-own n k =

@@ -10,7 +10,7 @@ use lib.Seq.{take-at}
 use borrow.Author.Tests.{lt-ltb, le-ltb, le-leb, lt-leb, leb-true}
 use Rattle.alphabet.specs.Bytes.{isNull}
 use Rattle.alphabet.specs.Delimiters.{firstWrongDelimiter}
-use Rattle.alphabet.specs.Filling.{over, pasted, putAt}
+use Rattle.alphabet.specs.Filling.{over, putAt}
 use Rattle.alphabet.proofs.FillingLaws.{put-fits}
 use Rattle.alphabet.specs.declared.answers.Refusal.{Refusal}
 use Rattle.alphabet.specs.declared.answers.Refusal.the-variants.{None, Delimiter, NoRoom, NullText, Layout}
@@ -30,6 +30,7 @@ use Rattle.formatting.specs.Sheet.{Sheet, atFirst, laid, unfit, isEmpty,
 use Rattle.formatting.specs.Formatting.{told, laidOut, formatting}
 use Rattle.formatting.specs.Pages.{firstPage, closed, outWith, shownOf, Output, Wrote, Matches, Sound, Reaches, at, nowhere}
 use Rattle.formatting.specs.Laying.{foundOf, Lays, Finishes, concluded, laidIn, Typesets}
+use Rattle.formatting.proofs.OutputLaws.{over-more}
 use Rattle.formatting.proofs.EndLaws.{shown-is}
 use Rattle.formatting.proofs.ActLaws.{closed-same, closes, Closes}
 
@@ -235,12 +236,6 @@ module _ (ds s d d₁ : List ℕ) (f : Judged) (m : Typesets ds s false d f d₁
       let same : d₁ ≡ d = m .still refl in
       (r .0, w .holds u (ap (λ (v : List ℕ). laidIn ds s (length v)) same ∙ y .0) refl ∙ ap (over u) same ∙ r .1)
 
--- what is put at the front
-front-over : (d u : List ℕ) → pasted d 0 u ≡ over u d
-front-over d u =
-    let n : 0 + length u ≡ length u = omega arith in
-    ap (λ (k : ℕ). u ++ drop k d) n
-
 -- written as a draft over p, and handed over to the buffer d
 module _ (ds s d p p₁ : List ℕ) (f : Judged) (m : Typesets ds s true p f p₁) (n : ℕ) (e : f ≡ Judged.Text n) where
   lines-told : (u : List ℕ) × (laidIn ds s (length p) ≡ text u) × (length u ≡ n)
@@ -270,4 +265,4 @@ module _ (ds s d p p₁ : List ℕ) (f : Judged) (m : Typesets ds s true p f p�
       let z = lines-told .2 in
       let r = laid-text ds s d u n (ap (fitting (length d)) (draft-lines .0) ∙ fit-text (length d) u (omega arith)) z in
       let held : take n p₁ ≡ u = ap (take n) (m .holds u (lines-told .1) refl) ∙ take-at u (drop (length u) p) n z in
-      (r .0, g ∙ ap (putAt d 0) held ∙ put-fits d u 0 (omega arith) .1 ∙ front-over d u ∙ r .1)
+      (r .0, g ∙ ap (putAt d 0) held ∙ put-fits d u 0 (omega arith) .1 ∙ over-more d [] u d 0 refl refl ∙ r .1)

@@ -17,7 +17,7 @@ use Rattle.formatting.specs.Pages.{outWith, newLine, spentOf, indentOf, 
 
 -- ---- into a buffer
 
-pub pasted-length : (d xs : List ℕ) (at : ℕ) → at + length xs ≤ length d → length (pasted d at xs) ≡ length d
+pasted-length : (d xs : List ℕ) (at : ℕ) → at + length xs ≤ length d → length (pasted d at xs) ≡ length d
 pasted-length d xs at h =
     let n = length-append (take at d) xs in
     let m = length-take-le at d (omega arith) in
@@ -31,7 +31,11 @@ put-length d xs at = by (leb (at + length xs) (length d)) refl
     by true e = pasted-length d xs at (leb-true (at + length xs) (length d) e)
     by false e = refl
 
-over-more : (d₀ out xs d : List ℕ) (at : ℕ) → at ≡ length out → d ≡ over out d₀ → pasted d at xs ≡ over (out ++ xs) d₀
+pub kept-length : (w : Bool) (d xs : List ℕ) (at : ℕ) → length (cond w (putAt d at xs) d) ≡ length d
+kept-length true d xs at = put-length d xs at
+kept-length false d xs at = refl
+
+pub over-more : (d₀ out xs d : List ℕ) (at : ℕ) → at ≡ length out → d ≡ over out d₀ → pasted d at xs ≡ over (out ++ xs) d₀
 over-more d₀ out xs d at e f =
     fill-end
     (fill-more {W = out ++ xs} {d₀ = d₀} {rest₀ = xs} {d = d} {o = at} xs [] (pasted d at xs) (at + length xs)
@@ -73,15 +77,15 @@ spent-fits : (n room : ℕ) (c : Page) → ltb (room - c .place) n ≡ false →
 unfolding spentOf
 spent-fits n room c e = rw e
 
-either : (t : Bool) (x y : List ℕ) → cond t x x ≡ x
-either true x y = refl
-either false x y = refl
+either : (t : Bool) (x : List ℕ) → cond t x x ≡ x
+either true x = refl
+either false x = refl
 
 module _ (xs d : List ℕ) (c : Page) (h : c .place ≤ length d) where
   short-wrote : (d′ : List ℕ) → ltb (length d - c .place) (length xs) ≡ true → d′ ≡ cond (c .writes) (putAt d (c .place) xs) d → Wrote xs c d (outWith (c .place) true c) d′
   short-wrote d′ e f =
       let l = ltb-true (length d - c .place) (length xs) e in
-      let same : d′ ≡ d = f ∙ ap (λ (v : List ℕ). cond (c .writes) v d) (put-none d xs (c .place) (omega arith) .1) ∙ either (c .writes) d d in
+      let same : d′ ≡ d = f ∙ ap (λ (v : List ℕ). cond (c .writes) v d) (put-none d xs (c .place) (omega arith) .1) ∙ either (c .writes) d in
       let z = ap length same in
       record {
         within = omega arith;
@@ -107,7 +111,7 @@ module _ (xs d : List ℕ) (c : Page) (h : c .place ≤ length d) where
   fits-wrote : (d′ : List ℕ) → ltb (length d - c .place) (length xs) ≡ false → d′ ≡ cond (c .writes) (putAt d (c .place) xs) d → Wrote xs c d (outWith (c .place + length xs) (c .short) c) d′
   fits-wrote d′ e f =
       let l = ltb-false (length d - c .place) (length xs) e in
-      let z = size in
+      let z = ap length f ∙ kept-length (c .writes) d xs (c .place) in
       record {
         within = omega arith;
         size = z;
@@ -123,13 +127,6 @@ module _ (xs d : List ℕ) (c : Page) (h : c .place ≤ length d) where
     where
       fitted : putAt d (c .place) xs ≡ pasted d (c .place) xs
       fitted = let l = ltb-false (length d - c .place) (length xs) e in put-fits d xs (c .place) (omega arith) .1
-
-      sized : (t : Bool) → length (cond t (putAt d (c .place) xs) d) ≡ length d
-      sized true = let l = ltb-false (length d - c .place) (length xs) e in ap length fitted ∙ pasted-length d xs (c .place) (omega arith)
-      sized false = refl
-
-      size : length d′ ≡ length d
-      size = ap length f ∙ sized (c .writes)
 
   pub wrote : (c′ : Page) (d′ : List ℕ) → c′ ≡ spentOf (length xs) (length d) c → d′ ≡ cond (c .writes) (putAt d (c .place) xs) d → Wrote xs c d c′ d′
   wrote c′ d′ e f = by (ltb (length d - c .place) (length xs)) refl
@@ -147,10 +144,6 @@ module _ (xs d : List ℕ) (c : Page) (h : c .place ≤ length d) where
       by false q = let z = e ∙ spent-fits n (length d) c q in z ∙ ap (λ (k : Page). outWith (k .place) (k .short) c) (sym z)
 
 -- ---- a line, as it is shown
-
-pub kept-length : (w : Bool) (d xs : List ℕ) (at : ℕ) → length (cond w (putAt d at xs) d) ≡ length d
-kept-length true d xs at = put-length d xs at
-kept-length false d xs at = refl
 
 -- the line and LFs behind it are written, and counted
 pub shown-wrote : (c c′ : Page) (t d d′ : List ℕ) (i n : ℕ) → c .place ≤ length d → length (take (c .line) t) ≡ c .line → i ≡ indentOf c
