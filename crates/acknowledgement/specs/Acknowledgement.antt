@@ -86,7 +86,7 @@ acknowledgement h time id letters errors =
 
 -- ---- the refusals
 
--- 17: "caller's ID not 1 to 20 bytes"
+-- 17: "caller's ID not 1 to 199 bytes"
 abbrev pub badId : List ℕ → Bool
 badId id = eqb (length id) 0 || ltb idLimit (length id)
 
@@ -95,7 +95,7 @@ passes Passes = true
 passes (Fails kind place) = false
 
 -- 9: "the header (through the first CR) is missing that CR or has fault 1 to 4 itself; type ACK; MSH-10, the whole
--- field, not present or over 20 bytes"
+-- field, not present or over 199 bytes"
 unfoldable pub acknowledgeable : List ℕ → Bool
 acknowledgeable m =
     ltb (find carriageReturn m) (length m)
@@ -103,7 +103,7 @@ acknowledgeable m =
     && (not (same (typePart (header m) 1) (ascii "ACK"))
     && (present (header m) (sent (header m) 10) && leb (length (sent (header m) 10)) idLimit)))
 
--- 10: "acknowledgement longer than the buffer or 32,768"; its place is 0. By W4 it "now counts the ERR bytes": w has
+-- 10: "acknowledgement longer than the buffer or 1,048,576"; its place is 0. By W4 it "now counts the ERR bytes": w has
 -- them
 unfoldable pub roomy : ℕ → List ℕ → Outcome ℕ
 roomy room w = cond (leb (length w) room && leb (length w) messageLimit) (text w) (fault AcknowledgementTooLong 0)

@@ -1,13 +1,13 @@
 // The limits, once for the whole library. Code asks these functions and proofs cite their names, so a new figure
-// changes this file and specs/Limits.antt, and of the rest only the buffer of the command and what is said to C.
+// changes this file and specs/Limits.antt, and of the rest only what is said to people and to C.
 ghost use mathlib.Core.Path.{_≡_};
 ghost use Rattle.alphabet.specs.Limits.{messageLimit, segmentLimit, idLimit};
 
-const MESSAGE: usize = 32768;
+const MESSAGE: usize = 1_048_576;
 
-const SEGMENTS: usize = 256;
+const SEGMENTS: usize = 4096;
 
-const ID: usize = 20;
+const ID: usize = 199;
 
 // The most bytes that a message may have.
 pub fn message_limit() -> usize

@@ -1,6 +1,6 @@
 // Where the segment at fault stands, and which one of its name it is. One walk tells both: it keeps the names that it
-// passes, and counts them when it knows the name that is asked for. A place past the room for names, which no message
-// that was read has, takes two walks.
+// passes, and counts them when it knows the name that is asked for. There is room for few names and for many, since room
+// has to be cleared; a place past both, which no message that was read has, takes two walks.
 use alphabet::Part;
 ghost use mathlib.Core.Path.{_≡_};
 ghost use mathlib.Core.List.{_++_};
@@ -11,6 +11,11 @@ ghost use Rattle.structure.specs.SegmentNames.{segmentNames};
 ghost use Rattle.error_segment.specs.Errors.{faulty, countOf};
 ghost use Rattle.error_segment.specs.Pieces.{LocatedAt};
 
+// How many names there is room for.
+const FEW: usize = 256;
+
+const MANY: usize = 4096;
+
 // Where a segment stands, from 0 to 0 where there is none, and how many of its name stand up to and with it.
 pub struct Located {
     pub start: usize,
@@ -18,11 +23,19 @@ pub struct Located {
     pub sequence: usize,
 }
 
-// Room for the names that a walk passes. By a call of its own it is no list of so many numbers in the caller's proof.
-fn name_room() -> [u32; 256]
+// Room for the names that a walk passes. By a call of its own it is no list of so many numbers in the caller's proof, nor
+// is the next.
+fn room_for_few() -> [u32; FEW]
     ensures { λ r. ⌜ length r ≡ 256 ⌝ }
 {
-    [0; 256]
+    [0; FEW]
+}
+
+// Room for as many as a message may have segments.
+fn room_for_many() -> [u32; MANY]
+    ensures { λ r. ⌜ length r ≡ 4096 ⌝ }
+{
+    [0; MANY]
 }
 
 // How many of some names are this one.
@@ -53,7 +66,7 @@ fn located_nowhere(names: &[u32]) -> Located
 
 // The segment that begins at `start`, behind those that have these names.
 fn located_at(message: &[u8], start: usize, names: &[u32]) -> Located
-    requires { ⌜ length (now names) < 256 ⌝ }
+    requires { ⌜ length (now names) ≤ 4096 ⌝ }
     ensures { λ r. ⌜ (r .start ≤ r .end) × (r .end ≤ length (now (message .entry)))
         × (take (r .end - r .start) (drop (r .start) (now (message .entry)))
         ≡ faulty (drop start (now (message .entry))) 0)
@@ -73,12 +86,12 @@ fn located_at(message: &[u8], start: usize, names: &[u32]) -> Located
     }
 }
 
-// The segment of a number, from 0, for which there is room for the names before it: one walk.
-fn locate_near(message: &[u8], place: usize) -> Located
-    requires { ⌜ place < 256 ⌝ }
+// The segment of a number, from 0, where there is room for the names before it: one walk.
+fn locate_near(message: &[u8], place: usize, names: &mut [u32]) -> Located
+    requires { ⌜ place ≤ length (now names) ⌝ }
+    requires { ⌜ place ≤ 4096 ⌝ }
     ensures { λ r. ⌜ LocatedAt (now (message .entry)) place r ⌝ }
 {
-    let mut names = name_room();
     let mut number = 0;
     let mut start = 0;
     while number < place {
@@ -140,8 +153,11 @@ fn locate_far(message: &[u8], place: usize) -> Located
 pub fn locate(message: &[u8], place: usize) -> Located
     ensures { λ r. ⌜ LocatedAt (now (message .entry)) place r ⌝ }
 {
-    if place < 256 {
-        return locate_near(message, place);
+    if place < FEW {
+        return locate_near(message, place, &mut room_for_few());
+    }
+    if place < MANY {
+        return locate_near(message, place, &mut room_for_many());
     }
     locate_far(message, place)
 }

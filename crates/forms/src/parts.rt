@@ -7,8 +7,8 @@ ghost use Rattle.forms.specs.Forms.{firstSign, bodyOf};
 fn first_sign(bytes: &[u8]) -> usize
     ensures { λ r. ⌜ r ≡ firstSign (now (bytes .entry)) ⌝ }
 {
-    let plus = alphabet::find(bytes, b'+');
-    let minus = alphabet::find(bytes, b'-');
+    let plus = numbers::find_mark(bytes, b'+');
+    let minus = numbers::find_mark(bytes, b'-');
     if plus < minus { plus } else { minus }
 }
 

@@ -14,7 +14,7 @@ use Rattle.alphabet.specs.declared.answers.Refusal.the-variants.{Length, Header
 use Rattle.reading.specs.Segments.{segments, fieldSeparator, named, isHeader}
 use Rattle.reading.specs.Message.{ended}
 
--- "A message has 1 to 32,768 bytes"
+-- "A message has 1 to 1,048,576 bytes"
 abbrev pub Sized : List ℕ → Type 0
 Sized m = (1 ≤ length m) × (length m ≤ messageLimit)
 
@@ -29,7 +29,7 @@ pub data Wrong (m : List ℕ) (p : ℕ) : Type 0 where
   unlisted : permitted (getD m p 0) ≡ false → Wrong m p
   again : (q : ℕ) → 3 ≤ q → q < p → getD m q 0 ≡ getD m p 0 → Wrong m p
 
--- "leftmost segment: 8 if it is the 257th, 6 bad name, 7 a second MSH": what is wrong with segment k, from 0
+-- "leftmost segment: 8 if it is the 4,097th, 6 bad name, 7 a second MSH": what is wrong with segment k, from 0
 pub data BadSegment (m : List ℕ) (k : ℕ) : Refusal → Type 0 where
   one-too-many : k ≡ segmentLimit → BadSegment m k TooManySegments
   name : (k ≡ segmentLimit → ⊥) → named (fieldSeparator m) (getD (segments m) k []) ≡ false → BadSegment m k SegmentName

@@ -39,7 +39,7 @@ Clean sep b = Printable b × Not sep b
 
 -- ls are the lines of a message with the delimiters ds
 pub record Lines (ds : List ℕ) (ls : List (List ℕ)) : Type 0 where
-  -- "1 to 256 segments"
+  -- "1 to 4,096 segments"
   pub some : 1 ≤ length ls
   pub most : length ls ≤ segmentLimit
   -- each is of printable bytes, so that no CR stands inside, and has a good name

@@ -67,7 +67,7 @@ IsOneOf (value ∷ others) bytes = (bytes ≡ value) ⊎ IsOneOf others bytes
 abbrev pub IsNoneOf : List (List ℕ) → List ℕ → Type 0
 IsNoneOf values bytes = IsOneOf values bytes → ⊥
 
--- the rows of MSH: "TS"; "1 to 20 bytes", of which a field that is present has one; the lists "D, P, T" and "`2.4`"
+-- the rows of MSH: "TS"; "1 to 199 bytes", of which a field that is present has one; the lists "D, P, T" and "`2.4`"
 abbrev pub Timed : List ℕ → Type 0
 Timed m = StandsOnce m 7 1 (λ (bytes : List ℕ). isTs bytes ≡ true)
 

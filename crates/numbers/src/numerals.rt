@@ -1,6 +1,7 @@
 // NM, a signed whole number and a count of decimals, and SI, one to four digits.
 use crate::digits::count_on;
 use crate::digits::is_digits;
+use crate::marks::find_mark;
 use alphabet::Check;
 use alphabet::Refusal;
 ghost use mathlib.Core.Path.{_≡_};
@@ -44,7 +45,7 @@ fn without_sign(bytes: &[u8]) -> &[u8]
 pub fn before_point(bytes: &[u8]) -> &[u8]
     ensures { λ r. ⌜ now r ≡ beforePoint (now (bytes .entry)) ⌝ }
 {
-    let point = alphabet::find(bytes, b'.');
+    let point = find_mark(bytes, b'.');
     &bytes[..point]
 }
 
@@ -52,7 +53,7 @@ pub fn before_point(bytes: &[u8]) -> &[u8]
 fn fraction_of(bytes: &[u8]) -> &[u8]
     ensures { λ r. ⌜ now r ≡ fraction (now (bytes .entry)) ⌝ }
 {
-    let point = alphabet::find(bytes, b'.');
+    let point = find_mark(bytes, b'.');
     if point == bytes.len() {
         return &bytes[point..];
     }

@@ -1,8 +1,8 @@
 -- Demand 3: "For a message that was read and whose type we list, the structure judge accepts exactly when the grammar listed for that type, with its optional and
 -- repeating groups, can yield the segment names, once Z segments the structure doesn't name are taken out. Its refusal points to the first segment that, with
 -- those before it, begins no acceptable message, length limits aside, or to the end where only more segments are missing. It lists exactly the structure's
--- names that could have stood there, those limits aside." The limits are aside because a structure knows none: MSH, 254 OBR and ORC are 256 segments, are
--- refused with 22 at 256 and list OBR, though no 257th segment could be read. Assumes nothing.
+-- names that could have stood there, those limits aside." The limits are aside because a structure knows none: MSH, 4,094 OBR and ORC are 4,096
+-- segments, are refused with 22 at 4,096 and list OBR, though no 4,097th segment could be read. Assumes nothing.
 use mathlib.Core.Path.{_≡_, refl, subst, ap, _∙_}
 use mathlib.Core.Logic.{_↔_}
 use mathlib.Core.List.{List}

@@ -155,11 +155,11 @@ module _ (m time id lent : List ℕ) where
     pub sixteen-exactly : (r .kind ≡ CallersTime) ↔ RefusedBy m time id CallersTime
     sixteen-exactly = (told CallersTime (not-left CallersTime (λ e. omega arith) (λ e. omega arith)), given)
 
-    -- 17: "caller's ID not 1 to 20 bytes"
+    -- 17: "caller's ID not 1 to 199 bytes"
     pub seventeen-exactly : (r .kind ≡ CallersId) ↔ RefusedBy m time id CallersId
     seventeen-exactly = (told CallersId (not-left CallersId (λ e. omega arith) (λ e. omega arith)), given)
 
-    -- 9: "the header (through the first CR) is missing that CR or has fault 1 to 4 itself; type ACK; MSH-10, the whole field, not present or over 20 bytes"
+    -- 9: "the header (through the first CR) is missing that CR or has fault 1 to 4 itself; type ACK; MSH-10, the whole field, not present or over 199 bytes"
     pub nine-exactly : (r .kind ≡ NotAcknowledgeable) ↔ RefusedBy m time id NotAcknowledgeable
     nine-exactly = (told NotAcknowledgeable (not-left NotAcknowledgeable (λ e. omega arith) (λ e. omega arith)), given)
 

@@ -80,7 +80,7 @@ pub record Carries (m time id w : List ℕ) : Type 0 where
   pub answer-parts : length (split (fieldSeparator w) (getD (segments w) 1 [])) ≡ 3
   -- "and carries the sender's own control ID": MSA-2 is the sender's MSH-10
   pub control-id : rawBytes w (inAnswer 2) ≡ rawBytes m (inHeader 10)
-  -- and the sender has one: "MSH-10, the whole field, not present or over 20 bytes" is 9
+  -- and the sender has one: "MSH-10, the whole field, not present or over 199 bytes" is 9
   pub identified : (stateOf (delimitersOf m) (rawBytes m (inHeader 10)) ≡ Present) × (length (rawBytes m (inHeader 10)) ≤ idLimit)
   -- "It uses the sender's delimiters"
   pub senders-delimiters : delimitersOf w ≡ delimitersOf m
@@ -115,7 +115,7 @@ pub record Carries (m time id w : List ℕ) : Type 0 where
 
 -- ---- refusals
 
--- 17: "caller's ID not 1 to 20 bytes"
+-- 17: "caller's ID not 1 to 199 bytes"
 abbrev pub GoodId : List ℕ → Type 0
 GoodId id = (1 ≤ length id) × (length id ≤ idLimit)
 
@@ -127,7 +127,7 @@ pub data Unacknowledgeable (m : List ℕ) : Type 0 where
   unsound : (Opened (header m) → ⊥) → Unacknowledgeable m
   -- "type ACK"
   of-type-ack : rawBytes (header m) (typeAddress 1) ≡ ascii "ACK" → Unacknowledgeable m
-  -- "MSH-10, the whole field, not present or over 20 bytes"
+  -- "MSH-10, the whole field, not present or over 199 bytes"
   no-control-id : (stateOf (delimitersOf (header m)) (rawBytes (header m) (inHeader 10)) ≡ Present → ⊥) → Unacknowledgeable m
   long-control-id : idLimit < length (rawBytes (header m) (inHeader 10)) → Unacknowledgeable m
 

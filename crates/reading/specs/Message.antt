@@ -17,7 +17,7 @@ ended (s ∷ rest) = s ++ carriageReturn ∷ ended rest
 
 -- what checks 1 to 4 ask
 pub record Opened (m : List ℕ) : Type 0 where
-  -- "A message has 1 to 32,768 bytes"
+  -- "A message has 1 to 1,048,576 bytes"
   pub some-bytes : 1 ≤ length m
   pub most-bytes : length m ≤ messageLimit
   -- "Bytes 0 to 2 are `MSH`." "Byte 8 is the field separator or CR."
@@ -34,7 +34,7 @@ pub record Message (m : List ℕ) : Type 0 where
   pub opened : Opened m
   -- "Each segment, the last included, ends with CR"
   pub all-ended : ended (segments m) ≡ m
-  -- "and 1 to 256 segments"
+  -- "and 1 to 4,096 segments"
   pub some-segments : 1 ≤ length (segments m)
   pub most-segments : length (segments m) ≤ segmentLimit
   -- each segment has a good name

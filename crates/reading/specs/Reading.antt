@@ -13,7 +13,7 @@ use Rattle.alphabet.specs.declared.answers.Check.{Check}
 use Rattle.alphabet.specs.declared.answers.Refusal.the-variants.{Length, Header, Delimiter, NotAllowed, NotEnded, SegmentName, SecondHeader, TooManySegments}
 use Rattle.reading.specs.Segments.{segments, delimitersOf, fieldSeparator, named, isHeader}
 
--- 1: "length 0 or over 32,768"
+-- 1: "length 0 or over 1,048,576"
 abbrev pub lengthCheck : List ℕ → Check
 lengthCheck m = failsIf (eqb (length m) 0 || ltb messageLimit (length m)) Length 0
 
@@ -40,7 +40,7 @@ opening m = inOrder (lengthCheck m ∷ headerCheck m ∷ delimiterCheck m ∷ by
 abbrev pub endCheck : List ℕ → Check
 endCheck m = failsIf (not (eqb (getD m (length m - 1) 0) carriageReturn)) NotEnded (length m - 1)
 
--- "8 if it is the 257th, 6 bad name, 7 a second MSH", of the segment of number k, from 0, whose first byte stands at
+-- "8 if it is the 4,097th, 6 bad name, 7 a second MSH", of the segment of number k, from 0, whose first byte stands at
 -- `at`
 abbrev pub segmentCheck : ℕ → ℕ → ℕ → List ℕ → Check
 segmentCheck sep k at s =

@@ -26,7 +26,7 @@ use Rattle.field_table.specs.declared.Row.{Row}
 
 -- ---- one part, which is present, against its type
 
--- 32: "breaks its type's form"; 33: "not in its list"; 37: "over 20 bytes; well formed, but over 18 digits"
+-- 32: "breaks its type's form"; 33: "not in its list"; 37: "over 199 bytes; well formed, but over 18 digits"
 unfoldable pub formCheck : Kind → List ℕ → Check
 formCheck Any bytes = Passes
 formCheck Identifier bytes = failsIf (ltb idLimit (length bytes)) ValueTooLong 0

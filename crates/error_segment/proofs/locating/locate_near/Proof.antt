@@ -1,6 +1,6 @@
 -- Rests on the walk over the segments, which keeps the names that it passes: those that are left, at each turn.
 use Prim.Native.Nat.{ℕ, _+_, _-_, _≤_}
-use mathlib.Core.Path.{_≡_, sym, ap, _∙_}
+use mathlib.Core.Path.{_≡_, refl, sym, ap, _∙_}
 use mathlib.Core.List.{[]}
 use lib.ListN.{length, getD, take, drop, length-set}
 use lib.Seq.{length-take-le}
@@ -14,13 +14,13 @@ use Rattle.error_segment.proofs.locating.locate_near.Tie as tie
 
 abbrev Inv-loop : tie.InvT-loop
 Inv-loop message place names₀ number₀ start₀ names number start =
-    (number ≤ place) × (length names ≡ 256) × Passing (segments message) (segments (drop start message)) names number
+    (number ≤ place) × (length names ≡ length names₀) × Passing (segments message) (segments (drop start message)) names number
 
 abbrev μ-loop : tie.MeasureT-loop
 μ-loop message place names₀ number₀ start₀ names number start = place - number
 
 loop-holds : tie.Need-loop-holds Inv-loop μ-loop
-loop-holds c = (omega arith, c .name-room .ensures, pass-start (segments (now (c .before .before .args .message))) (c .name-room .result))
+loop-holds c = let a = c .before .before .args in (omega arith, refl, pass-start (segments (now (a .message))) (now (a .names)))
 
 -- the CR that ends the segment stands at or behind its start
 inside : (c : tie.After-segment-end Inv-loop μ-loop) → c .before .before .loop .start ≤ c .segment-end .result
@@ -70,12 +70,12 @@ locate-near-spec =
     (tie.spec
     Inv-loop
     μ-loop
-    (λ c κs. search needs)
     loop-holds
     (λ c κs. search needs)
     (λ c. omega arith)
     (λ c. let l = c .before .before .before .before .loop in sym (length-take-le (l .number) (l .names) (omega arith)))
     (λ c κs. search needs)
+    (λ c. search needs)
     returns
     (λ c. inside (c .before))
     (λ c. let i = inside (c .before) in search needs)
@@ -90,4 +90,5 @@ locate-near-spec =
     (λ c. omega arith)
     (λ c. let l = c .before .before .loop in sym (length-take-le (l .number) (l .names) (omega arith)))
     (λ c κs. let l = c .before .before .loop in let n = length-take-le (l .number) (l .names) (omega arith) in omega arith)
+    (λ c. search needs)
     returns-2)

@@ -1,4 +1,4 @@
--- Rests on what `find` gives.
+-- Rests on what `find_mark` gives.
 use borrow.Author.Needs.{needs}
 use mathlib.Core.Path.{sym, ap, _∙_}
 use Prim.Native.Nat.{ℕ, _+_, _≤_}
@@ -11,21 +11,21 @@ use denote.Ref.{now}
 use Rattle.numbers.proofs.numerals.fraction_of.Statement.{statement}
 use Rattle.numbers.proofs.numerals.fraction_of.Tie as tie
 
-within : (c : tie.After-find) → c .find .result ≤ length (now (c .before .before .args .bytes))
-within c = let u = first-le (eqb 46) (now (c .before .before .args .bytes)) in omega (arith, c .find .ensures)
+within : (c : tie.After-find-mark) → c .find-mark .result ≤ length (now (c .before .before .args .bytes))
+within c = let u = first-le (eqb 46) (now (c .before .before .args .bytes)) in omega (arith, c .find-mark .ensures)
 
 returns : tie.Need-returns
 returns c =
     let l = now (c .before .before .before .before .args .bytes) in
-    let h = c .before .before .find .ensures in
-    let n : length l ≤ c .before .before .find .result = omega arith in
+    let h = c .before .before .find-mark .ensures in
+    let n : length l ≤ c .before .before .find-mark .result = omega arith in
     let k : length l ≤ find 46 l + 1 = omega arith in
-    rest-of l (c .before .before .find .result) ∙ drop-of-length-le l n ∙ sym (drop-of-length-le l k)
+    rest-of l (c .before .before .find-mark .result) ∙ drop-of-length-le l n ∙ sym (drop-of-length-le l k)
 
 returns-2 : tie.Need-returns-2
 returns-2 c =
     let l = now (c .before .before .before .before .args .bytes) in
-    rest-of l (c .before .before .find .result + 1) ∙ ap (λ (n : ℕ). drop (n + 1) l) (c .before .before .find .ensures)
+    rest-of l (c .before .before .find-mark .result + 1) ∙ ap (λ (n : ℕ). drop (n + 1) l) (c .before .before .find-mark .ensures)
 
 pub fraction-of-spec : {M : Type 1} → statement M
 fraction-of-spec =
