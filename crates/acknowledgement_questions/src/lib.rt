@@ -9,6 +9,7 @@ use answering::writings;
 use asking::decimals::Number;
 use asking::hex;
 use asking::hex::Decoded;
+use asking::messages;
 use asking::rooms;
 use asking::words;
 
@@ -39,7 +40,7 @@ fn put_acknowledged(
 }
 
 // Answers an `ack` of which the message, the time and the ID are decoded, each up to its place: the room is left to
-// decode.
+// decode. A message that is not held is refused before the time and the ID are looked at.
 fn answer_said(
     line: &[u8],
     said: &[u8],
@@ -59,6 +60,9 @@ fn answer_said(
     };
     let room = number as usize;
     let mut buffer = rooms::untouched();
+    if !messages::is_held(message) {
+        return writings::put_written(messages::not_held(), &buffer[..room], answer);
+    }
     put_acknowledged(said, message, time, id, &mut buffer[..room], answer)
 }
 

@@ -1,5 +1,5 @@
-// A file is read whole into a buffer of one byte more than a message may have, so that a file over the limit is seen to
-// be over it. What cannot be read is said on standard error, by the file's name.
+// A file is read whole into a buffer of one byte more than the command takes, so that a longer one is seen to be longer.
+// What cannot be read is said on standard error, by the file's name.
 ghost use Prim.Native.Nat.{_+_, _≤_};
 ghost use mathlib.Core.Path.{_≡_};
 ghost use lib.ListN.{length};

@@ -6,5 +6,6 @@ pub mod bytes;
 pub mod decimals;
 pub mod hex;
 pub mod lines;
+pub mod messages;
 pub mod rooms;
 pub mod words;

@@ -12,6 +12,7 @@ use arguments::SHOW;
 use element::Address;
 use element::Element;
 use terminal::Output;
+use wording::LONGEST_MESSAGE;
 
 // Every message was accepted, or what was asked for was found or written.
 pub const DONE: u8 = 0;
@@ -46,6 +47,18 @@ fn refuse(out: Output, name: &[u8], kind: Refusal) -> Outcome {
 fn refuse_message(out: Output, name: &[u8], message: &[u8]) -> Outcome {
     let told = drawing::print_verdict(terminal::standard_error(), name, message);
     let said = told.out;
+    refused(out, said)
+}
+
+// Says of a file that it has more bytes than the command takes, where the command says a verdict.
+fn refuse_long(command: u8, out: Output, name: &[u8]) -> Outcome {
+    if command == CHECK {
+        return Outcome {
+            out: wording::print_too_long(out, name),
+            status: REFUSED,
+        };
+    }
+    let said = wording::print_too_long(terminal::standard_error(), name);
     refused(out, said)
 }
 
@@ -193,6 +206,16 @@ fn answer(
     acknowledge(out, name, message, first, room)
 }
 
+// How many bytes of a buffer are lent for a frame: no more than the command takes of a message.
+fn frame_room(length: usize) -> usize
+    ensures { λ r. ⌜ r ≤ length ⌝ }
+{
+    if LONGEST_MESSAGE < length {
+        return LONGEST_MESSAGE;
+    }
+    length
+}
+
 // `frames`: each frame of a file that the argument at an index names. Its pieces and its messages are read to the front
 // of two buffers.
 fn take_frames(
@@ -202,7 +225,8 @@ fn take_frames(
     message: &mut [u8],
     piece: &mut [u8],
 ) -> Outcome {
-    let told = framing::tell_file(out, index, name, piece, message);
+    let room = frame_room(message.len());
+    let told = framing::tell_file(out, index, name, piece, &mut message[..room]);
     let printed = told.out;
     if !told.is_read {
         return Outcome {
@@ -216,7 +240,8 @@ fn take_frames(
     }
 }
 
-// Does what a command asks of the file that the argument at an index names.
+// Does what a command asks of the file that the argument at an index names. One that is longer than the command takes is
+// refused before anything else is looked at.
 pub fn answer_file(
     command: u8,
     out: Output,
@@ -239,6 +264,9 @@ pub fn answer_file(
             out: out,
             status: TROUBLE,
         };
+    }
+    if LONGEST_MESSAGE < length {
+        return refuse_long(command, out, &name[..called]);
     }
     answer(
         command,

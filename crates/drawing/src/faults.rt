@@ -37,16 +37,6 @@ fn draw_byte(out: Output, message: &[u8], place: usize) -> Output {
     explain_line_feed(out, message, place)
 }
 
-// Says of a file that has no bytes or too many which of the two it is. There is no place to draw.
-fn print_length(out: Output, message: &[u8]) -> Output {
-    if message.len() == 0 {
-        return terminal::print_line(out, b"  this file has none");
-    }
-    let limit = alphabet::message_limit();
-    let out = terminal::print_counted(out, b"  this file has more than ", limit, b"");
-    terminal::end_line(out)
-}
-
 // Draws an element of a message. One that is absent would stand at the end of its segment.
 fn draw_element(out: Output, message: &[u8], address: Address) -> Output {
     let part = reading::segment_at(message, address.segment);
@@ -84,12 +74,13 @@ fn draw_structure(out: Output, message: &[u8], fault: FaultRecord) -> Output {
 }
 
 // Names the place of a fault, and draws it by what it is for that number: a byte, a segment, or a field and its
-// repetition.
+// repetition. A message that is drawn is no longer than the command takes, so that 1 is one of no bytes: it has no place
+// to draw.
 pub fn draw(out: Output, message: &[u8], fault: FaultRecord) -> Output {
     let kind = fault.kind;
     let number = alphabet::number(kind);
     if number == 1 {
-        return print_length(out, message);
+        return terminal::print_line(out, b"  this file has none");
     }
     let out = terminal::print(out, b"  ");
     let out = name_place(out, message, fault);

@@ -56,13 +56,10 @@ pub fn print_verdict(out: Output, name: &[u8], message: &[u8]) -> Told {
     }
 }
 
-// Names the place of a fault in parentheses. Where it is the length of the message there is no place.
+// Names the place of a fault in parentheses. Where the message has no bytes there is no place.
 fn print_place(out: Output, message: &[u8], fault: FaultRecord) -> Output {
     if message.len() == 0 {
         return terminal::print_line(out, b" (it has none)");
-    }
-    if alphabet::message_limit() < message.len() {
-        return terminal::end_line(out);
     }
     let out = terminal::print(out, b" (");
     let out = naming::name_place(out, message, fault);

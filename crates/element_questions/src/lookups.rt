@@ -13,6 +13,7 @@ use asking::addresses;
 use asking::addresses::Asked;
 use asking::hex;
 use asking::hex::Decoded;
+use asking::messages;
 use asking::words;
 use element::Address;
 use element::Found;
@@ -100,6 +101,7 @@ fn put_lookup(lookup: Lookup, message: &[u8], address: Address, answer: &mut [u8
     requires { ⌜ Roomy (now answer) ⌝ }
     ensures { λ r. ⌜ r ≤ length (now (answer .exit)) ⌝ }
 {
+    let message = messages::held(message);
     match lookup {
         Lookup::Find => put_element(element::find(message, address), answer),
         Lookup::Nm => put_decimal(value::nm(message, address), answer),

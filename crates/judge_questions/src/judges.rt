@@ -9,6 +9,7 @@ use answering::answers;
 use answering::judgements;
 use asking::hex;
 use asking::hex::Decoded;
+use asking::messages;
 use asking::words;
 
 // Who is to judge.
@@ -41,6 +42,7 @@ fn put_judged(judge: Judge, message: &[u8], answer: &mut [u8]) -> usize
     requires { ⌜ Roomy (now answer) ⌝ }
     ensures { λ r. ⌜ r ≤ length (now (answer .exit)) ⌝ }
 {
+    let message = messages::held(message);
     match judge {
         Judge::Structure => {
             judgements::put_judgement(structure::judge_structure(message), answer)

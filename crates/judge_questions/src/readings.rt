@@ -9,6 +9,7 @@ ghost use Rattle.judge_questions.specs.Readings.{readAsked, TwoNumbers, 
 use answering::answers;
 use asking::hex;
 use asking::hex::Decoded;
+use asking::messages;
 use asking::words;
 
 // Puts what reading a message comes to into the answer: the number of the refusal, and its place.
@@ -17,7 +18,7 @@ fn put_reading(message: &[u8], answer: &mut [u8]) -> usize
     ensures { λ r. ⌜ Counts r (now (answer .exit)) ⌝ }
     ensures { λ r. ⌜ TwoNumbers (take r (now (answer .exit))) ⌝ }
 {
-    let found = reading::read(message);
+    let found = reading::read(messages::held(message));
     let kind = found.kind;
     let next = answers::put_number(answer, 0, alphabet::number(kind) as u64, b' ');
     answers::put_number(answer, next, found.place as u64, b'\n')

@@ -7,18 +7,15 @@ use arguments::HELP;
 use arguments::VERSION;
 use arguments::command_at;
 use commands::answer_file;
-ghost use Prim.Native.Nat.{_+_, _≤_, _<_};
-ghost use mathlib.Core.Path.{_≡_};
-ghost use lib.ListN.{length};
-ghost use Rattle.alphabet.specs.Limits.{messageLimit};
+ghost use Prim.Native.Nat.{_≤_, _<_};
 
-// One byte more than a message may have: a file that fills it is over the limit.
-const ROOM: usize = 32_769;
+// One byte more than the command takes of a message (`wording::LONGEST_MESSAGE`): a file that fills it is longer.
+const ROOM: usize = 65_537;
 
 // Room for what is made of a message: the text of an element, its lines, an acknowledgement; and for a piece of a file
 // of frames. Lines may have more bytes than the text that they are made of, since a command of a few bytes asks for
 // many blanks or lines: eight times the longest message is more than any text needs that is written to be read.
-const LARGE_ROOM: usize = 262_144;
+const LARGE_ROOM: usize = 524_288;
 
 // Does what a command asks of each file that the arguments from the one before `first` up to and without `until` name:
 // that is one where words stand behind it. Returns the worst status.
@@ -82,9 +79,7 @@ fn is_script(word: &mut [u8]) -> bool {
 }
 
 // Bytes for a message. By a call of its own it is no list of so many bytes in the caller's proof, nor is the next.
-fn room_for_message() -> [u8; ROOM]
-    ensures { λ r. ⌜ messageLimit + 1 ≡ length r ⌝ }
-{
+fn room_for_message() -> [u8; ROOM] {
     [0; ROOM]
 }
 

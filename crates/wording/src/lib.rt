@@ -5,10 +5,14 @@ mod refusals;
 mod states;
 mod usage;
 
+// The most bytes of a message that the command takes, in a file or in a frame. The library takes more.
+pub const LONGEST_MESSAGE: usize = 65_536;
+
 pub use names::print_could_stand;
 pub use refusals::print_numbered;
 pub use refusals::print_refused;
 pub use refusals::print_refused_text;
+pub use refusals::print_too_long;
 pub use refusals::print_words;
 pub use states::print_behind;
 pub use states::print_state;

@@ -1,5 +1,6 @@
 // The refusals in words, each with its number of document 01 or 02. Where a place is drawn under them, `this` is what
 // is marked there.
+use crate::LONGEST_MESSAGE;
 use alphabet::Refusal;
 use terminal::Output;
 
@@ -8,7 +9,7 @@ fn print_opening(out: Output, kind: Refusal) -> Output {
     match kind {
         Refusal::Length => terminal::print(
             out,
-            b"this has no bytes, or more than a message may have",
+            b"this has no bytes, or more than this command takes",
         ),
         Refusal::Header => terminal::print(
             out,
@@ -120,7 +121,7 @@ fn print_framing(out: Output, kind: Refusal) -> Output {
             out,
             b"this frame is broken: 0B stands inside it, or 1C without 0D behind it",
         ),
-        _ => terminal::print(out, b"this frame has more bytes than a message may have"),
+        _ => terminal::print(out, b"this frame has more bytes than this command takes"),
     }
 }
 
@@ -187,5 +188,19 @@ pub fn print_refused_text(out: Output, name: &[u8], kind: Refusal, place: usize)
 pub fn print_refused(out: Output, name: &[u8], kind: Refusal) -> Output {
     let out = terminal::print(out, name);
     let out = print_numbered(out, b": refused", kind);
+    terminal::end_line(out)
+}
+
+// Says of a file that it has more bytes than the command takes, with the number of a message that is too long, and that
+// the library takes more.
+pub fn print_too_long(out: Output, name: &[u8]) -> Output {
+    let out = print_refused(out, name, Refusal::Length);
+    let out = terminal::print_counted(
+        out,
+        b"  this file has more than ",
+        LONGEST_MESSAGE,
+        b" bytes; the library takes ",
+    );
+    let out = terminal::print_number(out, alphabet::message_limit());
     terminal::end_line(out)
 }

@@ -1,5 +1,6 @@
 // What the command can be asked, told to whoever asks for that, or asks nothing or something that it does not know.
 // Each way to ask has a line that can be typed as it stands. The command's version stands here too.
+use crate::LONGEST_MESSAGE;
 use terminal::Output;
 
 // What is asked of a file by its name alone.
@@ -61,6 +62,14 @@ fn print_asked_by_words(out: Output) -> Output {
 pub fn print_usage(out: Output) -> Output {
     let out = print_asked_by_name(out);
     let out = print_asked_by_words(out);
+    let out = terminal::print_counted(
+        out,
+        b"A message may have up to ",
+        LONGEST_MESSAGE,
+        b" bytes here; the library takes ",
+    );
+    let out = terminal::print_number(out, alphabet::message_limit());
+    let out = terminal::end_line(out);
     let out = terminal::print_line(
         out,
         b"Bytes and segments count from 0. A byte that is not printable ASCII stands as hex in braces: LF is \n",
