@@ -1,5 +1,6 @@
-/* Calls every function of the library from C with questions of crates/ask, and compares what comes back with their answers, so that the header,
- * the library and the program cannot drift apart. Lines that are no questions (answered `?`) are passed over: they are the program's own.
+/* Calls every function of the library from C with questions of crates/ask, and with larger ones than that program has room for, and compares
+ * what comes back with their answers, so that the header, the library and the program cannot drift apart. Lines that are no questions
+ * (answered `?`) are passed over: they are the program's own.
  * Formatted text is also laid out by a table that stands here, in letters that can be read.
  * Prints how often each function was called; ends with 1 at the first difference, and where a function was never called.
  *
@@ -10,44 +11,84 @@
 #include <stdio.h>
 #include <string.h>
 
-#define MOST 16000000
-#define LARGEST_ROOM 65536
-/* A longer line is none of the program's questions. */
-#define LONGEST_LINE 300000
+/* The longest question has a text of 1 MiB, and the longest answer shows a buffer that takes five bytes for each of it; an answer of frames may
+ * have one and a half characters for each of its question before its buffer: `40,` for each `0b`. */
+#define LONGEST_QUESTION 2200000
+#define LARGEST_ROOM 5300000
+#define LONGEST_ANSWER (2 * LARGEST_ROOM + 3 * LONGEST_QUESTION / 2)
+/* So many bytes behind the buffer lent have to stay as they were. */
+#define BEHIND 4096
+#define UNWRITTEN 0xa5
 
 typedef struct {
     const char *at;
     size_t length;
 } text;
 
-static char questions[MOST], answers[MOST];
-/* The longest answer shows a buffer, behind up to one and a half characters for each of the question: `40,` for each `0b` of the frames. */
-static char said[3 * LARGEST_ROOM + 3 * LONGEST_LINE / 2];
+/* A file that is read block by block, and its present line. */
+typedef struct {
+    const char *name;
+    FILE *file;
+    char block[65536];
+    size_t read, taken;
+    char *line;
+    size_t room;
+} lines;
+
+static char question[LONGEST_QUESTION], answer[LONGEST_ANSWER], said[LONGEST_ANSWER];
 static size_t said_length;
-static uint8_t bytes[3][200000];
-static uint8_t buffer[LARGEST_ROOM], unwritten[LARGEST_ROOM];
+static uint8_t bytes[3][LONGEST_QUESTION / 2];
+static uint8_t buffer[LARGEST_ROOM + BEHIND];
 
 /* ---- the lines and their words */
 
-static size_t load(const char *name, char *to)
+static lines questions = {.line = question, .room = sizeof question}, answers = {.line = answer, .room = sizeof answer};
+
+static bool open_lines(lines *from, const char *name)
 {
-    FILE *file = fopen(name, "rb");
-    if (file == NULL) {
+    from->name = name;
+    from->read = from->taken = 0;
+    from->file = fopen(name, "rb");
+    if (from->file == NULL)
         fprintf(stderr, "%s cannot be read\n", name);
-        return 0;
-    }
-    size_t length = fread(to, 1, MOST, file);
-    fclose(file);
-    return length;
+    return from->file != NULL;
 }
 
-static text next_line(const char *from, size_t length, size_t *place)
+/* Copies the block up to the next LF or to its end behind the line, where there is room for it. */
+static bool take_from_block(lines *from, text *line, bool *ended)
 {
-    text line = {from + *place, 0};
-    const char *end = memchr(line.at, '\n', length - *place);
-    line.length = end == NULL ? length - *place : (size_t)(end - line.at);
-    *place += line.length + (end != NULL);
-    return line;
+    const char *at = from->block + from->taken, *end = memchr(at, '\n', from->read - from->taken);
+    size_t length = end == NULL ? from->read - from->taken : (size_t)(end - at);
+    *ended = end != NULL;
+    if (length > from->room - line->length) {
+        fprintf(stderr, "%s has a line of over %zu bytes\n", from->name, from->room);
+        return false;
+    }
+    memcpy(from->line + line->length, at, length);
+    line->length += length;
+    from->taken += length + *ended;
+    return true;
+}
+
+enum { ANOTHER_LINE, NO_MORE_LINES, NOT_READ };
+
+/* The last line may be ended by the end of the file alone. */
+static int next_line(lines *from, text *line)
+{
+    bool ended = false, begun = false;
+    *line = (text){from->line, 0};
+    while (!ended) {
+        if (from->taken == from->read) {
+            from->read = fread(from->block, 1, sizeof from->block, from->file);
+            from->taken = 0;
+        }
+        if (from->read == 0)
+            return ferror(from->file) ? NOT_READ : begun ? ANOTHER_LINE : NO_MORE_LINES;
+        if (!take_from_block(from, line, &ended))
+            return NOT_READ;
+        begun = true;
+    }
+    return ANOTHER_LINE;
 }
 
 /* The word at the place, which is behind its space afterwards: past the line's end behind the last word. */
@@ -156,12 +197,31 @@ static void say_bytes(size_t length)
         SAY("-");
 }
 
+/* Lends so much of the buffer. A question for more than there is would be a mistake of the model's. */
+static bool lend(size_t room)
+{
+    if (room > LARGEST_ROOM) {
+        SAY("there is no buffer of %zu bytes", room);
+        return false;
+    }
+    memset(buffer, UNWRITTEN, room + BEHIND);
+    return true;
+}
+
+static bool unwritten(size_t from, size_t to)
+{
+    for (size_t i = from; i < to; i++)
+        if (buffer[i] != UNWRITTEN)
+            return false;
+    return true;
+}
+
 /* The buffer lent. Behind it nothing may have been written. */
 static void say_buffer(size_t room)
 {
     SAY(" ");
     say_bytes(room);
-    if (memcmp(buffer + room, unwritten, sizeof buffer - room) != 0)
+    if (!unwritten(room, room + BEHIND))
         SAY(" and a byte behind the buffer");
 }
 
@@ -224,7 +284,8 @@ static void write_text(text verb, const uint8_t *m, size_t n, const text *words)
     size_t room = number_of(words[is(verb, "ack") ? 4 : 3]);
     size_t second = hex_of(words[2], bytes[1]);
     const uint8_t *d = bytes[1];
-    memset(buffer, 0xa5, sizeof buffer);
+    if (!lend(room))
+        return;
     if (is(verb, "ack"))
         say_written(turrethog_acknowledge(m, n, d, second, bytes[2], hex_of(words[3], bytes[2]), buffer, room), room);
     else if (is(verb, "escape"))
@@ -279,7 +340,8 @@ static void take_piece(const text *words)
     static const char *const stops[] = {"more", "frame", "drop", "-"};
     turrethog_frame_state state = {number_of(words[1]), number_of(words[2]), number_of(words[3])};
     size_t length = hex_of(words[4], bytes[0]), room = number_of(words[5]);
-    memset(buffer, 0xa5, sizeof buffer);
+    if (!lend(room))
+        return;
     turrethog_fed fed = turrethog_feed(state, bytes[0], length, buffer, room);
     SAY("%u %zu %s %zu", (unsigned)fed.number, fed.used, fed.stop < 4 ? stops[fed.stop] : "?", fed.length);
     say_frame_state(fed.state, room);
@@ -304,7 +366,8 @@ static void take_line(text line)
     next_word(line, &place);
     size_t room = number_of(next_word(line, &place));
     turrethog_frame_state state = {0, 0, 0};
-    memset(buffer, 0xa5, sizeof buffer);
+    if (!lend(room))
+        return;
     while (place <= line.length) {
         size_t length = hex_of(next_word(line, &place), bytes[0]), used = 0;
         for (bool more = true; more;) {
@@ -331,7 +394,7 @@ static bool ask(text line)
     text words[7];
     size_t count = words_of(line, words, 7);
     said_length = 0;
-    for (size_t f = 0; f < sizeof functions / sizeof *functions && line.length <= LONGEST_LINE; f++) {
+    for (size_t f = 0; f < sizeof functions / sizeof *functions; f++) {
         bool fits = functions[f].words == ANY_NUMBER ? count >= 3 : count == functions[f].words;
         if (!fits || !is(words[0], functions[f].verb))
             continue;
@@ -351,24 +414,49 @@ static bool ask(text line)
     return false;
 }
 
-/* Asks all questions of a file. */
+/* What is shown of a line of which only a place matters. */
+static int shown(size_t length)
+{
+    return length < 400 ? (int)length : 400;
+}
+
+static bool says(text line, text expected)
+{
+    bool asked = ask(line);
+    size_t same = 0;
+    while (same < said_length && same < expected.length && said[same] == expected.at[same])
+        same++;
+    if (asked && same == said_length && same == expected.length)
+        return true;
+    printf("C differs on a line of %zu bytes: %.*s\n", line.length, shown(line.length), line.at);
+    printf("  from character %zu of the answer on\n", same);
+    printf("  expected: %.*s\n", shown(expected.length - same), expected.at + same);
+    printf("  C says:   %.*s\n", shown(said_length - same), said + same);
+    return false;
+}
+
+/* Asks all questions of a file: there has to be one at least, and an answer for each line and no other. */
 static bool agree(const char *of_questions, const char *of_answers)
 {
-    size_t asked = load(of_questions, questions), answered = load(of_answers, answers);
-    size_t place = 0, other = 0, compared = 0;
-    while (place < asked && other < answered) {
-        text line = next_line(questions, asked, &place), expected = next_line(answers, answered, &other);
-        if (is(expected, "?"))
-            continue;
-        if (!ask(line) || said_length != expected.length || memcmp(said, expected.at, said_length) != 0) {
-            printf("C differs on: %.*s\n  expected: %.*s\n  C says:   %.*s\n", (int)line.length, line.at, (int)expected.length, expected.at,
-                   (int)said_length, said);
+    if (!open_lines(&questions, of_questions) || !open_lines(&answers, of_answers))
+        return false;
+    for (size_t compared = 0;;) {
+        text line, expected;
+        int asked = next_line(&questions, &line), answered = next_line(&answers, &expected);
+        if (asked != ANOTHER_LINE || answered != ANOTHER_LINE) {
+            fclose(questions.file);
+            fclose(answers.file);
+            if (asked == NO_MORE_LINES && answered == NO_MORE_LINES && compared != 0)
+                return true;
+            fprintf(stderr, "%s and %s do not belong together, or were not read to their end\n", of_questions, of_answers);
             return false;
         }
+        if (is(expected, "?"))
+            continue;
+        if (!says(line, expected))
+            return false;
         compared++;
     }
-    /* A file that fills its array may have been cut. */
-    return compared != 0 && place == asked && other == answered && asked < MOST && answered < MOST;
 }
 
 /* ---- formatted text, by hand: what the page on it says, with the bytes as a C program writes them */
@@ -406,10 +494,11 @@ static const layout layouts[] = {
 static bool lays_out(const layout *l)
 {
     size_t length = l->lines == NULL ? 0 : strlen(l->lines);
-    memset(buffer, 0xa5, sizeof buffer);
+    if (!lend(l->room))
+        return false;
     turrethog_answer a = turrethog_format('|', '^', '~', '\\', '&', (const uint8_t *)l->sent, strlen(l->sent), buffer, l->room);
     return a.number == l->number && a.place == l->place && a.length == length && memcmp(buffer, l->lines == NULL ? "" : l->lines, length) == 0
-           && memcmp(buffer + length, unwritten, sizeof buffer - length) == 0;
+           && unwritten(length, l->room + BEHIND);
 }
 
 static bool all_laid_out(void)
@@ -426,7 +515,6 @@ int main(int count, char **names)
 {
     if (count < 3 || count % 2 == 0)
         return 2;
-    memset(unwritten, 0xa5, sizeof unwritten);
     if (!all_laid_out())
         return 1;
     for (int i = 1; i < count; i += 2)
@@ -437,6 +525,6 @@ int main(int count, char **names)
         if (functions[f].called == 0)
             return 1;
     }
-    printf("all as crates/ask answers\n");
+    printf("all as the model answers\n");
     return 0;
 }

@@ -11,8 +11,8 @@
 #include <string.h>
 
 /* One byte more than a message may have, so that a longer one is seen. */
-static uint8_t message[32769];
-static uint8_t acknowledgement[32768];
+static uint8_t message[LONGEST_MESSAGE + 1];
+static uint8_t acknowledgement[LONGEST_MESSAGE];
 
 static void print_names(size_t length, size_t count)
 {
@@ -53,7 +53,7 @@ static void print_letters(size_t length)
 int main(int count, char **words)
 {
     if (count != 3) {
-        fprintf(stderr, "usage: gateway TIME ID < MESSAGE\n  TIME is a TS, as 20261115103000+1000; ID is 1 to 20 bytes\n");
+        fprintf(stderr, "usage: gateway TIME ID < MESSAGE\n  TIME is a TS, as 20261115103000+1000; ID is 1 to 199 bytes\n");
         return 2;
     }
     size_t length = fread(message, 1, sizeof message, stdin);

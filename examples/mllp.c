@@ -23,17 +23,16 @@
 #include <time.h>
 #include <unistd.h>
 
-#define LONGEST_MESSAGE 32768
-
 enum { LINE_IN = 0, LINE_OUT = 1 };
 
 /* The frame that is being gathered: between two pieces nobody else may write to it. */
 static uint8_t frame[LONGEST_MESSAGE];
-static uint8_t piece[4096];
+static uint8_t piece[65536];
 /* 0B, the acknowledgement, 1C, 0D. */
 static uint8_t answer[1 + LONGEST_MESSAGE + 2];
 
-/* From the command line, for tests; else NULL. */
+/* From the command line, for tests; else NULL. Behind the ID there is room for the ten digits of a number. */
+#define LONGEST_GIVEN_ID 189
 static const char *given_time, *given_id;
 
 static unsigned long messages;
@@ -118,11 +117,12 @@ static const char *time_now(void)
     return now;
 }
 
-/* The second, the process and the message's number, in 20 bytes. No two answers from one computer have the same while its clock goes forward:
- * no process answers 16 million messages in a second, and no process's number is given again within one. */
+/* The second, the process and the message's number, in 20 bytes: 199 may be, but older receivers take no more. No two answers from one computer
+ * have the same while its clock goes forward: no process answers 16 million messages in a second, and no process's number is given again within
+ * one. */
 static const char *next_id(void)
 {
-    static char id[32];
+    static char id[LONGEST_GIVEN_ID + 32];
     messages++;
     unsigned long second = (unsigned long)time(NULL) & 0xffffffff, process = (unsigned long)getpid() & 0xffffff;
     if (given_id != NULL)
@@ -220,8 +220,8 @@ static bool serve(turrethog_frame_state *state)
 
 int main(int count, char **words)
 {
-    if (count != 1 && (count != 3 || strlen(words[2]) > 10)) {
-        fprintf(stderr, "usage: mllp [TIME ID]\n  TIME is a TS, as 20240229093001+0000; ID is at most 10 bytes: 1, 2 .. follow it\n");
+    if (count != 1 && (count != 3 || strlen(words[2]) > LONGEST_GIVEN_ID)) {
+        fprintf(stderr, "usage: mllp [TIME ID]\n  TIME is a TS, as 20240229093001+0000; ID is at most 189 bytes: 1, 2 .. follow it\n");
         return 2;
     }
     if (count == 3) {

@@ -5,13 +5,10 @@
 use crate::element::{self, Address, Element, State};
 use crate::error_segment::error_segment;
 use crate::reading::{self, refuse, Refusal, COMPONENT_SEPARATOR, CR, FIELD_SEPARATOR};
-use crate::reading::{LONGEST_MESSAGE, SUBCOMPONENT_SEPARATOR};
+use crate::reading::{LONGEST_ID, LONGEST_MESSAGE, SUBCOMPONENT_SEPARATOR};
 use crate::text::{self, Delimiters};
 use crate::times;
 use crate::verdict::{self, Fault};
-
-/// The caller's ID is "1 to 20 bytes", and the sender's is not acknowledged if "over 20 bytes".
-const LONGEST_ID: usize = 20;
 
 /// The acknowledgement of a message, with the time and the ID that the caller gives it. A fault
 /// behind the header is no refusal here, but told by the code (ruling 25).
@@ -43,7 +40,8 @@ fn check_time(time: &[u8]) -> Result<(), Refusal> {
     Ok(())
 }
 
-/// 17: "caller's ID not 1 to 20 bytes", of the bytes handed in (ruling 27).
+/// 17: "caller's ID not 1 to 199 bytes", of the bytes handed in (ruling 27): "an ID of 199 NULs is
+/// written in 995 bytes" (W6's ruling 20).
 fn check_id(id: &[u8]) -> Result<(), Refusal> {
     if id.is_empty() || id.len() > LONGEST_ID {
         return refuse(17, 0);
@@ -64,7 +62,7 @@ fn header_of(message: &[u8]) -> Result<&[u8], Refusal> {
     Ok(header)
 }
 
-/// 9: "type ACK; MSH-10, the whole field, not present or over 20 bytes". 'Type ACK' is component 1
+/// 9: "type ACK; MSH-10, the whole field, not present or over 199 bytes". 'Type ACK' is component 1
 /// of repetition 1 (ruling 18).
 fn check_header(header: &[u8]) -> Result<(), Refusal> {
     let kind = find(header, 9, 1, 1)?;
@@ -97,8 +95,8 @@ fn rejects(fault: &Fault) -> bool {
     }
 }
 
-/// 10: "acknowledgement longer than the buffer or 32,768", which "now counts the ERR bytes" (W4): it
-/// is never written without its ERR to make it fit (W4's ruling 16).
+/// 10: "acknowledgement longer than the buffer or 1,048,576", which "now counts the ERR bytes"
+/// (W4): it is never written without its ERR to make it fit (W4's ruling 16).
 fn check_room(acknowledgement: Vec<u8>, room: usize) -> Result<Vec<u8>, Refusal> {
     if acknowledgement.len() > room || acknowledgement.len() > LONGEST_MESSAGE {
         return refuse(10, 0);

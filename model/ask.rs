@@ -8,7 +8,7 @@ use crate::formatting;
 use crate::frames::{self, Event, Fed, FrameState, Stop};
 use crate::hex;
 use crate::numbers::{self, Numeric};
-use crate::reading::{self, Refusal};
+use crate::reading::{self, refuse, Refusal};
 use crate::structure::{self, Misfit};
 use crate::text::{self, Delimiters};
 use crate::times::{self, Offset, Time};
@@ -20,16 +20,54 @@ pub const LONGEST_LINE: usize = 300_000;
 /// "`ROOM` is the size of the buffer lent, at most 65,536 (more: `?`)."
 pub const MOST_ROOM: u64 = 65_536;
 
+/// "A MSG of over 65,536 bytes is answered by the program itself, which can't hold it." (W6)
+pub const LONGEST_HELD: usize = 65_536;
+
 /// "Before the call each of its bytes is A5."
 const UNWRITTEN: u8 = 0xA5;
 
-/// The answer to a line that came without its LF: `?` where it is no question.
-pub fn answer(line: &[u8]) -> String {
-    answer_question(line).unwrap_or_else(|| "?".to_string())
+/// What the asker has room for: a line without its LF, a buffer to be lent, and a message, in
+/// bytes.
+#[derive(Clone, Copy)]
+pub struct Asker {
+    longest_line: usize,
+    most_room: u64,
+    longest_held: usize,
 }
 
-fn answer_question(line: &[u8]) -> Option<String> {
-    if line.len() > LONGEST_LINE {
+/// The program `ask`.
+pub const PROGRAM: Asker =
+    Asker { longest_line: LONGEST_LINE, most_room: MOST_ROOM, longest_held: LONGEST_HELD };
+
+/// A C program that has room for whatever is asked: "the range above 65,536 bytes cannot be asked
+/// through `ask`" (W6's ruling 22).
+pub const FROM_C: Asker =
+    Asker { longest_line: usize::MAX, most_room: u64::MAX, longest_held: usize::MAX };
+
+impl Asker {
+    /// The answer to a line that came without its LF: `?` where it is no question.
+    pub fn answer(self, line: &[u8]) -> String {
+        answer_question(self, line).unwrap_or_else(|| "?".to_string())
+    }
+
+    /// "Programs that take a message whole say 1 themselves beyond 65,536 bytes, before anything
+    /// else, in the form of what was asked (for `ack` before 16 and 17), and write nothing." (W6's
+    /// ruling 21) A line that is no question is none all the same.
+    fn hold(self, message: &[u8]) -> Result<(), Refusal> {
+        if message.len() > self.longest_held {
+            return refuse(1, 0);
+        }
+        Ok(())
+    }
+
+    fn room_lent(self, word: &[u8]) -> Option<usize> {
+        let room = number(word)?;
+        (room <= self.most_room).then_some(room as usize)
+    }
+}
+
+fn answer_question(asker: Asker, line: &[u8]) -> Option<String> {
+    if line.len() > asker.longest_line {
         return None;
     }
     // Every single space parts two words: where two stand together, the word between them is empty,
@@ -37,30 +75,30 @@ fn answer_question(line: &[u8]) -> Option<String> {
     let words: Vec<&[u8]> = line.split(|&byte| byte == b' ').collect();
     let (verb, words) = words.split_first()?;
     match *verb {
-        b"read" => answer_read(words),
-        b"find" => answer_find(words),
-        b"nm" => answer_value(words, numbers::numeric, numeric_words),
-        b"si" => answer_value(words, numbers::sequence_number, i64::to_string),
-        b"dt" => answer_value(words, times::date, time_words),
-        b"tm" => answer_value(words, times::time_of_day, time_words),
-        b"ts" => answer_value(words, times::time_stamp, time_words),
-        b"escape" => answer_text(words, text::escape),
-        b"unescape" => answer_text(words, text::unescape),
-        b"format" => answer_text(words, formatting::format),
-        b"structure" => answer_structure(words),
-        b"verdict" => answer_verdict(words),
-        b"ack" => answer_acknowledgement(words),
-        b"frame" => answer_frame(words),
-        b"frames" => answer_frames(words),
+        b"read" => answer_read(asker, words),
+        b"find" => answer_find(asker, words),
+        b"nm" => answer_value(asker, words, numbers::numeric, numeric_words),
+        b"si" => answer_value(asker, words, numbers::sequence_number, i64::to_string),
+        b"dt" => answer_value(asker, words, times::date, time_words),
+        b"tm" => answer_value(asker, words, times::time_of_day, time_words),
+        b"ts" => answer_value(asker, words, times::time_stamp, time_words),
+        b"escape" => answer_text(asker, words, text::escape),
+        b"unescape" => answer_text(asker, words, text::unescape),
+        b"format" => answer_text(asker, words, formatting::format),
+        b"structure" => answer_structure(asker, words),
+        b"verdict" => answer_verdict(asker, words),
+        b"ack" => answer_acknowledgement(asker, words),
+        b"frame" => answer_frame(asker, words),
+        b"frames" => answer_frames(asker, words),
         _ => None,
     }
 }
 
 /// `read MSG` is answered `NUMBER PLACE`.
-fn answer_read(words: &[&[u8]]) -> Option<String> {
+fn answer_read(asker: Asker, words: &[&[u8]]) -> Option<String> {
     let [message] = words else { return None };
     let message = bytes(message)?;
-    Some(match reading::read(&message) {
+    Some(match asker.hold(&message).and_then(|()| reading::read(&message)) {
         Ok(()) => "0 0".to_string(),
         Err(refusal) => format!("{} {}", refusal.number, refusal.place),
     })
@@ -68,9 +106,9 @@ fn answer_read(words: &[&[u8]]) -> Option<String> {
 
 /// `find MSG S F R C U` is answered `NUMBER PLACE STATE START END`, the last two "`0 0` where absent"
 /// and after a refusal.
-fn answer_find(words: &[&[u8]]) -> Option<String> {
+fn answer_find(asker: Asker, words: &[&[u8]]) -> Option<String> {
     let (message, address) = message_and_address(words)?;
-    Some(match element::find(&message, &address) {
+    Some(match asker.hold(&message).and_then(|()| element::find(&message, &address)) {
         Ok(element) => {
             let state = state_word(element.state);
             format!("0 0 {state} {} {}", element.part.start, element.part.end)
@@ -82,12 +120,14 @@ fn answer_find(words: &[&[u8]]) -> Option<String> {
 /// `nm`, `si`, `dt`, `tm` and `ts` are answered `NUMBER PLACE STATE` and the words of the value. A
 /// default value, which is 0 or has no part, stands where the element is not present or was refused.
 fn answer_value<Value: Default>(
+    asker: Asker,
     words: &[&[u8]],
     read_value: fn(&[u8]) -> Result<Value, Refusal>,
     value_words: fn(&Value) -> String,
 ) -> Option<String> {
     let (message, address) = message_and_address(words)?;
-    Some(match element::find_value(&message, &address, read_value) {
+    let found = || element::find_value(&message, &address, read_value);
+    Some(match asker.hold(&message).and_then(|()| found()) {
         Ok((state, value)) => {
             format!("0 0 {} {}", state_word(state), value_words(&value.unwrap_or_default()))
         }
@@ -100,19 +140,15 @@ fn answer_value<Value: Default>(
 /// `escape`, `unescape` and `format` are asked by `TEXT DELIMITERS ROOM`; "DELIMITERS are five bytes: field,
 /// component, repetition, escape, subcomponent".
 fn answer_text(
+    asker: Asker,
     words: &[&[u8]],
     write_text: fn(&[u8], Delimiters, usize) -> Result<Vec<u8>, Refusal>,
 ) -> Option<String> {
     let [text, delimiters, room] = words else { return None };
     let text = bytes(text)?;
     let delimiters = Delimiters::try_from(bytes(delimiters)?).ok()?;
-    let room = room_lent(room)?;
+    let room = asker.room_lent(room)?;
     Some(written_words(write_text(&text, delimiters, room), room))
-}
-
-fn room_lent(word: &[u8]) -> Option<usize> {
-    let room = number(word)?;
-    (room <= MOST_ROOM).then_some(room as usize)
 }
 
 /// `NUMBER PLACE LENGTH BUFFER`, of what was written into so much room. "`BUFFER` is the whole buffer
@@ -132,10 +168,11 @@ fn written_words(written: Result<Vec<u8>, Refusal>, room: usize) -> String {
 
 /// `structure MSG` is answered `NUMBER PLACE END NAMES`; accepted is "an empty list and a no"
 /// (ruling 29).
-fn answer_structure(words: &[&[u8]]) -> Option<String> {
+fn answer_structure(asker: Asker, words: &[&[u8]]) -> Option<String> {
     let [message] = words else { return None };
     let message = bytes(message)?;
-    Some(match structure::judge(&message) {
+    let held = asker.hold(&message).map_err(Misfit::from);
+    Some(match held.and_then(|()| structure::judge(&message)) {
         Ok(()) => format!("0 0 {}", end_and_names(false, &[])),
         Err(Misfit { refusal, could_end, names }) => {
             format!("{} {} {}", refusal.number, refusal.place, end_and_names(could_end, &names))
@@ -145,10 +182,11 @@ fn answer_structure(words: &[&[u8]]) -> Option<String> {
 
 /// `verdict MSG` is answered `NUMBER PLACE FIELD REPETITION END NAMES`; "PLACE is the byte offset
 /// or the segment, as the paper says for that number".
-fn answer_verdict(words: &[&[u8]]) -> Option<String> {
+fn answer_verdict(asker: Asker, words: &[&[u8]]) -> Option<String> {
     let [message] = words else { return None };
     let message = bytes(message)?;
-    Some(match verdict::judge(&message) {
+    let held = asker.hold(&message).map_err(|refusal| Fault::OfStructure(refusal.into()));
+    Some(match held.and_then(|()| verdict::judge(&message)) {
         Ok(()) => format!("0 0 0 0 {}", end_and_names(false, &[])),
         Err(Fault::OfStructure(Misfit { refusal, could_end, names })) => {
             let end_and_names = end_and_names(could_end, &names);
@@ -161,20 +199,21 @@ fn answer_verdict(words: &[&[u8]]) -> Option<String> {
 }
 
 /// `ack MSG TIME ID ROOM` is answered `NUMBER PLACE LENGTH BUFFER`.
-fn answer_acknowledgement(words: &[&[u8]]) -> Option<String> {
+fn answer_acknowledgement(asker: Asker, words: &[&[u8]]) -> Option<String> {
     let [message, time, id, room] = words else { return None };
     let (message, time, id) = (bytes(message)?, bytes(time)?, bytes(id)?);
-    let room = room_lent(room)?;
-    Some(written_words(acknowledgement::acknowledge(&message, &time, &id, room), room))
+    let room = asker.room_lent(room)?;
+    let acknowledge = || acknowledgement::acknowledge(&message, &time, &id, room);
+    Some(written_words(asker.hold(&message).and_then(|()| acknowledge()), room))
 }
 
 /// `frame MODE HELD COUNT PIECE ROOM` is answered `NUMBER USED STOP LENGTH MODE HELD COUNT BUFFER`. "The
 /// buffer is ROOM bytes of A5, also those that HELD says were gathered."
-fn answer_frame(words: &[&[u8]]) -> Option<String> {
+fn answer_frame(asker: Asker, words: &[&[u8]]) -> Option<String> {
     let [mode, held, count, piece, room] = words else { return None };
     let state = FrameState { mode: number(mode)?, held: number(held)?, count: number(count)? };
     let piece = bytes(piece)?;
-    let mut buffer = vec![UNWRITTEN; room_lent(room)?];
+    let mut buffer = vec![UNWRITTEN; asker.room_lent(room)?];
     let Fed { stop, used, state } = frames::feed(state, &piece, &mut buffer);
     let (number, stop, length) = match stop {
         Stop::More => (0, "more", 0),
@@ -187,13 +226,13 @@ fn answer_frame(words: &[&[u8]]) -> Option<String> {
 }
 
 /// `frames ROOM PIECE ...`, "one piece or more", is answered `EVENTS MODE HELD COUNT BUFFER`.
-fn answer_frames(words: &[&[u8]]) -> Option<String> {
+fn answer_frames(asker: Asker, words: &[&[u8]]) -> Option<String> {
     let (room, pieces) = words.split_first()?;
     if pieces.is_empty() {
         return None;
     }
     let pieces = pieces.iter().map(|piece| bytes(piece)).collect::<Option<Vec<_>>>()?;
-    let mut buffer = vec![UNWRITTEN; room_lent(room)?];
+    let mut buffer = vec![UNWRITTEN; asker.room_lent(room)?];
     let (events, state) = frames::feed_all(&pieces, &mut buffer);
     let state = frame_state_words(state);
     Some(format!("{} {state} {}", events_word(&events), bytes_word(&buffer)))
@@ -307,5 +346,6 @@ pub fn bytes_word(bytes: &[u8]) -> String {
     if bytes.is_empty() {
         return "-".to_string();
     }
-    bytes.iter().map(|byte| format!("{byte:02x}")).collect()
+    let digits = bytes.iter().flat_map(|byte| [byte >> 4, byte & 15]);
+    digits.map(|digit| char::from(b"0123456789abcdef"[usize::from(digit)])).collect()
 }

@@ -2,12 +2,10 @@
 //! 'Fields judged'. They are "judged on raw bytes", with no unescaping.
 
 use crate::element::{self, Part, State};
-use crate::reading::{refuse, Refusal, COMPONENT_SEPARATOR, REPETITION_SEPARATOR};
+use crate::reading::{refuse, Refusal, COMPONENT_SEPARATOR, LONGEST_ID, REPETITION_SEPARATOR};
 use crate::{numbers, times};
 use JudgedPart::{Component1, Whole};
-use Kind::{
-    Any, AsObx2Says, Date, List, Numeric, SequenceNumber, TimeOfDay, TimeStamp, UpTo20Bytes,
-};
+use Kind::{Any, AsObx2Says, ControlId, Date, List, Numeric, SequenceNumber, TimeOfDay, TimeStamp};
 
 /// A line of the table. "Columns: part judged; type; R required; Y may repeat."
 struct Row {
@@ -31,20 +29,21 @@ enum JudgedPart {
 enum Kind {
     Any,
     AsObx2Says,
+    /// "1 to 199 bytes".
+    ControlId,
     Date,
     List(&'static str),
     Numeric,
     SequenceNumber,
     TimeOfDay,
     TimeStamp,
-    UpTo20Bytes,
 }
 
 /// The rows "as above", where OBR-1 and OBX-1 have one each. MSH-12 is held to a list of one
 /// (ruling 24).
 const TABLE: [Row; 16] = [
     row("MSH", 7, Component1, TimeStamp, "R"),
-    row("MSH", 10, Whole, UpTo20Bytes, "R"),
+    row("MSH", 10, Whole, ControlId, "R"),
     row("MSH", 11, Component1, List("D P T"), "R"),
     row("MSH", 12, Component1, List("2.4"), "R"),
     row("PID", 3, Whole, Any, "R Y"),
@@ -207,7 +206,7 @@ impl Segment<'_> {
     }
 }
 
-/// 32, 33: "breaks its type's form; not in its list". 37: "over 20 bytes; well formed, but over 18
+/// 32, 33: "breaks its type's form; not in its list". 37: "over 199 bytes; well formed, but over 18
 /// digits". "Lists compare raw bytes" (ruling 24).
 fn check_kind(kind: Kind, bytes: &[u8]) -> Result<(), Refusal> {
     match kind {
@@ -217,7 +216,7 @@ fn check_kind(kind: Kind, bytes: &[u8]) -> Result<(), Refusal> {
         TimeOfDay => times::time_of_day(bytes).map(drop),
         TimeStamp => times::time_stamp(bytes).map(drop),
         List(words) if !words.split(' ').any(|word| word.as_bytes() == bytes) => refuse(33, 0),
-        UpTo20Bytes if bytes.len() > 20 => refuse(37, 0),
-        List(_) | UpTo20Bytes | Any | AsObx2Says => Ok(()),
+        ControlId if bytes.len() > LONGEST_ID => refuse(37, 0),
+        List(_) | ControlId | Any | AsObx2Says => Ok(()),
     }
 }

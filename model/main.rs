@@ -4,10 +4,12 @@
 //!
 //!     model stored              prints the questions of the stored vectors, always the same
 //!     model wide                prints all questions of some small worlds, too many to be stored, and
-//!                               those as large as a limit
-//!     model limits              prints those alone
+//!                               those as large as a limit or as the program holds
+//!     model limits              prints those that C answers as the program does
+//!     model large               prints those that only C can ask, larger than the program holds
 //!     model fresh SEED COUNT    prints COUNT random questions, the same for the same seed
 //!     model answer              answers questions from standard input, one line for each
+//!     model answer large        answers them as C is answered, without the limits of the program
 
 mod acknowledgement;
 mod ask;
@@ -26,6 +28,7 @@ mod text;
 mod times;
 mod verdict;
 
+use ask::Asker;
 use chance::Chance;
 use std::io::{self, BufRead, BufWriter, Write};
 use std::process::ExitCode;
@@ -37,11 +40,13 @@ fn main() -> ExitCode {
         ["stored"] => print_stored(),
         ["wide"] => print_lines(questions::wide()),
         ["limits"] => print_lines(questions::limits()),
+        ["large"] => print_lines(questions::large()),
         ["fresh", seed, count] => match (seed.parse(), count.parse()) {
             (Ok(seed), Ok(count)) => print_fresh(seed, count),
             _ => return usage(),
         },
-        ["answer"] => print_answers(),
+        ["answer"] => print_answers(ask::PROGRAM),
+        ["answer", "large"] => print_answers(ask::FROM_C),
         _ => return usage(),
     };
     // Only the input or the output can have failed, and then there is nobody left to tell.
@@ -53,7 +58,7 @@ fn main() -> ExitCode {
 }
 
 fn usage() -> ExitCode {
-    eprintln!("usage: model stored | wide | limits | fresh SEED COUNT | answer");
+    eprintln!("usage: model stored | wide | limits | large | fresh SEED COUNT | answer [large]");
     ExitCode::from(2)
 }
 
@@ -84,7 +89,7 @@ fn print_fresh(seed: u64, count: usize) -> io::Result<()> {
     out.flush()
 }
 
-fn print_answers() -> io::Result<()> {
+fn print_answers(asker: Asker) -> io::Result<()> {
     let mut input = io::stdin().lock();
     let mut out = BufWriter::new(io::stdout().lock());
     let mut line = Vec::new();
@@ -92,7 +97,7 @@ fn print_answers() -> io::Result<()> {
         if line.last() == Some(&b'\n') {
             line.pop();
         }
-        writeln!(out, "{}", ask::answer(&line))?;
+        writeln!(out, "{}", asker.answer(&line))?;
         line.clear();
     }
     out.flush()

@@ -1,8 +1,10 @@
 //! The questions of the vectors. Each verb has a set of stored questions and a maker of fresh ones,
 //! and most have a wide set that is not stored: what is complete over a small world, and what is as
-//! large as a limit. A new verb adds its modules below and a line in each of the functions.
+//! large as a limit; and a large one, of what only C can ask. A new verb adds its modules below and
+//! a line in each of the functions.
 
 mod ack_fresh;
+mod ack_large;
 mod ack_stored;
 mod ack_wide;
 mod error_places;
@@ -12,10 +14,14 @@ mod format_fresh;
 mod format_stored;
 mod format_wide;
 mod frame_fresh;
+mod frame_large;
 mod frame_stored;
 mod frame_wide;
+mod held_wide;
+mod judge_large;
 mod lifelike;
 mod lookup_fresh;
+mod lookup_large;
 mod lookup_stored;
 mod lookup_wide;
 mod no_question;
@@ -29,6 +35,7 @@ mod structure_fresh;
 mod structure_stored;
 mod structure_wide;
 mod text_fresh;
+mod text_large;
 mod text_stored;
 mod text_wide;
 mod time_stored;
@@ -40,6 +47,7 @@ mod verdict_wide;
 
 use crate::ask::bytes_word;
 use crate::chance::Chance;
+use crate::reading::{CR, LONGEST_ID, LONGEST_MESSAGE};
 use crate::text::Delimiters;
 use std::collections::HashSet;
 
@@ -59,6 +67,16 @@ const USUAL_DELIMITERS: Delimiters = *br"|^~\&";
 
 /// An address by its five numbers: segment, field, repetition, component, subcomponent.
 type Numbers = [u64; 5];
+
+/// A control ID as long as may be, and one of a byte more.
+const LONG_IDS: [&str; 2] = [ascii(&[b'K'; LONGEST_ID]), ascii(&[b'K'; LONGEST_ID + 1])];
+
+const fn ascii(bytes: &'static [u8]) -> &'static str {
+    match std::str::from_utf8(bytes) {
+        Ok(text) => text,
+        Err(_) => panic!("these bytes are ASCII"),
+    }
+}
 
 /// The questions of the stored vectors, in order, each a line without its LF.
 pub fn stored() -> Vec<Bytes> {
@@ -92,12 +110,14 @@ pub fn wide() -> Vec<Bytes> {
         ack_wide::wide(),
         frame_wide::wide(),
         format_wide::wide(),
+        held_wide::wide(),
         limits(),
     ];
     once_each(sets.concat())
 }
 
-/// The part of them that is as large as a limit of the library.
+/// The part of them that is as large as a limit of the library, or as the program can hold, and
+/// that the library answers: so C is told the same.
 pub fn limits() -> Vec<Bytes> {
     let sets = [
         read_wide::limits(),
@@ -110,6 +130,19 @@ pub fn limits() -> Vec<Bytes> {
         format_wide::limits(),
     ];
     once_each(sets.concat())
+}
+
+/// The questions that the program has no room for, each a line without its LF. They are as large as
+/// a limit of the library, or larger than the program can hold, and only C can ask them.
+pub fn large() -> Vec<Bytes> {
+    let sets = [
+        judge_large::large(),
+        lookup_large::large(),
+        ack_large::large(),
+        frame_large::large(),
+        text_large::large(),
+    ];
+    sets.concat()
 }
 
 /// One random question, a line without its LF: as many of each verb, but twice as many of `ack`, and
@@ -223,6 +256,34 @@ fn addresses(repetitions: u64, components: u64, subcomponents: u64) -> Vec<[u64;
     addresses.push([repetitions + 1, 0, 0]);
     addresses.push([repetitions + 1, 1, 1]);
     addresses
+}
+
+/// The message, with letters at the end of its last segment until it has this many bytes.
+fn stretched(mut message: Bytes, length: usize) -> Bytes {
+    message.pop();
+    message.resize(length - 1, b'x');
+    message.push(CR);
+    message
+}
+
+/// The text, with letters behind it until it has this many bytes in a message.
+fn padded(text: &str, length: usize) -> String {
+    text.chars().chain(('A'..='Z').cycle()).take(length).collect()
+}
+
+/// A message of as many bytes as may be, of this many segments, each about as long: the header, and
+/// NTE behind an OBR, with others in the place of some. What stands there has to end in a field
+/// that may hold anything.
+fn long_message(count: usize, others: &[(usize, &str)]) -> Bytes {
+    let header = filled::header_of_oru(&[(13, "")]);
+    let mut segments = vec![&header[..], "OBR||"];
+    segments.resize(count, "NTE|");
+    for &(at, segment) in others {
+        segments[at] = segment;
+    }
+    let length = LONGEST_MESSAGE / count - 1;
+    let segments: Vec<String> = segments.iter().map(|segment| padded(segment, length)).collect();
+    message(&segments.iter().map(String::as_str).collect::<Vec<_>>())
 }
 
 /// The bytes of a text in ISO 8859/1, where a character's number is its byte.

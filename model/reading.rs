@@ -1,9 +1,14 @@
 //! Reading a message: the checks 1 to 8 of document 01, each under the paper's own words, in the
 //! paper's order. A refusal gives its number and its place, a byte offset for 3 to 8, else 0.
 
-/// "A message has 1 to 32,768 bytes and 1 to 256 segments."
-pub const LONGEST_MESSAGE: usize = 32_768;
-pub const MOST_SEGMENTS: usize = 256;
+/// "A message has 1 to 1,048,576 bytes and 1 to 4,096 segments." These figures and the one below
+/// are W6's of document 02: wherever the model quotes document 01, they stand in the place of its
+/// own.
+pub const LONGEST_MESSAGE: usize = 1_048_576;
+pub const MOST_SEGMENTS: usize = 4_096;
+
+/// "Control IDs to 199 bytes, ours too." (W6)
+pub const LONGEST_ID: usize = 199;
 
 /// "Each segment, the last included, ends with CR."
 pub const CR: u8 = 0x0D;
@@ -37,7 +42,7 @@ pub fn read(message: &[u8]) -> Result<(), Refusal> {
     check_segments(message)
 }
 
-/// 1: "length 0 or over 32,768".
+/// 1: "length 0 or over 1,048,576".
 fn check_length(message: &[u8]) -> Result<(), Refusal> {
     if message.is_empty() || message.len() > LONGEST_MESSAGE {
         return refuse(1, 0);
@@ -102,8 +107,8 @@ fn check_end(message: &[u8]) -> Result<(), Refusal> {
     Ok(())
 }
 
-/// 6, 7, 8: "leftmost segment: 8 if it is the 257th, 6 bad name, 7 a second MSH", at the segment's
-/// first byte. The 257th is 8 whatever it holds (ruling 4).
+/// 6, 7, 8: "leftmost segment: 8 if it is the 4,097th, 6 bad name, 7 a second MSH", at the
+/// segment's first byte. The 4,097th is 8 whatever it holds (ruling 4).
 fn check_segments(message: &[u8]) -> Result<(), Refusal> {
     let mut place = 0;
     for (before, segment) in message.split_inclusive(|&byte| byte == CR).enumerate() {

@@ -6,6 +6,7 @@ typedef struct stream FILE;
 extern FILE *stdin, *stdout, *stderr;
 FILE *fopen(const char *name, const char *mode);
 int fclose(FILE *stream);
+int ferror(FILE *stream);
 size_t fread(void *to, size_t size, size_t count, FILE *stream);
 size_t fwrite(const void *from, size_t size, size_t count, FILE *stream);
 int fflush(FILE *stream);

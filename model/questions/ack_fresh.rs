@@ -9,10 +9,10 @@ use super::verdict_wide::TELLING;
 use super::{
     ack_question, enough_for, latin, read_fresh, sound, structure_fresh, value_fresh, verdict_fresh,
 };
-use super::{filled, message, Bytes, USUAL_DELIMITERS};
-use crate::ask::MOST_ROOM;
+use super::{filled, message, stretched, Bytes, USUAL_DELIMITERS};
+use crate::ask::{LONGEST_HELD, MOST_ROOM};
 use crate::chance::Chance;
-use crate::reading::{CR, LONGEST_MESSAGE};
+use crate::reading::{CR, LONGEST_ID};
 
 pub fn fresh(chance: &mut Chance) -> Bytes {
     if chance.one_in(1000) {
@@ -101,12 +101,13 @@ const FOREIGN: [&str; 16] = [
 ];
 
 /// An ORU of many segments, most of one name, with a fault or two: so a sequence may have two digits
-/// or three.
+/// or three, and very seldom four.
 fn one_of_many(chance: &mut Chance) -> Bytes {
     let (often, faulty) = chance.pick(&OFTEN);
     let count = match chance.below(20) {
         0 => chance.between(110, 130),
-        1 => chance.between(110, 250),
+        1 if chance.one_in(40) => chance.between(900, 3_500),
+        1 => chance.between(110, 260),
         2..=7 => chance.between(10, 40),
         _ => chance.between(2, 12),
     };
@@ -143,15 +144,11 @@ fn out_of_place(chance: &mut Chance) -> Bytes {
     verdict_fresh::sent(chance, segments)
 }
 
-/// A sound header, and so much behind it that the message is about as long as may be.
+/// A sound header, and so much behind it that the message is about as long as the program holds.
 fn long_message(chance: &mut Chance) -> Bytes {
     let behind = chance.pick(&["OBR|1|", "OBR|x|", "OBX|", "obr", "OBR\rOBX|||"]);
-    let mut message = message(&[&filled::header_of_oru(&[]), behind]);
-    message.pop();
-    message.resize(LONGEST_MESSAGE - 1 + chance.below(3), b'x');
-    message.pop();
-    message.push(CR);
-    message
+    let message = message(&[&filled::header_of_oru(&[]), behind]);
+    stretched(message, chance.between(LONGEST_HELD - 1, LONGEST_HELD + 1))
 }
 
 fn damage_behind_the_header(chance: &mut Chance, message: &mut Bytes) {
@@ -196,7 +193,7 @@ fn hard_field(chance: &mut Chance, field: usize) -> Bytes {
             "^R01", "ORU~^R01", "ORU^R01~ACK", "ACK&", "ACK&x^R01", "ack", "ACK", "ACK^R01",
         ])),
         (10, 2) => {
-            let length = chance.between(18, 22);
+            let length = about_longest(chance);
             (0..length).map(|_| chance.pick(b"A1~^&\"")).collect()
         }
         (10, _) => latin(chance.pick(&["1", "A7", "A~B", "~A", "A~", "\"\"~\"\"", "^A", "\"\"^"])),
@@ -204,12 +201,13 @@ fn hard_field(chance: &mut Chance, field: usize) -> Bytes {
     }
 }
 
-/// A header about as long as may be, or with which the acknowledgement is, and so large a buffer.
+/// A header about as long as the program holds, or with which the acknowledgement fills the largest
+/// buffer, and so large a buffer.
 fn of_a_long_header(chance: &mut Chance) -> Bytes {
-    let length = LONGEST_MESSAGE - chance.between(15, 90);
+    let length = LONGEST_HELD - chance.between(15, 90);
     let content: String = chance.pick(&["x", "xy~", "^"]).chars().cycle().take(length).collect();
     let header = format!(r"MSH|^~\&|{content}|||||||1|P");
-    let room = LONGEST_MESSAGE - 1 + chance.pick(&[0, 1, 2, 20]);
+    let room = MOST_ROOM as usize - chance.pick(&[0, 0, 1, 20]);
     ack_question(&message(&[&header]), b"20240229", &random_id(chance), room)
 }
 
@@ -222,11 +220,19 @@ fn random_time(chance: &mut Chance) -> Bytes {
     }
 }
 
-/// Mostly one to twenty bytes, of all kinds.
+/// About as long as a control ID may be, or as it might be before W6.
+fn about_longest(chance: &mut Chance) -> usize {
+    let longest = chance.pick(&[20, LONGEST_ID, LONGEST_ID]);
+    chance.between(longest - 2, longest + 2)
+}
+
+/// Mostly a few bytes, of all kinds.
 fn random_id(chance: &mut Chance) -> Bytes {
-    let length = match chance.below(12) {
-        0 => chance.pick(&[0, 19, 20, 21, 22]),
-        1 => chance.between(1, 20),
+    let length = match chance.below(24) {
+        0 => 0,
+        1 => about_longest(chance),
+        2 => chance.between(1, LONGEST_ID),
+        3 => chance.between(1, 20),
         _ => chance.between(1, 4),
     };
     (0..length)

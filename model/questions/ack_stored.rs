@@ -5,7 +5,8 @@
 
 use super::error_places::{self, delimited, DELIMITERS};
 use super::filled::{header_of_oru, message_with, segment};
-use super::{ack_question, changed, enough_for, latin, lifelike, message, message_of_type, Bytes};
+use super::{ack_question, changed, enough_for, latin, lifelike, message, message_of_type, padded};
+use super::{Bytes, LONG_IDS};
 use crate::reading::CR;
 
 /// The shortest message that is acknowledged, with AR: it has no more than an MSH-10.
@@ -88,17 +89,20 @@ fn times() -> Vec<Bytes> {
     texts.iter().map(|text| acknowledged(SHORTEST, &latin(text), ID)).collect()
 }
 
-/// 17 counts the bytes handed in (ruling 27); what is written is escaped.
+/// 17 counts the bytes handed in (ruling 27); what is written is escaped: "an ID of 199 NULs is
+/// written in 995 bytes" (W6's ruling 20). 20 were the most before W6.
 fn ids() -> Vec<Bytes> {
     let ids = [
-        "", "1", "12", "1234567890123456789", "12345678901234567890", "123456789012345678901",
-        "\"", "\"\"", "\"\"\"", "\"\" ", " ", "~", "^", "|", r"\", r"\F\", r"\X2222\", r"|^~\&",
-        "||||||||||||||||||||", "|||||||||||||||||||||", "ÄÖÜ", "a\rb",
+        "", "1", "12", "12345678901234567890", "123456789012345678901", "\"", "\"\"", "\"\"\"",
+        "\"\" ", " ", "~", "^", "|", r"\", r"\F\", r"\X2222\", r"|^~\&", "ÄÖÜ", "a\rb",
+        LONG_IDS[0], LONG_IDS[1],
     ];
     let mut lines: Vec<Bytes> =
         ids.iter().map(|id| acknowledged(SHORTEST, TIME, &latin(id))).collect();
-    for length in [20, 21, 40] {
-        lines.push(acknowledged(SHORTEST, TIME, &vec![CR; length]));
+    for byte in [0, b'|', CR] {
+        for length in [20, 21, 199, 200, 256] {
+            lines.push(acknowledged(SHORTEST, TIME, &vec![byte; length]));
+        }
     }
     // Room for the ID as it was handed in, and for more, until it is enough for what is written.
     lines.extend([0, 1, 2].map(|more| ack_question(SHORTEST, TIME, b"|", ENOUGH + more)));
@@ -145,17 +149,22 @@ fn asked_of_header(fields: &str) -> Bytes {
     acknowledged(&message_of_type(fields, &[]), TIME, ID)
 }
 
-/// "MSH-10, the whole field, not present or over 20 bytes", and what comes back of it in MSA.
+/// "MSH-10, the whole field, not present or over 199 bytes", and what comes back of it in MSA. 20
+/// were the most before W6.
 fn control_ids() -> Vec<Bytes> {
-    let contents = [
+    let mut contents = [
         "", "^", "&", "~", "^&~", "~~~", "\"\"", "\"\"^", "\"\"~", "~\"\"", "\"\"~\"\"", "\"\"&",
         "\"", "\"\"\"", " ", "A~B", "~A", "A~", "A^B", "^A", "A&B", "&A", r"\F\", r"\", r"\X2222\",
-        "Ä", "1234567890123456789", "12345678901234567890", "123456789012345678901",
-        "1234567890123456~890", "1234567890123456~8901", "1234567890~12345678901",
-        "~~~~~~~~~~~~~~~~~~~~", "~~~~~~~~~~~~~~~~~~~~~", "~~~~~~~~~~~~~~~~~~~A",
-        "~~~~~~~~~~~~~~~~~~~~A", r"\X41\678901234567890", r"\X41\6789012345678901",
-        "ÄÖÜ45678901234567890", "ÄÖÜ456789012345678901",
-    ];
+        "Ä", "12345678901234567890", "123456789012345678901", "12345678901234567~890",
+    ]
+    .map(str::to_string)
+    .to_vec();
+    for length in [199, 200] {
+        contents.extend(["", r"\X41\", "ÄÖÜ"].map(|front| padded(front, length)));
+        contents.push(padded("", length - 4) + "~890");
+        contents.push("~".repeat(length));
+        contents.push("~".repeat(length - 1) + "A");
+    }
     let mut lines: Vec<Bytes> =
         contents.iter().map(|content| asked_of_header(&format!("|{content}|P"))).collect();
     // Absent, and with nothing behind it.

@@ -1,14 +1,17 @@
 //! The wide set of the verb `ack`: every telling content in every field of the header, every byte
 //! in an ID and at every place of a header, every room for messages as they are sent; every number
-//! at every place that can give it, and with those that are answered AR; every sequence that ERR can
-//! tell, each number with every room about ERR, and every short list of names; and messages,
-//! acknowledgements and lines about as long as may be.
+//! at every place that can give it, and with those that are answered AR; every sequence that ERR
+//! can tell, each number with every room about ERR, and every short list of names; and messages of
+//! about as many segments, and acknowledgements and lines about as long, as may be or as the
+//! program holds.
 
 use super::error_places::{self, delimited, DELIMITERS};
 use super::verdict_wide::TELLING;
-use super::{ack_question, changed, enough_for, filled, lifelike, message, refused, Bytes};
-use crate::ask::{LONGEST_LINE, MOST_ROOM};
-use crate::reading::{allowed, CR, LONGEST_MESSAGE, MOST_SEGMENTS};
+use super::{
+    ack_question, changed, enough_for, filled, lifelike, message, refused, stretched, Bytes,
+};
+use crate::ask::{LONGEST_HELD, LONGEST_LINE, MOST_ROOM};
+use crate::reading::{allowed, CR, MOST_SEGMENTS};
 
 const TIME: &[u8] = b"20240229";
 const ID: &[u8] = b"K1";
@@ -35,22 +38,23 @@ pub fn wide() -> Vec<Bytes> {
     questions.concat()
 }
 
-/// What is as large as a limit of the library.
+/// What is as large as a limit of the library, or as the program holds.
 pub fn limits() -> Vec<Bytes> {
     let questions = [
         long_headers(),
         long_headers_and_errors(),
         long_messages(),
         long_messages_that_reject(),
-        too_long_with_rooms(),
+        late_sequences(),
+        too_many_with_rooms(),
     ];
     questions.concat()
 }
 
-/// A question with one byte of room more than enough.
+/// A question with one byte of room more than enough, where there is so much.
 fn acknowledged(message: &[u8], time: &[u8], id: &[u8]) -> Bytes {
     let length = enough_for(message, time, id);
-    ack_question(message, time, id, length.min(LONGEST_MESSAGE) + 1)
+    ack_question(message, time, id, (length + 1).min(MOST_ROOM as usize))
 }
 
 /// Questions with as much room as is enough, and with one byte less.
@@ -87,12 +91,13 @@ fn telling_times() -> Vec<Bytes> {
     TELLING.map(|time| acknowledged(&accepted, time.as_bytes(), ID)).to_vec()
 }
 
-/// Every telling content as an ID, and every length up to two more than may be.
+/// Every telling content as an ID, and every length up to some more than the 20 bytes that were the
+/// most before W6, and about what may be now.
 fn telling_ids() -> Vec<Bytes> {
     let accepted = message(&[&filled::header_of_oru(&[]), "OBR"]);
     let mut lines = TELLING.map(|id| acknowledged(&accepted, TIME, id.as_bytes())).to_vec();
     for byte in *b"A|\\\"\r\xFF" {
-        for length in 0..=22 {
+        for length in (0..=22).chain(196..=202) {
             lines.push(acknowledged(&accepted, TIME, &vec![byte; length]));
         }
     }
@@ -197,7 +202,7 @@ fn every_byte_that_rejects() -> Vec<Bytes> {
 /// Each number and each code with every room from what would do without any ERR, less one byte, up
 /// to one byte more than enough, with delimiters of two kinds; and segments counted by their name.
 fn rooms_about_errors() -> Vec<Bytes> {
-    let longest_error = b"ERR|OBX^255^14^102\r".len();
+    let longest_error = b"ERR|OBX^4095^14^102\r".len();
     let mut lines = Vec::new();
     for delimiters in DELIMITERS {
         for message in error_places::of_each_number() {
@@ -213,21 +218,30 @@ fn rooms_about_errors() -> Vec<Bytes> {
     lines
 }
 
-/// Every sequence up to 255, which with MSH makes 256 segments: of OBR by a fault of its field, of OBX
-/// by one of the structure, behind OBR and CTI, and by one of a field, behind OBR; the last of these
-/// have more segments than a message may. Four in a row have the same delimiters, so that each fault is
-/// asked with both kinds.
+/// Every sequence up to 260: 256 segments were the most before W6.
 fn every_sequence() -> Vec<Bytes> {
-    let mut lines = Vec::new();
-    for count in 1..=255 {
-        let [orders, results] = error_places::last_of(count);
-        let (field, content) = [(11, "Q"), (3, "\"\""), (14, "x"), (1, "1~1")][count % 4];
-        let faulty = error_places::result_with(count, field, content);
-        for message in [orders, results, faulty] {
-            lines.extend(exactly_and_less(&delimited(&message, DELIMITERS[count / 4 % 2])));
-        }
-    }
-    lines
+    (1..=260).flat_map(last_of_so_many).collect()
+}
+
+/// Sequences of three digits and of four, and those about the last that a message can have: of its
+/// 4,096 segments MSH is one; before an OBX stands OBR, and CTI where it cannot stand.
+fn late_sequences() -> Vec<Bytes> {
+    let counts = [511, 512, 513, 999, 1_000, 1_001, 2_047, 2_048, 2_049, 3_000];
+    counts.into_iter().chain(4_092..=4_096).flat_map(last_of_so_many).collect()
+}
+
+/// The last of so many segments: of OBR by a fault of its field, of OBX by one of the structure,
+/// behind OBR and CTI, and by one of a field, behind OBR. Four counts in a row have the same
+/// delimiters, so that each fault is asked with both kinds.
+fn last_of_so_many(count: usize) -> Vec<Bytes> {
+    let [orders, results] = error_places::last_of(count);
+    let (field, content) = [(11, "Q"), (3, "\"\""), (14, "x"), (1, "1~1")][count % 4];
+    let faulty = error_places::result_with(count, field, content);
+    // So many whole OBX may be more than the program holds: then only C can ask.
+    let held =
+        [orders, results, faulty].into_iter().filter(|message| message.len() <= LONGEST_HELD);
+    held.flat_map(|message| exactly_and_less(&delimited(&message, DELIMITERS[count / 4 % 2])))
+        .collect()
 }
 
 /// Each fault of a field in the second segment of its name or the third, and in the tenth or a later
@@ -277,41 +291,39 @@ fn short_lists() -> Vec<Bytes> {
     lines
 }
 
-/// Headers with which the acknowledgement is as long as may be, or one byte longer or shorter; and
-/// headers as long as may be themselves. The room ends at 32,768 and behind it.
+/// Headers with which the acknowledgement fills the largest buffer, or is one byte longer; and
+/// headers as long as the program holds.
 fn long_headers() -> Vec<Bytes> {
     let most_room = MOST_ROOM as usize;
     let mut lines = Vec::new();
     for field in [3, 4, 5, 6, 11] {
         let empty = filled::header_of_oru(&[(field, "")]);
-        let length = enough_for(&message(&[&empty]), TIME, ID);
-        for longer in [LONGEST_MESSAGE - length, LONGEST_MESSAGE - empty.len() - 1] {
-            for filling in [longer - 1, longer, longer + 1] {
-                let header = filled::header_of_oru(&[(field, &"x".repeat(filling))]);
-                lines.push(ack_question(&message(&[&header]), TIME, ID, LONGEST_MESSAGE));
-                lines.push(ack_question(&message(&[&header]), TIME, ID, LONGEST_MESSAGE + 1));
-            }
+        let longest = most_room - enough_for(&message(&[&empty]), TIME, ID);
+        for filling in [longest, longest + 1, LONGEST_HELD - empty.len() - 1] {
+            let header = filled::header_of_oru(&[(field, &"x".repeat(filling))]);
+            lines.push(ack_question(&message(&[&header]), TIME, ID, most_room));
         }
     }
     let header = filled::header_of_oru(&[]);
     lines.push(ack_question(&message(&[&header, "OBR"]), TIME, ID, most_room));
-    lines.push(ack_question(&message(&[&header]), TIME, &[CR; 20], most_room));
+    for byte in [0, CR] {
+        lines.push(ack_question(&message(&[&header]), TIME, &[byte; 199], most_room));
+    }
     // A header with no CR, and a long field that is not written back.
-    lines.push(ack_question(&vec![b'x'; LONGEST_MESSAGE], TIME, ID, 0));
+    lines.push(ack_question(&vec![b'x'; LONGEST_HELD], TIME, ID, 0));
     for field in [7, 8, 9, 12, 13] {
-        for filling in [32_000, LONGEST_MESSAGE] {
-            let header = filled::header_of_oru(&[(field, &"x".repeat(filling))]);
-            lines.push(acknowledged(&message(&[&header]), TIME, ID));
-        }
+        let header = filled::header_of_oru(&[(field, &"x".repeat(65_000))]);
+        lines.push(acknowledged(&message(&[&header]), TIME, ID));
     }
     lines
 }
 
-/// Acknowledgements that are as long as may be, or one byte longer or shorter, with ERR and without
-/// one; and those that would be as long as may be with no ERR.
+/// Acknowledgements that fill the largest buffer, or are one byte longer or shorter, with ERR and
+/// without one; and those that would fill it with no ERR.
 fn long_headers_and_errors() -> Vec<Bytes> {
+    let most_room = MOST_ROOM as usize;
     let accepted = message(&[&filled::header_of_oru(&[]), "OBR"]);
-    let without_error = LONGEST_MESSAGE - enough_for(&accepted, TIME, ID);
+    let without_error = most_room - enough_for(&accepted, TIME, ID);
     let mut lines = Vec::new();
     for (change, behind) in
         [((11, "P"), "OBR"), ((9, "ORU^R02"), "OBR"), ((11, "X"), "OBR"), ((11, "P"), "OBR|x")]
@@ -320,30 +332,26 @@ fn long_headers_and_errors() -> Vec<Bytes> {
             let header = filled::header_of_oru(&[(3, &"x".repeat(filling)), change]);
             message(&[&header, behind])
         };
-        let longest = LONGEST_MESSAGE - enough_for(&message_of(0), TIME, ID);
+        let longest = most_room - enough_for(&message_of(0), TIME, ID);
         for filling in [longest - 1, longest, longest + 1, without_error] {
-            lines.push(ack_question(&message_of(filling), TIME, ID, LONGEST_MESSAGE + 1));
+            lines.push(ack_question(&message_of(filling), TIME, ID, most_room));
         }
     }
     lines
 }
 
 /// A message of this length: the header, and an OBR for all the rest of it.
-fn message_of_length(header: &str, length: usize) -> Bytes {
-    let mut message = message(&[header, "OBR|1|"]);
-    message.pop();
-    message.resize(length - 1, b'x');
-    message.push(CR);
-    message
+pub fn message_of_length(header: &str, length: usize) -> Bytes {
+    stretched(message(&[header, "OBR|1|"]), length)
 }
 
-/// As many bytes and segments as may be, and one more: with AE then, since the header is sound.
+/// As many bytes as the program holds, and as many segments as may be, and one more: with AE then,
+/// since the header is sound.
 fn long_messages() -> Vec<Bytes> {
     let mut messages = Vec::new();
-    for length in [LONGEST_MESSAGE - 1, LONGEST_MESSAGE, LONGEST_MESSAGE + 1, 60_000] {
-        let mut message = message_of_length(&filled::header_of_oru(&[]), length);
-        messages.push(message.clone());
-        message[length - 1] = b'x';
+    for length in [32_769, LONGEST_HELD - 1, LONGEST_HELD] {
+        let message = message_of_length(&filled::header_of_oru(&[]), length);
+        messages.push(changed(&message, length - 1, b'x'));
         messages.push(message);
     }
     for count in [MOST_SEGMENTS, MOST_SEGMENTS + 1] {
@@ -357,15 +365,13 @@ fn long_messages() -> Vec<Bytes> {
     messages.iter().map(|message| acknowledged(message, TIME, ID)).collect()
 }
 
-/// What is answered AR, as long as may be, and with one byte or one segment more, which is AE. The
-/// last segment that may be is number 255: its OBX-11 is AE too.
+/// What is answered AR, as long as the program holds, and of as many segments as may be; and of one
+/// more, which is AE. The last segment that may be is number 4,095: its OBX-11 is AE too.
 fn long_messages_that_reject() -> Vec<Bytes> {
     let mut messages = Vec::new();
     for change in [(9, "ORU^R02"), (11, "X"), (12, "2.5")] {
         let header = filled::header_of_oru(&[change]);
-        for length in [LONGEST_MESSAGE, LONGEST_MESSAGE + 1] {
-            messages.push(message_of_length(&header, length));
-        }
+        messages.push(message_of_length(&header, LONGEST_HELD));
         let mut segments = vec![&header[..], "OBR"];
         segments.resize(MOST_SEGMENTS, "ZZZ");
         messages.push(message(&segments));
@@ -380,25 +386,19 @@ fn long_messages_that_reject() -> Vec<Bytes> {
     messages.iter().map(|message| acknowledged(message, TIME, ID)).collect()
 }
 
-/// 1 and 8, which only what is longer than may be can have, and a fault of the last segment that may
-/// be, with delimiters of two kinds, each with as much room as is enough and with one byte less.
-fn too_long_with_rooms() -> Vec<Bytes> {
+/// 8, which only what has more segments than may be can have, with delimiters of two kinds, each
+/// with as much room as is enough and with one byte less.
+fn too_many_with_rooms() -> Vec<Bytes> {
     let header = filled::header_of_oru(&[]);
     let mut segments = vec![&header[..], "OBR"];
     segments.resize(MOST_SEGMENTS + 1, "NTE");
-    let [last, _] = error_places::last_of(MOST_SEGMENTS - 1);
-    let messages = [message_of_length(&header, LONGEST_MESSAGE + 1), message(&segments), last];
-    let mut lines = Vec::new();
-    for message in messages {
-        for delimiters in DELIMITERS {
-            lines.extend(exactly_and_less(&delimited(&message, delimiters)));
-        }
-    }
-    lines
+    let message = message(&segments);
+    let ask = |delimiters| exactly_and_less(&delimited(&message, delimiters));
+    DELIMITERS.into_iter().flat_map(ask).collect()
 }
 
 /// Lines about as long as may be, byte for byte: by the time, by the ID, by both of them
-/// behind a message, or by a message whose acknowledgement is written all the same.
+/// behind a message, or by a message, which is more than the program holds.
 fn long_lines() -> Vec<Bytes> {
     let header = message(&[r"MSH|^~\&||||||||1"]);
     let mut lines = Vec::new();
@@ -411,7 +411,7 @@ fn long_lines() -> Vec<Bytes> {
         lines.push(ack_question(&header, &vec![b'2'; time], &vec![b'K'; id], 1));
         let mut longer = header.clone();
         longer.resize(bytes - TIME.len() - ID.len(), b'x');
-        lines.push(acknowledged(&longer, TIME, ID));
+        lines.push(ack_question(&longer, TIME, ID, 1));
     }
     lines
 }

@@ -1,7 +1,8 @@
 //! Messages with a header that is acknowledged, by what ERR tells of them (W4 of document 02): one
 //! of each number and of each code, segments that are one of many of their name, and segments that
 //! cannot stand where they do. 2 and 3 are not here, nor 37 at MSH-10 and any fault of MSA-1: what has
-//! one of those is not acknowledged. What is as long as a limit, 1 and 8 among it, stands in the wide set.
+//! one of those is not acknowledged. What is as long as a limit, 1 and 8 among it, stands in the wide
+//! set and in the large one.
 
 use super::filled::{header_of_oru, message_with, segment};
 use super::structure_fresh::translated;

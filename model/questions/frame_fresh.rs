@@ -7,7 +7,7 @@ use super::{frame_question, frames_question, Bytes};
 use crate::ask::MOST_ROOM;
 use crate::chance::Chance;
 use crate::frames::{BEGIN, END, INSIDE, INSIDE_BEHIND_END, MOST_COUNTED};
-use crate::reading::{CR, LONGEST_MESSAGE};
+use crate::reading::CR;
 
 /// A question of `frame`: one call, with a state handed in.
 pub fn one_call(chance: &mut Chance) -> Bytes {
@@ -35,15 +35,15 @@ pub fn all_pieces(chance: &mut Chance) -> Bytes {
     frames_question(room, &pieces)
 }
 
-/// A frame about as long as may be, by packets, and a buffer about as large.
+/// A frame about as long as the largest buffer, by packets, and a buffer about as large.
 fn of_a_long_frame(chance: &mut Chance) -> Bytes {
-    let length = chance.between(LONGEST_MESSAGE - 2, LONGEST_MESSAGE + 2);
+    let largest = MOST_ROOM as usize;
+    let length = chance.between(largest - 2, largest + 2);
     let mut stream = vec![BEGIN];
     stream.resize(length + 1, chance.pick(b"A\r\xFF"));
     stream.extend([END, CR]);
     stream.extend(random_stream(chance, 2));
-    let near = chance.between(LONGEST_MESSAGE - 2, LONGEST_MESSAGE + 2);
-    let room = chance.pick(&[LONGEST_MESSAGE, near, near, MOST_ROOM as usize]);
+    let room = largest - chance.pick(&[0, 0, 1, 2]);
     let packet = chance.pick(&[536, 1_460, 4_096, 32_769, usize::MAX]);
     frames_question(room, &stream.chunks(packet).collect::<Vec<_>>())
 }

@@ -1,15 +1,22 @@
-//! The wide set of the verbs `frame` and `frames`: every stream of up to seven telling bytes, every way
-//! to cut the telling streams, a larger grid of states, every byte in every mode, runs of every length
-//! up to some blocks, and frames, states and lines about as large as may be.
+//! The wide set of the verbs `frame` and `frames`: every stream of up to seven telling bytes, every
+//! way to cut the telling streams, a larger grid of states, every byte in every mode, runs of every
+//! length up to some blocks, and frames, states and lines about as large as the program can lend a
+//! buffer for.
 
 use super::frame_stored::{frame_of, plain, NEAR, STATES, STREAMS, TELLING, TELLING_PIECE};
 use super::{frame_question, frames_question, texts, Bytes};
 use crate::ask::{LONGEST_LINE, MOST_ROOM};
 use crate::frames::{BEGIN, END, INSIDE, INSIDE_BEHIND_END, MOST_COUNTED, OUTSIDE, SKIPPING};
-use crate::reading::{CR, LONGEST_MESSAGE};
+use crate::reading::CR;
 
 /// What a packet of the usual network carries.
-const PACKET: usize = 1_460;
+pub const PACKET: usize = 1_460;
+
+/// The largest buffer, which is the limit of a frame there: a message's is larger.
+const LARGEST: usize = MOST_ROOM as usize;
+
+/// The longest frame before W6, in the largest buffer too.
+const LONGEST_BEFORE: usize = 32_768;
 
 pub fn wide() -> Vec<Bytes> {
     let questions = [
@@ -24,15 +31,15 @@ pub fn wide() -> Vec<Bytes> {
         pairs_behind_runs(),
         cut_blocks(),
         runs_of_wide_blocks(),
-        frames_at_the_limit(),
+        frames_of_the_largest_buffer(),
         long_lines(),
     ];
     questions.concat()
 }
 
-/// What is as large as a limit of the library.
+/// What is as large as the largest buffer.
 pub fn limits() -> Vec<Bytes> {
-    [whole_frames_at_the_limit(), states_at_the_limit()].concat()
+    [whole_frames_of_the_largest_buffer(), states_of_the_largest_buffer()].concat()
 }
 
 /// Those that are shorter are stored. With a room of 3 six bytes are enough: they are what a frame of 3
@@ -237,56 +244,50 @@ fn runs_of_wide_blocks() -> Vec<Bytes> {
     lines
 }
 
-/// The rooms about the limit of a message, and the largest that is lent.
-fn rooms_at_the_limit() -> [usize; 4] {
-    [LONGEST_MESSAGE - 1, LONGEST_MESSAGE, LONGEST_MESSAGE + 1, MOST_ROOM as usize]
-}
-
-/// A frame about as long as a message may be, and a short one behind it.
-fn stream_at_the_limit(length: usize) -> Bytes {
+/// A frame of this length, and a short one behind it.
+pub fn two_frames(length: usize) -> Bytes {
     [frame_of(&plain(length)), frame_of(b"Z")].concat()
 }
 
-fn frames_at_the_limit() -> Vec<Bytes> {
+fn frames_of_the_largest_buffer() -> Vec<Bytes> {
     let mut lines = Vec::new();
-    for length in LONGEST_MESSAGE - 1..=LONGEST_MESSAGE + 1 {
-        let stream = stream_at_the_limit(length);
+    for length in [LONGEST_BEFORE + 1, LARGEST - 1, LARGEST, LARGEST + 1] {
+        let stream = two_frames(length);
         let packets: Vec<&[u8]> = stream.chunks(PACKET).collect();
-        for room in rooms_at_the_limit() {
+        for room in [LARGEST - 1, LARGEST] {
             lines.push(frames_question(room, &packets));
         }
     }
     lines
 }
 
-/// A message as long as may be is a frame, in the largest buffer too, and one byte more is none,
-/// whole and by packets.
-fn whole_frames_at_the_limit() -> Vec<Bytes> {
-    let longest = stream_at_the_limit(LONGEST_MESSAGE);
-    let too_long = stream_at_the_limit(LONGEST_MESSAGE + 1);
+/// What fills the largest buffer is a frame, and one byte more is none, whole and by packets.
+fn whole_frames_of_the_largest_buffer() -> Vec<Bytes> {
+    let longest = two_frames(LARGEST);
+    let too_long = two_frames(LARGEST + 1);
     let packets: Vec<&[u8]> = longest.chunks(PACKET).collect();
     let packets_too_long: Vec<&[u8]> = too_long.chunks(PACKET).collect();
     vec![
-        frame_question([0, 0, 0], &longest, LONGEST_MESSAGE - 1),
-        frame_question([0, 0, 0], &longest, LONGEST_MESSAGE),
-        frame_question([0, 0, 0], &longest, MOST_ROOM as usize),
-        frame_question([0, 0, 0], &too_long, MOST_ROOM as usize),
-        frames_question(LONGEST_MESSAGE, &packets),
-        frames_question(MOST_ROOM as usize, &packets_too_long),
+        frame_question([0, 0, 0], &longest, LARGEST - 1),
+        frame_question([0, 0, 0], &longest, LARGEST),
+        frame_question([0, 0, 0], &too_long, LARGEST),
+        frames_question(LARGEST, &packets),
+        frames_question(LARGEST, &packets_too_long),
     ]
 }
 
-/// As many bytes held as may be, one less and one more.
-fn states_at_the_limit() -> Vec<Bytes> {
+/// As many bytes held as may be, one less and one more; and more than was the most before W6.
+fn states_of_the_largest_buffer() -> Vec<Bytes> {
     let mut lines = Vec::new();
-    for room in rooms_at_the_limit() {
-        for held in LONGEST_MESSAGE as u64 - 1..=LONGEST_MESSAGE as u64 + 1 {
-            lines.push(frame_question([INSIDE, held, 0], b"AA\x1C\r", room));
-            lines.push(frame_question([INSIDE_BEHIND_END, held, 0], b"\r", room));
+    for room in [LARGEST - 1, LARGEST] {
+        let before = [LONGEST_BEFORE, LONGEST_BEFORE + 1, 40_000];
+        for held in before.into_iter().chain(LARGEST - 2..=LARGEST + 1) {
+            lines.push(frame_question([INSIDE, held as u64, 0], b"AA\x1C\r", room));
+            lines.push(frame_question([INSIDE_BEHIND_END, held as u64, 0], b"\r", room));
         }
     }
-    lines.push(frame_question([INSIDE, MOST_ROOM, 0], b"\x1C\r", MOST_ROOM as usize));
-    lines.push(frame_question([OUTSIDE, 1, 0], b"\x1C\r", MOST_ROOM as usize));
+    lines.push(frame_question([INSIDE, MOST_ROOM, 0], b"\x1C\r", LARGEST));
+    lines.push(frame_question([OUTSIDE, 1, 0], b"\x1C\r", LARGEST));
     lines
 }
 
@@ -299,7 +300,7 @@ fn long_lines() -> Vec<Bytes> {
         lines.push(frames_question(1, &[&plain(bytes)]));
     }
     let most = LONGEST_LINE / 2 - 7;
-    lines.push(frames_question(MOST_ROOM as usize, &[&vec![BEGIN; most]]));
+    lines.push(frames_question(LARGEST, &[&vec![BEGIN; most]]));
     lines.push(frames_question(0, &[&[BEGIN, b'A'].repeat(most / 2)]));
     lines.push(frames_question(1, &[&[BEGIN, END, CR].repeat(most / 3)]));
     for pieces in [LONGEST_LINE / 2 - 4, LONGEST_LINE / 2 - 3] {

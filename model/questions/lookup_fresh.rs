@@ -4,7 +4,7 @@
 
 use super::{lookup_question, read_fresh, sound, value_fresh, Bytes, Numbers};
 use crate::chance::Chance;
-use crate::reading::{CR, MOST_SEGMENTS};
+use crate::reading::CR;
 
 pub fn fresh(chance: &mut Chance, verb: &str) -> Bytes {
     if chance.one_in(100) {
@@ -26,20 +26,23 @@ pub fn fresh(chance: &mut Chance, verb: &str) -> Bytes {
     lookup_question(verb, &message, address)
 }
 
-/// About as many segments as may be, asked for one of the last, for one that is not there, or for
-/// the header.
+/// Many segments, asked for one of the last, for one that is not there, or for the header.
 fn in_many_segments(chance: &mut Chance, verb: &str) -> Bytes {
     let message = read_fresh::many_segments(chance);
-    let last = MOST_SEGMENTS as u64 - 1;
-    let segment = chance.pick(&[0, last - 4, last - 1, last, last + 1, last + 2]);
+    let behind_last = message.iter().filter(|&&byte| byte == CR).count() as u64;
+    let segment = match chance.below(6) {
+        0 => 0,
+        1 => behind_last + 1,
+        back => behind_last.saturating_sub(back as u64 - 2),
+    };
     let field = chance.below(4) as u64;
     lookup_question(verb, &message, [segment, field, 0, 0, 0])
 }
 
-/// About as many bytes as may be, asked for any of its segments.
+/// About as many bytes as the program holds, asked for any of its segments.
 fn in_many_bytes(chance: &mut Chance, verb: &str) -> Bytes {
     let message = read_fresh::long_message(chance);
-    let segment = chance.below(140) as u64;
+    let segment = chance.below(250) as u64;
     let field = chance.between(1, 3) as u64;
     lookup_question(verb, &message, [segment, field, 0, 0, 0])
 }

@@ -1,9 +1,10 @@
 //! Fresh questions of the verb `read`: random messages, mostly sound ones with some damage done to
-//! them, mixed so that every number from 0 to 8 comes up often.
+//! them, mixed so that every number from 0 to 7 comes up often, and 8, for its length, now and then.
 
 use super::{latin, message, read_question, read_stored, sound, Bytes};
+use crate::ask::LONGEST_HELD;
 use crate::chance::Chance;
-use crate::reading::{CR, LONGEST_MESSAGE, MOST_SEGMENTS};
+use crate::reading::{CR, MOST_SEGMENTS};
 
 /// Bytes at the edges of the paper's classes, where a slip shows.
 const TELLING: &[u8] = b"\r\r\r\n\t\0\x1F \x7F\x80\x9F\xA0\xFF|^~\\&\"+-./09:@AZ[`az{}MSH";
@@ -95,7 +96,8 @@ fn double_segment(chance: &mut Chance, message: &mut Bytes) {
     message.splice(place..place, copy);
 }
 
-/// Some of the faults of the stored questions at once; one segment too many seldom, for its length.
+/// Some of the faults of the stored questions at once; too many segments very seldom, for its
+/// length.
 fn several_faults(chance: &mut Chance) -> Bytes {
     let faults = read_stored::faults();
     let too_many = faults.len() - 1;
@@ -107,7 +109,7 @@ fn several_faults(chance: &mut Chance) -> Bytes {
             fault(&mut segments);
         }
     }
-    if chance.one_in(12) {
+    if chance.one_in(480) {
         faults[too_many](&mut segments);
     }
     segments.concat()
@@ -149,10 +151,20 @@ fn few_bytes(chance: &mut Chance) -> Bytes {
     piece
 }
 
-/// About as many segments as may be, now and then with a bad one near the last that may be.
+/// About 256, which was the most before W6; seldom, for their length, about as many as may be.
+pub fn many(chance: &mut Chance) -> usize {
+    if chance.one_in(40) {
+        MOST_SEGMENTS
+    } else {
+        256
+    }
+}
+
+/// Many segments, now and then with a bad one near the last.
 pub fn many_segments(chance: &mut Chance) -> Bytes {
     let mut segments = vec![r"MSH|^~\&".to_string()];
-    let count = chance.between(MOST_SEGMENTS - 4, MOST_SEGMENTS + 6);
+    let many = many(chance);
+    let count = chance.between(many - 4, many + 6);
     while segments.len() < count {
         segments.push(if chance.one_in(8) {
             sound::random_name(chance)
@@ -161,7 +173,7 @@ pub fn many_segments(chance: &mut Chance) -> Bytes {
         });
     }
     if chance.one_in(3) {
-        let at = chance.between(MOST_SEGMENTS - 5, count - 1);
+        let at = chance.between(many - 5, count - 1);
         segments[at] = chance.pick(&["zzz", "MSH", "MSH|", "", "ZZ", "MSHx"]).to_string();
     }
     let segments: Vec<&str> = segments.iter().map(String::as_str).collect();
@@ -171,9 +183,9 @@ pub fn many_segments(chance: &mut Chance) -> Bytes {
     message
 }
 
-/// About as many bytes as may be, or a little more, in segments of random length.
+/// About as many bytes as the program holds, or half of that, in segments of random length.
 pub fn long_message(chance: &mut Chance) -> Bytes {
-    let nearest = [LONGEST_MESSAGE - 1, LONGEST_MESSAGE, LONGEST_MESSAGE + 1, 33_000];
+    let nearest = [LONGEST_HELD - 1, LONGEST_HELD, LONGEST_HELD + 1, 33_000];
     let length = chance.pick(&nearest);
     let mut message = message(&[r"MSH|^~\&|"]);
     while message.len() < length - 1 {

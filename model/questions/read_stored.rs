@@ -1,7 +1,7 @@
 //! The stored questions of the verb `read`: sound messages, telling bytes at every kind of place,
 //! damaged messages, and each pair of faults that can stand together. The messages are as short as
 //! their point allows, since all verbs share the room for vectors; what is as long as a limit, and
-//! every byte value at every place, stand in the wide set.
+//! every byte value at every place, stand in the wide set and in the large one.
 
 use super::read_wide::at_every_place;
 use super::{changed, latin, message, read_fresh, read_question, sound, Bytes};

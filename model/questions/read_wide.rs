@@ -1,9 +1,10 @@
-//! The wide set of the verb `read`: every byte value at every kind of place; and messages as long, and
-//! of as many segments, as may be, from both sides of the limit.
+//! The wide set of the verb `read`: every byte value at every kind of place; messages of as many
+//! segments as may be, from both sides of the limit; and messages as long as the program holds.
 
 use super::read_stored::{faults, with_faults};
-use super::{changed, message, read_question, Bytes};
-use crate::reading::{CR, LONGEST_MESSAGE, MOST_SEGMENTS};
+use super::{changed, message, read_question, stretched, Bytes};
+use crate::ask::LONGEST_HELD;
+use crate::reading::MOST_SEGMENTS;
 
 pub fn wide() -> Vec<Bytes> {
     let every_byte: Bytes = (0..=0xFF).collect();
@@ -58,19 +59,14 @@ fn in_a_later_segment(bytes: &[u8]) -> Vec<Bytes> {
     messages
 }
 
-/// The longest message that is read, of as many segments as may be, and one byte less; and one byte
-/// more, with every other fault in it as well, so that 1 has to come before them all.
+/// The longest message that the program holds, of as many segments as may be, one byte less, and
+/// with a fault of the last byte.
 fn long_messages() -> Vec<Bytes> {
-    let mut longest = of_segments(MOST_SEGMENTS, &[]);
-    longest.pop();
-    longest.push(b'|');
-    longest.resize(LONGEST_MESSAGE - 1, b'A');
-    longest.push(CR);
-    let mut too_long = with_faults(&faults());
-    too_long.resize(LONGEST_MESSAGE + 1, b'A');
-    let mut one_less = longest.clone();
-    one_less.remove(LONGEST_MESSAGE - 2);
-    vec![one_less, longest, too_long]
+    let last = MOST_SEGMENTS - 1;
+    let of_length = |length| stretched(of_segments(MOST_SEGMENTS, &[(last, "ZZZ|")]), length);
+    let longest = of_length(LONGEST_HELD);
+    let with_fault = |byte| changed(&longest, LONGEST_HELD - 1, byte);
+    vec![of_length(LONGEST_HELD - 1), with_fault(b'\n'), with_fault(b'x'), longest]
 }
 
 /// A header and as many `ZZZ` as make `count` segments, with others at some of their numbers.

@@ -4,7 +4,7 @@
 //! and no fault of MSA-1: what has one of those is not acknowledged. What is too long is not here.
 
 use super::filled::{header_of_oru, segment, Field};
-use super::{latin, message, Bytes};
+use super::{latin, message, padded, Bytes, LONG_IDS};
 
 /// What MSH-9 may hold: "components 1 and 2 of MSH-9, repetition 1, compared as raw bytes". Most
 /// are no type, some are ACK, which is not acknowledged, and some are listed with something behind.
@@ -120,6 +120,7 @@ pub fn processing_ids_and_versions() -> Vec<Bytes> {
 /// Good and bad headers, of an ACK too, with each MSH-10 that is not acknowledged, and with those
 /// that just are.
 pub fn control_ids() -> Vec<Bytes> {
+    let repeated = [199, 200].map(|length| padded("~", length));
     let headers = headers_filled(&[
         (9, &["ORU^R01", "ORU^R02", "ACK^R01"]),
         (11, &["P", "X"]),
@@ -127,8 +128,8 @@ pub fn control_ids() -> Vec<Bytes> {
         (
             10,
             &[
-                "", "^", "~", "\"\"", "\"\"~\"\"", "A2345678901234567890", "A23456789012345678901",
-                "~A345678901234567890", "~A3456789012345678901",
+                "", "^", "~", "\"\"", "\"\"~\"\"", "A23456789012345678901", LONG_IDS[0],
+                LONG_IDS[1], &repeated[0], &repeated[1],
             ],
         ),
     ]);

@@ -3,7 +3,7 @@
 
 use super::{message, read_fresh, sound, structure_question, Bytes, USUAL_DELIMITERS};
 use crate::chance::Chance;
-use crate::reading::{CR, MOST_SEGMENTS};
+use crate::reading::CR;
 
 pub fn fresh(chance: &mut Chance) -> Bytes {
     let mut message = random_message(chance);
@@ -88,12 +88,12 @@ fn up_to_twelve(chance: &mut Chance) -> usize {
     chance.between(1, 12)
 }
 
-/// About as many segments as may be where the structure repeats enough, or else filled with Z
-/// segments.
+/// Many segments where the structure repeats enough, or else filled with Z segments.
 pub fn long_walk(chance: &mut Chance, kind: &str, event: &str) -> Vec<String> {
     let mut names = sound::random_names(chance, structure_of(kind, event), up_to_twelve);
     names.remove(0);
-    let count = chance.between(MOST_SEGMENTS - 5, MOST_SEGMENTS);
+    let many = read_fresh::many(chance);
+    let count = chance.between(many - 5, many);
     while names.len() < count && chance.below(8) > 0 {
         let at = chance.below(names.len() + 1);
         names.insert(at, "ZZZ".to_string());

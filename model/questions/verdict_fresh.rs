@@ -5,7 +5,7 @@
 use super::verdict_wide::{AROUND_ACCEPTED, TELLING};
 use super::{
     filled, latin, lifelike, read_fresh, sound, structure_fresh, value_fresh, verdict_question,
-    Bytes, USUAL_DELIMITERS,
+    Bytes, LONG_IDS, USUAL_DELIMITERS,
 };
 use crate::chance::Chance;
 use crate::reading::CR;
@@ -144,7 +144,7 @@ fn accepted_content(chance: &mut Chance, name: &str, field: usize) -> Bytes {
     }
     let contents: &[&str] = match (name, field) {
         ("MSH" | "PID", 7) | ("OBX", 14) => &TIME_STAMPS,
-        ("MSH", 10) => &["1", "A7", "A^B", r#"""^"#, "K-1", "A2345678901234567890"],
+        ("MSH", 10) => &["1", "A7", "A^B", r#"""^"#, "K-1", "A23456789012345678901", LONG_IDS[0]],
         ("MSH", 11) => &["P", "P", "D", "T", "P^A", "T^"],
         ("MSH", 12) => &["2.4", "2.4", "2.4^", "2.4^AUS&&ISO"],
         ("PID", 3 | 5) => &["1", "Roe^Jo", "7^^^H~8", r#"A~~"""#, "^A", r#"""^"#],
@@ -228,7 +228,8 @@ fn random_content(chance: &mut Chance, before: &[u8]) -> Bytes {
             value_fresh::random(chance, verb, USUAL_DELIMITERS)
         }
         _ => {
-            let length = chance.between(16, 22);
+            // About the most digits of a number, or the most bytes of a control ID.
+            let length = chance.pick(&[19, 19, 19, 199]) + chance.below(7) - 3;
             (0..length).map(|_| chance.pick(b"0123456789")).collect()
         }
     }

@@ -6,7 +6,7 @@
 use super::filled::{
     header_of_oru, message_around, message_with, oru_with, segment, segment_ending_before, JUDGED,
 };
-use super::{changed, latin, lifelike, message, verdict_question, Bytes};
+use super::{changed, latin, lifelike, message, padded, verdict_question, Bytes, LONG_IDS};
 
 pub fn stored() -> Vec<Bytes> {
     let messages = [
@@ -145,14 +145,18 @@ fn sequence_numbers() -> Vec<Bytes> {
     messages
 }
 
-/// MSH-10: "1 to 20 bytes", of any kind and raw.
+/// MSH-10: "1 to 199 bytes", of any kind and raw. 20 were the most before W6.
 fn control_ids() -> Vec<Bytes> {
-    let contents = [
-        " ", "\"", "A2345678901234567890", "Ä^3&5678901234567890", r"\X41\678901234567890",
-        "A23456789012345678901", "Ä^3&56789012345678901", r"\X41\6789012345678901", "\"\"^",
-        "^^^^^^^^^^^^^^^^^^^^^", "A2345678901234567890~", "~A2345678901234567890",
-    ];
-    contents.map(|content| message_with("MSH", &[(10, content)])).to_vec()
+    let mut contents = [" ", "\"", "\"\"^", "A2345678901234567890", "A23456789012345678901"]
+        .map(str::to_string)
+        .to_vec();
+    for length in [199, 200] {
+        let patterns = ["", "~", "Ä^3&5", r"\X41\6"];
+        contents.extend(patterns.map(|pattern| padded(pattern, length)));
+        contents.push("^".repeat(length));
+        contents.push(padded("", length - 1) + "~");
+    }
+    contents.iter().map(|content| message_with("MSH", &[(10, content)])).collect()
 }
 
 /// OBX-5 of each type that is judged, of one repetition and of many.
@@ -242,7 +246,7 @@ fn two_faults_of_a_field() -> Vec<Bytes> {
 /// Of each judged field a content that is a fault, and one that is a fault of another number.
 pub const FAULTS: [(&str, usize, [&str; 2]); 16] = [
     ("MSH", 7, ["x", ""]),
-    ("MSH", 10, ["123456789012345678901", r#""""#]),
+    ("MSH", 10, [LONG_IDS[1], r#""""#]),
     ("MSH", 11, ["X", "~"]),
     ("MSH", 12, ["2.3", "2.4~"]),
     ("PID", 3, ["", r#""""#]),

@@ -2,13 +2,15 @@
 //! OBX-2 with all of them in OBX-5, every two faults, every word as short as a list has them, and
 //! messages as they are sent with damage at every place.
 
+use super::error_places::RESULT;
 use super::filled::{header_of_oru, message_with, oru_with, segment, JUDGED};
 use super::verdict_stored::{segments_moved, FAULTS};
-use super::{changed, lifelike, message, verdict_question, Bytes};
-use crate::reading::{allowed, CR, LONGEST_MESSAGE, MOST_SEGMENTS};
+use super::{changed, lifelike, message, stretched, verdict_question, Bytes, LONG_IDS};
+use crate::ask::LONGEST_HELD;
+use crate::reading::{allowed, MOST_SEGMENTS};
 
 /// Contents of a field that are right somewhere and wrong elsewhere.
-pub const TELLING: [&str; 76] = [
+pub const TELLING: [&str; 78] = [
     "", "^", "&", "~", "^&~", "~~", r#""""#, r#"""^"#, r#"^"""#, r#"""&"#, r#"""~"#, r#"~"""#,
     r#"""~"""#, r#"""#, r#"""""#, " ", "0", "1", "5", "-5", "+5.0", "5.", "9999", "10000",
     "123456789012345678", "1234567890123456789", "0.12345678901234567890", "2024", "202402",
@@ -16,7 +18,7 @@ pub const TELLING: [&str; 76] = [
     "0000", "0930", "093001.5-0030", "24", "2.4", "2.3", "2.4^AUS&&ISO", "P", "D", "T", "F", "M",
     "X", "AA", "AE", "CA", "NM", "ST", "TS", "f", "nm", "aa", "P^", "^P", "P&", "&P", "P~", "~P",
     "P~D", "F^M", "1^2", "2024^x", "x^2024", "^2024", "&^2024", r#"""^2024"#, "2024~x", "é",
-    r"\T\", "A2345678901234567890", "A23456789012345678901",
+    r"\T\", "A2345678901234567890", "A23456789012345678901", LONG_IDS[0], LONG_IDS[1],
 ];
 
 /// Ways to put an accepted content, `x`, into a field that should not hold it so.
@@ -32,14 +34,8 @@ const VALUE_TYPES: [&str; 22] = [
 ];
 
 pub fn wide() -> Vec<Bytes> {
-    let messages = [
-        telling_contents(),
-        observations(),
-        short_words(),
-        control_ids(),
-        two_faults(),
-        damaged(),
-    ];
+    let messages =
+        [telling_contents(), observations(), short_words(), control_ids(), two_faults(), damaged()];
     messages.concat().iter().map(|message| verdict_question(message)).collect()
 }
 
@@ -95,7 +91,7 @@ fn short_words() -> Vec<Bytes> {
 /// Every length of MSH-10 about the longest, of letters, of separators, and of repetitions.
 fn control_ids() -> Vec<Bytes> {
     let mut messages = Vec::new();
-    for length in 0..=24 {
+    for length in (0..=24).chain(196..=202) {
         for filling in ["A", "^", "&", "~", "A^", "A~", "\""] {
             let id: String = filling.chars().cycle().take(length).collect();
             messages.push(message_with("MSH", &[(10, &id)]));
@@ -129,16 +125,16 @@ fn two_faults() -> Vec<Bytes> {
     messages
 }
 
-/// As many segments and as many bytes as may be, with a fault in the last segment or without; one
-/// byte too many; and as many repetitions as there is room for.
+/// As many segments as may be, with a fault in the last or without, and one more; and as many bytes
+/// and as many repetitions as the program holds.
 fn long_messages() -> Vec<Bytes> {
     let header = header_of_oru(&[]);
-    let accepted = segment("OBX", &[(2, "NM"), (5, "5")]);
     let mut messages = Vec::new();
     for (field, content) in [(11, "F"), (11, ""), (1, "x"), (5, "x"), (14, "x")] {
         let last = segment("OBX", &[(field, content)]);
         let mut segments = vec![&header[..], "OBR"];
-        segments.resize(MOST_SEGMENTS - 1, &accepted);
+        // Every third is a result: so many of them alone would be too long for the program.
+        segments.extend([RESULT, "NTE", "NTE"].iter().cycle().take(MOST_SEGMENTS - 3));
         segments.push(&last);
         messages.push(message(&segments));
         segments.push(&last);
@@ -147,20 +143,13 @@ fn long_messages() -> Vec<Bytes> {
     for repetition in ["~", "5~", "^~"] {
         for last in ["5", "x", r#""""#] {
             let short = message_with("OBX", &[(5, last)]);
-            let count = (LONGEST_MESSAGE - short.len()) / repetition.len();
+            let count = (LONGEST_HELD - short.len()) / repetition.len();
             let content = repetition.repeat(count) + last;
             messages.push(message_with("OBX", &[(5, &content)]));
             messages.push(message_with("OBX", &[(2, ""), (5, &content)]));
         }
     }
-    for length in [LONGEST_MESSAGE, LONGEST_MESSAGE + 1] {
-        let mut longest = message_with("PID", &[(3, "1")]);
-        longest.pop();
-        longest.push(b'|');
-        longest.resize(length - 1, b'x');
-        longest.push(CR);
-        messages.push(longest);
-    }
+    messages.push(stretched(message_with("OBX", &[(15, "")]), LONGEST_HELD));
     messages
 }
 
