@@ -2,18 +2,16 @@
 //! behind AE or AR where the fault stands. Numbers 16, 17, 9 and 10, in this order.
 
 use crate::bytes::{before, find, split_once, state_of, State, COMPONENT, CR, FIELD, REPETITION};
-use crate::reading::{check_opening, delimiters_of, Ends, LONGEST_MESSAGE, MOST_SEGMENTS};
+use crate::reading::{check_opening, delimiters_of, Ends, LONGEST_ID, LONGEST_MESSAGE};
 use crate::text::escape;
 use crate::values::is_ts;
 use crate::{verdict_with, Answer, Refusal, Verdict};
 
-const LONGEST_ID: usize = 20;
-
 /// Each byte of an ID is written as five at most.
 const LONGEST_ESCAPED: usize = 5 * LONGEST_ID;
 
-/// There are 256 segments at most, and no field behind 14 is judged.
-const LONGEST_ERROR: usize = b"ERR|OBX^256^14^102\r".len();
+/// There are 4,096 segments at most, and no field behind 14 is judged.
+const LONGEST_ERROR: usize = b"ERR|OBX^4096^14^102\r".len();
 
 #[inline]
 pub fn acknowledge(message: &[u8], time: &[u8], id: &[u8], buffer: &mut [u8]) -> Answer {
@@ -49,7 +47,7 @@ pub fn acknowledge(message: &[u8], time: &[u8], id: &[u8], buffer: &mut [u8]) ->
         return refuse(9);
     }
 
-    let mut ends = [0; MOST_SEGMENTS];
+    let mut ends = Ends::new();
     let fault = verdict_with(message, &mut ends);
     let (letters, code) = codes_for(&fault);
     let mut error = [0; LONGEST_ERROR];
@@ -151,7 +149,7 @@ fn put_error(
         _ => (&b""[..], 0, 0),
     };
     let (mark, component) = (&message[3..4], &message[4..5]);
-    let (mut sequence_digits, mut field_digits) = ([0; 3], [0; 3]);
+    let (mut sequence_digits, mut field_digits) = ([0; 4], [0; 4]);
     let pieces: [&[u8]; 10] = [
         b"ERR",
         mark,
@@ -171,16 +169,17 @@ fn put_error(
 /// The name of a segment, and how many segments of that name there are up to it.
 fn segment_at<'a>(place: usize, message: &'a [u8], ends: &Ends) -> (&'a [u8], usize) {
     // The one MSH stands in front, and every other segment behind the end of another.
-    let Some((&last, _)) = ends[..place].split_last() else {
+    let ends = ends.first(place);
+    let Some((&last, _)) = ends.split_last() else {
         return (&message[..3], 1);
     };
-    let from = |end: u16| &message[usize::from(end) + 1..];
+    let from = |end: u32| &message[end as usize + 1..];
     let name = &from(last)[..3];
-    (name, ends[..place].iter().filter(|&&end| from(end).starts_with(name)).count())
+    (name, ends.iter().filter(|&&end| from(end).starts_with(name)).count())
 }
 
-/// The digits of a number below 1,000; none of 0, which stands for what is left empty.
-fn digits_of(number: usize, digits: &mut [u8; 3]) -> &[u8] {
+/// The digits of a number below 10,000; none of 0, which stands for what is left empty.
+fn digits_of(number: usize, digits: &mut [u8; 4]) -> &[u8] {
     let (mut rest, mut start) = (number, digits.len());
     while rest > 0 {
         start -= 1;

@@ -1,67 +1,114 @@
 //! Answers questions to the baseline in the form of the program `ask`, one line for each: those
 //! that read, find, judge, acknowledge, escape, unescape, format and take frames off a line.
 //! bench/check compares the answers with the model's.
+//!
+//!     ask          with the limits of the program `ask`
+//!     ask large    without them, as one asks from C
 
 use baseline::{acknowledge, escape, feed, find, read, unescape, verdict};
 use baseline::{Address, Answer, FrameState, State, Stop};
 use std::io::{self, BufRead, BufWriter, Write};
 
-const LONGEST_LINE: usize = 300_000;
-const MOST_ROOM: usize = 65_536;
+/// What the one who is asked has room for: a line, a buffer to be lent, and a message, in bytes.
+struct Limits {
+    line: usize,
+    room: usize,
+    message: usize,
+}
+
+const PROGRAM: Limits = Limits { line: 300_000, room: 65_536, message: 65_536 };
+const NONE: Limits = Limits { line: usize::MAX, room: usize::MAX, message: usize::MAX };
 
 /// What each byte of a lent buffer is before the call.
 const UNWRITTEN: u8 = 0xA5;
 
 fn main() -> io::Result<()> {
+    let large = std::env::args().nth(1).is_some_and(|word| word == "large");
+    let limits = if large { NONE } else { PROGRAM };
     let mut out = BufWriter::new(io::stdout().lock());
     for line in io::stdin().lock().split(b'\n') {
         let line = line?;
-        writeln!(out, "{}", answer(&line).unwrap_or_else(|| "?".to_string()))?;
+        writeln!(out, "{}", limits.answer(&line).unwrap_or_else(|| "?".to_string()))?;
     }
     out.flush()
 }
 
-fn answer(line: &[u8]) -> Option<String> {
-    if line.len() > LONGEST_LINE {
-        return None;
+impl Limits {
+    fn answer(&self, line: &[u8]) -> Option<String> {
+        if line.len() > self.line {
+            return None;
+        }
+        let line = std::str::from_utf8(line).ok()?;
+        let words: Vec<&str> = line.split(' ').collect();
+        match words[..] {
+            ["read", message] => {
+                let Answer { number, place, .. } = read(&self.held(message)?);
+                Some(format!("{number} {place}"))
+            }
+            ["find", message, segment, field, repetition, component, subcomponent] => {
+                let address = Address {
+                    segment: number(segment)? as usize,
+                    field: number(field)? as usize,
+                    repetition: number(repetition)? as usize,
+                    component: number(component)? as usize,
+                    subcomponent: number(subcomponent)? as usize,
+                };
+                Some(element_words(&self.held(message)?, address))
+            }
+            ["verdict", message] => verdict_words(&self.held(message)?),
+            ["escape", text, delimiters, room] => self.text_words(text, delimiters, room, escape),
+            ["unescape", text, delimiters, room] => {
+                self.text_words(text, delimiters, room, unescape)
+            }
+            ["format", text, delimiters, room] => {
+                self.text_words(text, delimiters, room, baseline::format)
+            }
+            ["ack", message, time, id, room] => {
+                let (message, time, id) = (bytes(message)?, bytes(time)?, bytes(id)?);
+                let mut buffer = self.buffer_of(room)?;
+                let answer = if message.len() > self.message {
+                    Answer { number: 1, ..Answer::default() }
+                } else {
+                    acknowledge(&message, &time, &id, &mut buffer)
+                };
+                Some(written_words(answer, &buffer))
+            }
+            ["frame", mode, held, count, piece, room] => {
+                let (mode, held, count) = (number(mode)?, number(held)? as usize, number(count)?);
+                let state = FrameState { mode, held, count };
+                Some(frame_words(state, &bytes(piece)?, &mut self.buffer_of(room)?))
+            }
+            ["frames", room, _, ..] => {
+                let pieces =
+                    words[2..].iter().map(|piece| bytes(piece)).collect::<Option<Vec<_>>>()?;
+                Some(line_words(&pieces, &mut self.buffer_of(room)?))
+            }
+            _ => None,
+        }
     }
-    let line = std::str::from_utf8(line).ok()?;
-    let words: Vec<&str> = line.split(' ').collect();
-    match words[..] {
-        ["read", message] => {
-            let Answer { number, place, .. } = read(&bytes(message)?);
-            Some(format!("{number} {place}"))
-        }
-        ["find", message, segment, field, repetition, component, subcomponent] => {
-            let address = Address {
-                segment: number(segment)? as usize,
-                field: number(field)? as usize,
-                repetition: number(repetition)? as usize,
-                component: number(component)? as usize,
-                subcomponent: number(subcomponent)? as usize,
-            };
-            Some(element_words(&bytes(message)?, address))
-        }
-        ["verdict", message] => verdict_words(&bytes(message)?),
-        ["escape", text, delimiters, room] => text_words(text, delimiters, room, escape),
-        ["unescape", text, delimiters, room] => text_words(text, delimiters, room, unescape),
-        ["format", text, delimiters, room] => text_words(text, delimiters, room, baseline::format),
-        ["ack", message, time, id, room] => {
-            let (message, time, id) = (bytes(message)?, bytes(time)?, bytes(id)?);
-            let mut buffer = buffer_of(room)?;
-            let answer = acknowledge(&message, &time, &id, &mut buffer);
-            Some(written_words(answer, &buffer))
-        }
-        ["frame", mode, held, count, piece, room] => {
-            let (mode, held, count) = (number(mode)?, number(held)? as usize, number(count)?);
-            let state = FrameState { mode, held, count };
-            Some(frame_words(state, &bytes(piece)?, &mut buffer_of(room)?))
-        }
-        ["frames", room, _, ..] => {
-            let pieces = words[2..].iter().map(|piece| bytes(piece)).collect::<Option<Vec<_>>>()?;
-            Some(line_words(&pieces, &mut buffer_of(room)?))
-        }
-        _ => None,
+
+    /// A message, or no bytes where there is no room for it: both are refused by 1.
+    fn held(&self, message: &str) -> Option<Vec<u8>> {
+        let message = bytes(message)?;
+        Some(if message.len() > self.message { Vec::new() } else { message })
+    }
+
+    fn text_words(
+        &self,
+        text: &str,
+        delimiters: &str,
+        room: &str,
+        write: Writer,
+    ) -> Option<String> {
+        let delimiters = <[u8; 5]>::try_from(bytes(delimiters)?).ok()?;
+        let mut buffer = self.buffer_of(room)?;
+        let answer = write(&delimiters, &bytes(text)?, &mut buffer);
+        Some(written_words(answer, &buffer))
+    }
+
+    fn buffer_of(&self, room: &str) -> Option<Vec<u8>> {
+        let room = number(room)? as usize;
+        (room <= self.room).then(|| vec![UNWRITTEN; room])
     }
 }
 
@@ -92,13 +139,6 @@ fn letters(name: u32) -> String {
 }
 
 type Writer = fn(&[u8; 5], &[u8], &mut [u8]) -> Answer;
-
-fn text_words(text: &str, delimiters: &str, room: &str, write: Writer) -> Option<String> {
-    let delimiters = <[u8; 5]>::try_from(bytes(delimiters)?).ok()?;
-    let mut buffer = buffer_of(room)?;
-    let answer = write(&delimiters, &bytes(text)?, &mut buffer);
-    Some(written_words(answer, &buffer))
-}
 
 fn written_words(answer: Answer, buffer: &[u8]) -> String {
     format!("{} {} {} {}", answer.number, answer.place, answer.length, hex(buffer))
@@ -148,12 +188,9 @@ fn hex(bytes: &[u8]) -> String {
     if bytes.is_empty() {
         return "-".to_string();
     }
-    bytes.iter().map(|byte| format!("{byte:02x}")).collect()
-}
-
-fn buffer_of(room: &str) -> Option<Vec<u8>> {
-    let room = number(room)? as usize;
-    (room <= MOST_ROOM).then(|| vec![UNWRITTEN; room])
+    const DIGITS: &[u8; 16] = b"0123456789abcdef";
+    let digit = |number: u8| char::from(DIGITS[usize::from(number)]);
+    bytes.iter().flat_map(|byte| [digit(byte >> 4), digit(byte & 15)]).collect()
 }
 
 /// Digits alone, since `parse` takes a sign too.

@@ -59,6 +59,20 @@ pub fn find(bytes: &[u8], wanted: u8) -> Option<usize> {
     words.remainder().iter().position(|&byte| byte == wanted).map(|at| start + at)
 }
 
+/// The place of the first `wanted`, in a block at once, then eight bytes at a time: for parts that may
+/// be long.
+#[inline(always)]
+pub fn find_far<const BLOCK: usize>(bytes: &[u8], wanted: u8) -> Option<usize> {
+    let mut start = 0;
+    for block in bytes.chunks_exact(BLOCK) {
+        if block.iter().fold(false, |found, &byte| found | (byte == wanted)) {
+            return find(block, wanted).map(|at| start + at);
+        }
+        start += BLOCK;
+    }
+    find(&bytes[start..], wanted).map(|at| start + at)
+}
+
 /// What stands before the first `separator`, and what stands behind it where there is one.
 #[inline(always)]
 pub fn split_once(bytes: &[u8], separator: u8) -> (&[u8], Option<&[u8]>) {

@@ -3,7 +3,7 @@
 
 use crate::bytes::{before, split_once, state_of, Delimiters, State};
 use crate::bytes::{COMPONENT, FIELD, REPETITION};
-use crate::reading::{name, Segments};
+use crate::reading::{name, Segments, LONGEST_ID};
 use crate::values::{fault_of_nm, is_dt, is_si, is_tm, is_ts};
 use crate::Verdict;
 use Kind::{
@@ -212,7 +212,7 @@ fn fault_of(kind: Kind, part: &[u8]) -> u32 {
     let (sound, number) = match kind {
         Any | AsValueType => (true, 0),
         Nm => return fault_of_nm(part),
-        Id => (part.len() <= 20, 37),
+        Id => (part.len() <= LONGEST_ID, 37),
         Dt => (is_dt(part), 32),
         Si => (is_si(part), 32),
         Tm => (is_tm(part), 32),

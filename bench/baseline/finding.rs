@@ -2,7 +2,7 @@
 //! is read first; then what stands before the element is passed over, and of all the ends only its
 //! own is sought.
 
-use crate::bytes::{find as first, first_block_with, state_of, Delimiters, State, CR};
+use crate::bytes::{find_far, first_block_with, state_of, Delimiters, State, CR};
 use crate::reading::delimiters_of;
 use crate::{read, Answer, Refusal};
 
@@ -71,12 +71,12 @@ fn read_apart(message: &[u8]) -> Answer {
     read(message)
 }
 
-/// Where a segment begins. Those before it are short enough to be passed over a word at a time.
+/// Where a segment begins.
 #[inline(always)]
 fn start_of(message: &[u8], segment: usize) -> Option<usize> {
     let mut start = 0;
     for _ in 0..segment {
-        start += first(&message[start..], CR)? + 1;
+        start += find_far::<32>(&message[start..], CR)? + 1;
     }
     // Behind the last CR there is none.
     (start < message.len()).then_some(start)

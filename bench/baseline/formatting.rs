@@ -2,7 +2,8 @@
 //! a refusal writes nothing. Words that fit on the line together are copied in one piece; where they do
 //! not, the line is broken at the last blank that fits.
 
-use crate::bytes::{find, is_printable, wrong_delimiter, Delimiters, BLANK, CR, ESCAPE, LF, NULL};
+use crate::bytes::{find, find_far, is_printable, wrong_delimiter, Delimiters};
+use crate::bytes::{BLANK, CR, ESCAPE, LF, NULL};
 use crate::text::{digit, is_pairs, LETTERS};
 use crate::{Answer, Refusal};
 
@@ -44,7 +45,7 @@ fn lines_of(text: &[u8], delimiters: &Delimiters) -> Option<Vec<u8>> {
     let mark = delimiters[ESCAPE];
     let mut lines = Lines::with_room_for(text.len());
     let mut rest = text;
-    while let Some(run) = find_far(rest, mark) {
+    while let Some(run) = find_far::<16>(rest, mark) {
         if run > 0 {
             lines.put(&rest[..run])?;
         }
@@ -83,20 +84,6 @@ fn has_fault_byte(text: &[u8], delimiters: &Delimiters) -> bool {
     });
     // 00 to 1F and 80 to 9F have the same low bits.
     (distance == 0) | (low_bits < 0x20)
-}
-
-/// The place of the first `wanted`, in a block at once, then eight bytes at a time.
-#[inline(always)]
-fn find_far(bytes: &[u8], wanted: u8) -> Option<usize> {
-    const BLOCK: usize = 16;
-    let mut start = 0;
-    for block in bytes.chunks_exact(BLOCK) {
-        if block.iter().fold(false, |found, &byte| found | (byte == wanted)) {
-            return find(block, wanted).map(|at| start + at);
-        }
-        start += BLOCK;
-    }
-    find(&bytes[start..], wanted).map(|at| start + at)
 }
 
 /// What is written, and what is known of the line at its end.

@@ -77,7 +77,7 @@ pub fn read(message: &[u8]) -> Answer {
 /// A reading fault, 20, 21 or 22, or the first of 31 to 37.
 #[inline]
 pub fn verdict(message: &[u8]) -> Verdict {
-    verdict_with(message, &mut [0; reading::MOST_SEGMENTS])
+    verdict_with(message, &mut Ends::new())
 }
 
 /// The same for one who has to count segments too: of a message that was read, `ends` then has the
@@ -90,14 +90,8 @@ fn verdict_with(message: &[u8], ends: &mut Ends) -> Verdict {
     }
 }
 
-/// The reader notes where the segments end, so that the judges behind it look for no CR.
 fn judge(message: &[u8], ends: &mut Ends) -> Result<(), Verdict> {
-    let mut count = 0;
-    reading::check(message, |number, end| {
-        ends[number] = end as u16;
-        count = number + 1;
-    })?;
-    let segments = reading::Segments { message, ends: &ends[..count] };
+    let segments = reading::check_noting(message, ends)?;
     structure::judge(segments)?;
     fields::judge(segments)
 }

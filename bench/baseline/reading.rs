@@ -3,17 +3,65 @@
 use crate::bytes::{first_block_with, first_not_allowed, wrong_delimiter, Delimiters, CR};
 use crate::Refusal;
 
-pub const LONGEST_MESSAGE: usize = 32_768;
-pub const MOST_SEGMENTS: usize = 256;
+pub const LONGEST_MESSAGE: usize = 1_048_576;
+pub const MOST_SEGMENTS: usize = 4_096;
 
-/// Room for the place of each segment's CR.
-pub type Ends = [u16; MOST_SEGMENTS];
+/// Of a control ID, the message's or the caller's own.
+pub const LONGEST_ID: usize = 199;
+
+/// Most messages have no more segments.
+const FEW: usize = 256;
+
+/// Where the CR of each segment stands. Room for the most that there may be would have to be cleared
+/// for every message, which is dear beside a small one. So the ends of a few are kept in an array,
+/// and only where there are more is memory taken, for all of them.
+pub struct Ends {
+    few: [u32; FEW],
+    many: Vec<u32>,
+}
+
+impl Ends {
+    #[inline(always)]
+    pub fn new() -> Ends {
+        Ends { few: [0; FEW], many: Vec::new() }
+    }
+
+    /// Notes the end of a segment, behind those of all before it.
+    #[inline(always)]
+    fn note(&mut self, number: usize, end: usize) {
+        // A place in a message fits 32 bits.
+        let end = end as u32;
+        match self.few.get_mut(number) {
+            Some(place) => *place = end,
+            None => self.note_far(end),
+        }
+    }
+
+    /// Apart and cold, so that a small message does not pay for it.
+    #[cold]
+    fn note_far(&mut self, end: u32) {
+        if self.many.is_empty() {
+            self.many.reserve_exact(MOST_SEGMENTS);
+            self.many.extend_from_slice(&self.few);
+        }
+        self.many.push(end);
+    }
+
+    /// The first so many of those that were noted.
+    #[inline(always)]
+    pub fn first(&self, count: usize) -> &[u32] {
+        match self.few.get(..count) {
+            Some(few) => few,
+            None => &self.many[..count],
+        }
+    }
+}
 
 /// A message that was read, and where the CR of each of its segments stands.
 #[derive(Clone, Copy)]
 pub struct Segments<'a> {
     pub message: &'a [u8],
-    pub ends: &'a [u16],
+    pub ends: &'a [u32],
 }
 
 impl<'a> Segments<'a> {
@@ -25,8 +73,8 @@ impl<'a> Segments<'a> {
     pub fn iter(self) -> impl Iterator<Item = &'a [u8]> {
         let mut start = 0;
         self.ends.iter().map(move |&end| {
-            let segment = &self.message[start..usize::from(end)];
-            start = usize::from(end) + 1;
+            let segment = &self.message[start..end as usize];
+            start = end as usize + 1;
             segment
         })
     }
@@ -40,6 +88,17 @@ pub const fn name(letters: &[u8]) -> u32 {
 /// Bytes 3 to 7 of a message with a header.
 pub fn delimiters_of(message: &[u8]) -> Delimiters {
     [message[3], message[4], message[5], message[6], message[7]]
+}
+
+/// All checks, and where the segments end, so that the judges behind the reader look for no CR.
+#[inline(always)]
+pub fn check_noting<'a>(message: &'a [u8], ends: &'a mut Ends) -> Result<Segments<'a>, Refusal> {
+    let mut count = 0;
+    check(message, |number, end| {
+        ends.note(number, end);
+        count = number + 1;
+    })?;
+    Ok(Segments { message, ends: ends.first(count) })
 }
 
 /// All checks. `ended` is told each segment that stands, by its number, and the place of its CR.

@@ -169,7 +169,7 @@ fn misfit(
 /// The structure by components 1 and 2 of MSH-9, repetition 1.
 fn structure_of(segments: Segments) -> Option<&'static Structure> {
     let delimiters = segments.delimiters();
-    let header = &segments.message[..usize::from(segments.ends[0])];
+    let header = &segments.message[..segments.ends[0] as usize];
     let field = header.split(|&byte| byte == delimiters[FIELD]).nth(8)?;
     let first = before(field, delimiters[REPETITION]);
     let (kind, rest) = split_once(first, delimiters[COMPONENT]);
