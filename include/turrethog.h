@@ -25,17 +25,17 @@ extern "C" {
 enum {
     TURRETHOG_NONE = 0,                      /* nothing was refused */
     /* reading: the place is a byte's offset */
-    TURRETHOG_LENGTH = 1,                    /* no bytes, or over 32,768; place 0 */
+    TURRETHOG_LENGTH = 1,                    /* no bytes, or over 1,048,576; place 0 */
     TURRETHOG_HEADER = 2,                    /* it does not begin as a message does; place 0 */
     TURRETHOG_DELIMITER = 3,                 /* a delimiter is not permitted, or stands twice; in text: the place is its number, 0 to 4 */
     TURRETHOG_NOT_ALLOWED = 4,               /* a byte that is not allowed, as LF; in text, CR too */
     TURRETHOG_NOT_ENDED = 5,                 /* the last byte is not CR */
     TURRETHOG_SEGMENT_NAME = 6,              /* a segment does not begin with a name */
     TURRETHOG_SECOND_HEADER = 7,             /* MSH behind the first segment */
-    TURRETHOG_TOO_MANY_SEGMENTS = 8,         /* over 256 segments */
+    TURRETHOG_TOO_MANY_SEGMENTS = 8,         /* over 4,096 segments */
     /* acknowledging: place 0 */
-    TURRETHOG_NOT_ACKNOWLEDGEABLE = 9,       /* no sound header, an acknowledgement itself, or no control ID of 1 to 20 bytes */
-    TURRETHOG_ACKNOWLEDGEMENT_TOO_LONG = 10, /* longer than the buffer, or than 32,768 bytes */
+    TURRETHOG_NOT_ACKNOWLEDGEABLE = 9,       /* no sound header, an acknowledgement itself, or no control ID of 1 to 199 bytes */
+    TURRETHOG_ACKNOWLEDGEMENT_TOO_LONG = 10, /* longer than the buffer, or than 1,048,576 bytes */
     /* text: the place is a byte's offset in the text */
     TURRETHOG_SEPARATOR = 11,                /* a delimiter that stands as itself */
     TURRETHOG_UNKNOWN_ESCAPE = 12,           /* an escape that is not in the table, nor in formatted text a command */
@@ -45,7 +45,7 @@ enum {
     TURRETHOG_NULL_TEXT = 15,                /* two quotes are null, and no text; place 0 */
     /* acknowledging: place 0 */
     TURRETHOG_CALLERS_TIME = 16,             /* the caller's time is no TS */
-    TURRETHOG_CALLERS_ID = 17,               /* the caller's ID has not 1 to 20 bytes */
+    TURRETHOG_CALLERS_ID = 17,               /* the caller's ID has not 1 to 199 bytes */
     /* finding: place 0 */
     TURRETHOG_ADDRESS = 19,                  /* no such segment, or an address that no message could have */
     /* structure: the place is a segment's number, from 0 */
@@ -59,10 +59,10 @@ enum {
     TURRETHOG_REQUIRED_NULL = 34,            /* a required field is null */
     TURRETHOG_VALUE_WITHOUT_TYPE = 35,       /* a value in OBX-5, and no type in OBX-2 */
     TURRETHOG_REPEATED = 36,                 /* a field that may not repeat does */
-    TURRETHOG_VALUE_TOO_LONG = 37,           /* over 20 bytes, or well formed and over 18 digits */
+    TURRETHOG_VALUE_TOO_LONG = 37,           /* a control ID of over 199 bytes, or a number, well formed, of over 18 digits */
     /* framing: no place is given. 14 is there a state that no run with that buffer's length could have reached */
     TURRETHOG_BROKEN_FRAME = 40,             /* a frame has 0B in it, or behind its 1C another byte than 0D */
-    TURRETHOG_FRAME_TOO_LONG = 41,           /* a frame has over 32,768 bytes, or more than the buffer */
+    TURRETHOG_FRAME_TOO_LONG = 41,           /* a frame has over 1,048,576 bytes, or more than the buffer */
     /* formatted text: place 0 */
     TURRETHOG_LAYOUT = 42                    /* no lines can be made: a number or a margin out of its range, or what does not go into a line */
 };
@@ -187,7 +187,7 @@ typedef struct {
  * piece + used: each has used one byte at least, and the piece is done where it stops at TURRETHOG_MORE.
  *
  * Bytes outside frames are dropped and counted. 0B in a frame drops what was gathered (40) and begins the next; so does 1C with 0B behind
- * it. 1C with any other byte than 0D behind it drops the frame and that byte (40). The limit is 32,768 or room, the smaller: a frame over it
+ * it. 1C with any other byte than 0D behind it drops the frame and that byte (40). The limit is 1,048,576 or room, the smaller: a frame over it
  * is dropped at its first byte over (41, once), and skipped to the next 0B, which begins a frame, or through 1C and another byte than 0B.
  *
  * A frame that is open when the line closes is not reported. It is seen in the state: mode 1 or 2, or 3 or 4 where its 41 was given. */
@@ -255,8 +255,9 @@ uint32_t turrethog_could_stand(const uint8_t *message, size_t length, size_t ind
 /* Writes the acknowledgement of a message. Its letters, MSA-1, go by the verdict: AA where it is 0; AR where it is 20, or 33 at place 0 in
  * field 11 or 12 (MSH-11, MSH-12): a message of a kind that is not taken here; else AE: the message is wrong. With AR and AE an ERR segment
  * follows MSA: ERR-1 has the segment's name, its number among those of that name from 1, the field, and a code of table 0357, as in
- * ERR|OBX^12^2^103. It takes at most 19 bytes, and an answer that has no room for it is 10. time is the caller's time as a TS, id his own
- * control ID of 1 to 20 bytes of any kind. 0, or 16, 17, 9, 10. */
+ * ERR|OBX^12^2^103. It takes at most 20 bytes, and an answer that has no room for it is 10. time is the caller's time as a TS, id his own
+ * control ID of 1 to 199 bytes of any kind, counted before they are escaped: then they take up to five bytes each. 0, or 16, 17, 9, 10. Up to
+ * 24 KiB of stack are taken, whatever the message. */
 turrethog_answer turrethog_acknowledge(const uint8_t *message, size_t length, const uint8_t *time, size_t time_length, const uint8_t *id,
                                        size_t id_length, uint8_t *buffer, size_t room);
 
