@@ -64,6 +64,18 @@ follows-none {c} {t} {d} f =
       goes = λ (d₀ : List ℕ) (s : Sheet) (m : Matches d₀ s c t d). at s (goes-none (laid s)) m;
     }
 
+-- a page that is unfit stays so, whatever the items
+pub follows-spoilt : (xs : List Item) {c : Page} {t d : List ℕ} → Sound c t d → c .unfit ≡ true → Follows xs c t d c t d
+follows-spoilt xs {c} {t} {d} f u =
+    record {
+      sound = f;
+      writes = refl;
+      size = refl;
+      still = λ (q : c .writes ≡ false). refl;
+      spoilt = λ (q : c .unfit ≡ true). q;
+      goes = λ (d₀ : List ℕ) (s : Sheet) (m : Matches d₀ s c t d). absurd (false-true (sym (m .fit) ∙ u));
+    }
+
 pub follows-then : {xs ys : List Item} {c c′ c″ : Page} {t d t′ d′ t″ d″ : List ℕ} → Follows xs c t d c′ t′ d′ → Follows ys c′ t′ d′ c″ t″ d″ → Follows (xs ++ ys) c t d c″ t″ d″
 follows-then {xs} {ys} {c} {c′} {c″} {t} {d} {t′} {d′} {t″} {d″} f g =
     record {

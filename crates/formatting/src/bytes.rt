@@ -57,7 +57,7 @@ fn smaller(a: usize, b: usize) -> usize
 }
 
 // Bytes that stand plainly and go on past the line's end: as many at each turn as fit on the line, or one where none
-// fits.
+// fits. Once something could not be laid nothing is laid behind it, so that a document that is no text costs little.
 fn take_long(page: Page, line: &mut [u8], buffer: &mut [u8], run: &[u8]) -> Page
     requires { ⌜ (Sound page (now line) (now buffer)) × (clear (now run) ≡ true) ⌝ }
     ensures { λ r. ⌜ Follows (map byte (now (run .entry))) page (now (line .entry)) (now (buffer .entry)) r
@@ -66,6 +66,9 @@ fn take_long(page: Page, line: &mut [u8], buffer: &mut [u8], run: &[u8]) -> Page
     let mut p = page;
     let mut i = 0;
     while i < run.len() {
+        if p.unfit {
+            return p;
+        }
         let reach = p.reach();
         if WIDTH <= reach {
             p = take_byte(p, line, buffer, run[i]);
