@@ -1,10 +1,8 @@
 // The message that a program hands to the library. It holds one of up to 64 KiB, which is less than the library takes: a
 // longer one is refused by the program itself, with 1 and in the form of whatever was asked.
-ghost use Prim.Native.Nat.{_≤_};
 ghost use mathlib.Core.Path.{_≡_};
-ghost use mathlib.Core.Bool.{true};
 ghost use lib.Dec.{leb};
-ghost use Rattle.asking.specs.Messages.{heldOf};
+ghost use Rattle.asking.specs.Messages.{heldOf, notHeld};
 use alphabet::Answer;
 use alphabet::Refusal;
 
@@ -30,7 +28,9 @@ pub fn held(message: &[u8]) -> &[u8]
 }
 
 // What is answered to one that is not held by a verb that writes: 1, and nothing is written.
-pub fn not_held() -> Answer {
+pub fn not_held() -> Answer
+    ensures { λ r. ⌜ r ≡ notHeld ⌝ }
+{
     Answer {
         kind: Refusal::Length,
         place: 0,
