@@ -7,6 +7,7 @@ use mathlib.Core.Bool.{cond}
 use lib.Dec.{eqb, leb}
 use lib.ListN.{length, getD, take, drop}
 use Rattle.alphabet.specs.Answers.{orElse, inOrder}
+use Rattle.alphabet.specs.Lists.{find}
 use Rattle.alphabet.specs.Parts.{split}
 use Rattle.alphabet.specs.declared.answers.Check.{Check}
 use Rattle.alphabet.specs.declared.answers.Check.the-variants.{Passes}
@@ -17,17 +18,24 @@ use Rattle.fields.specs.declared.walk.Cursor.{Cursor}
 use Rattle.fields.specs.declared.walk.Sought.{Sought}
 use Rattle.fields.specs.declared.walk.Turn.{Turn}
 
--- the bytes of a field, none where it is absent: MSH has its fields counted from the separator, and its first two are
--- never split
+-- which part of its segment a field is: MSH has its fields counted from the separator
+abbrev pub fieldIndex : ℕ → ℕ → ℕ
+fieldIndex number field = cond (eqb number 0) (field - 1) field
+
+-- the bytes of a field, none where it is absent; the first two of MSH are never split
 abbrev pub fieldBytes : List ℕ → List ℕ → ℕ → ℕ → List ℕ
 fieldBytes ds s number field =
     cond (eqb number 0)
     (cond (leb field 2) [] (getD (split (getD ds 0 0) s) (field - 1) []))
     (getD (split (getD ds 0 0) s) field [])
 
+-- repetition 1 of a field
+abbrev pub firstOf : List ℕ → List ℕ → ℕ → ℕ → List ℕ
+firstOf ds s number field = getD (split (getD ds 2 0) (fieldBytes ds s number field)) 0 []
+
 -- repetition 1 of the field that says a type
 abbrev pub saidBytes : List ℕ → List ℕ → ℕ → Kind → List ℕ
-saidBytes ds s number kind = cond (isSaid kind) (getD (split (getD ds 2 0) (fieldBytes ds s number (saidField kind))) 0 []) []
+saidBytes ds s number kind = cond (isSaid kind) (firstOf ds s number (saidField kind)) []
 
 -- a cursor: part `index` of the segment begins at `place`
 pub record Stands (sep : ℕ) (s : List ℕ) (c : Cursor) : Type 0 where
@@ -35,12 +43,20 @@ pub record Stands (sep : ℕ) (s : List ℕ) (c : Cursor) : Type 0 where
   pub counted : c .index ≤ c .place
   pub parts : drop (c .index) (split sep s) ≡ split sep (drop (c .place) s)
 
--- what was sought: the place of some bytes
-pub record Finds (sep : ℕ) (s : List ℕ) (wanted : List ℕ) (r : Sought) : Type 0 where
-  pub stands : Stands sep s (r .cursor)
-  pub ordered : r .start ≤ r .end
+-- a cursor at the part that is wanted, or at the last where there are fewer
+pub record Reaches (sep : ℕ) (s : List ℕ) (wanted : ℕ) (c : Cursor) : Type 0 where
+  pub stands : Stands sep s c
+  pub most : c .index ≤ wanted
+  pub last : c .index < wanted → c .place + find sep (drop (c .place) s) ≡ length s
+
+-- what was sought: the place of some bytes, and of the first of their repetitions
+pub record Finds (ds s wanted : List ℕ) (r : Sought) : Type 0 where
+  pub stands : Stands (getD ds 0 0) s (r .cursor)
+  pub ordered : r .start ≤ r .first
+  pub within : r .first ≤ r .end
   pub inside : r .end ≤ length s
   pub bytes : take (r .end - r .start) (drop (r .start) s) ≡ wanted
+  pub opens : r .first - r .start ≡ find (getD ds 2 0) wanted
 
 -- what the repetitions of a row that are left are found to be; none are where `start` is past `end`
 abbrev pub leftOf : List ℕ → List ℕ → Turn → Check
@@ -49,12 +65,12 @@ leftOf ds s t =
     (inOrder (repetitionChecks ds (t .component) (t .kind) (t .repetition) (split (getD ds 2 0) (take (t .end - t .start) (drop (t .start) s)))))
     Passes
 
--- a row begun: its opening was checked, and all its repetitions are left
+-- a row begun: its opening was checked, and some of its repetitions are left
 pub record Begins (ds s : List ℕ) (number : ℕ) (row : Row) (r : Turn) : Type 0 where
   pub stands : Stands (getD ds 0 0) s (r .cursor)
-  pub ordered : r .start ≤ r .end
+  pub ordered : r .start ≤ r .end + 1
   pub inside : r .end ≤ length s
-  pub first : r .repetition ≡ 1
+  pub counted : r .repetition ≤ r .start + 1
   pub asks :
       rowCheck ds row (saidBytes ds s number (row .kind)) (split (getD ds 2 0) (fieldBytes ds s number (row .field)))
       ≡ orElse (r .found) (leftOf ds s r)

@@ -10,13 +10,12 @@ use Rattle.alphabet.specs.Bytes.{ascii}
 use Rattle.alphabet.specs.Lists.{find, same}
 use Rattle.alphabet.specs.Answers.{failsIf}
 use Rattle.alphabet.specs.Parts.{split}
-use Rattle.alphabet.proofs.PartLaws.{split-some}
 use Rattle.alphabet.specs.declared.answers.Check.the-variants.{Passes}
 use Rattle.alphabet.specs.declared.answers.Refusal.the-variants.{ValueWithoutType}
 use Rattle.element.specs.States.{stateOf, isPresent}
 use Rattle.element.specs.declared.states.State.{State}
 use Rattle.element.specs.declared.states.State.the-variants.{Absent, Empty, Null, Present}
-use Rattle.rules.specs.Rules.{formCheck, judgedPart, partState, placed, repetitionCheck, firstState, requiredCheck, somePresent, isSaid, saidCheck, kindSaid, kindOf, componentOf}
+use Rattle.rules.specs.Rules.{formCheck, judgedPart, placed, repetitionCheck, somePresent, isSaid, saidCheck, kindSaid, kindOf, componentOf}
 use Rattle.field_table.specs.declared.Kind.{Kind}
 use Rattle.field_table.specs.declared.Kind.the-variants.{Any, Ts, Nm, Dt, Tm}
 use Rattle.field_table.specs.declared.Row.{Row}
@@ -34,6 +33,13 @@ module _ (ds : List ℕ) (r : List ℕ) where
   unfolding judgedPart
   part-component zero n = absurd (n refl)
   part-component (suc k) n = let e : suc k - 1 ≡ k = omega arith in rw e
+
+  -- component 1 goes up to the first separator
+  pub part-first : (component : ℕ) → component ≡ 1 → (n : ℕ) → n ≡ find (getD ds 1 0) r → take n r ≡ judgedPart ds component r
+  part-first component e n f =
+      let z : component - 1 ≡ 0 = omega arith in
+      ap (λ (i : ℕ). take i r) f ∙ sym (first-part (getD ds 1 0) r) ∙ ap (λ (i : ℕ). getD (split (getD ds 1 0) r) i []) (sym z)
+      ∙ part-component component (λ q. omega arith)
 
 -- ---- one repetition
 
@@ -103,21 +109,3 @@ module _ (said : List ℕ) where
 
     pub component-own : (s && t) ≡ false → componentOf row said ≡ row .component
     component-own e = rw (sym is-said, sym is-ts, e)
-
--- ---- the opening
-
-first-state-of : (ds : List ℕ) (component : ℕ) (rs : List (List ℕ)) → 1 ≤ length rs → firstState ds component rs ≡ partState ds component (getD rs 0 [])
-first-state-of ds component [] h = absurd (omega arith)
-first-state-of ds component (r ∷ rs) h = refl
-
--- the first of the repetitions of a field that is there
-pub first-state : (ds : List ℕ) (component : ℕ) (sep : ℕ) (field : List ℕ) → firstState ds component (split sep field) ≡ partState ds component (take (find sep field) field)
-first-state ds component sep field =
-    first-state-of ds component (split sep field) (split-some sep field) ∙ ap (partState ds component) (first-part sep field)
-
--- what is not required may be in any state
-pub not-required : (s : State) → requiredCheck false s ≡ Passes
-not-required Absent = refl
-not-required Empty = refl
-not-required Null = refl
-not-required Present = refl

@@ -133,11 +133,30 @@ rowCheck ds row said repetitions =
     ∷ saidCheck ds (row .kind) said repetitions
     ∷ repetitionChecks ds (componentOf row said) (kindOf (row .kind) said) 1 repetitions)
 
--- ---- what a private contract says; nobody has to believe it
+-- ---- what private contracts say; nobody has to believe these
 
--- the checks of a row before its repetitions are judged in turn
-unfoldable pub openingCheck : List ℕ → Row → List ℕ → List (List ℕ) → Check
-openingCheck ds row said repetitions =
-    orElse
-    (orElse (requiredCheck (row .required) (firstState ds (row .component) repetitions)) (repeatedCheck (row .repeats) repetitions))
-    (saidCheck ds (row .kind) said repetitions)
+-- 31 or 34, then 36: by the state of the part that is judged in repetition 1, and by whether there are more repetitions
+unfoldable pub sentCheck : Row → State → Bool → Check
+sentCheck row state many = orElse (requiredCheck (row .required) state) (failsIf (not (row .repeats) && many) Repeated 1)
+
+-- a row that says its own type: the checks up to repetition 1, with that
+unfoldable pub ownCheck : List ℕ → Row → List ℕ → Bool → Check
+ownCheck ds row repetition many =
+    orElse (sentCheck row (partState ds (row .component) repetition) many) (repetitionCheck ds (row .component) (row .kind) 1 repetition)
+
+-- a row whose type is said: the checks before its repetitions are judged in turn
+unfoldable pub openingCheck : List ℕ → Row → List ℕ → List ℕ → Bool → List (List ℕ) → Check
+openingCheck ds row said repetition many repetitions =
+    orElse (sentCheck row (partState ds (row .component) repetition) many) (saidCheck ds (row .kind) said repetitions)
+
+-- any bytes pass
+abbrev pub isAny : Kind → Bool
+isAny Any = true
+isAny Identifier = false
+isAny Ts = false
+isAny Si = false
+isAny Nm = false
+isAny Dt = false
+isAny Tm = false
+isAny (OneOf values) = false
+isAny (AsField f) = false

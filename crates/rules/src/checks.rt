@@ -12,7 +12,7 @@ ghost use mathlib.Core.Path.{_≡_};
 ghost use lib.ListN.{getD};
 ghost use Rattle.alphabet.specs.Parts.{split};
 ghost use Rattle.element.specs.States.{stateOf, isPresent};
-ghost use Rattle.rules.specs.Rules.{formCheck, openingCheck, judgedPart, repetitionCheck, requiredCheck, somePresent, isSaid, saidField, saidCheck, kindSaid, kindOf, componentOf};
+ghost use Rattle.rules.specs.Rules.{formCheck, openingCheck, judgedPart, placed, repetitionCheck, requiredCheck, sentCheck, ownCheck, somePresent, isSaid, saidField, saidCheck, kindSaid, kindOf, componentOf, isAny};
 
 // The bytes of a part that is present, against a type.
 fn check_form(kind: Kind, bytes: &[u8]) -> Check
@@ -42,6 +42,10 @@ fn judged_part(delimiters: Delimiters, component: usize, repetition: &[u8]) -> &
         return repetition;
     }
     let bytes = delimiters.bytes;
+    if component == 1 {
+        let end = search::find_by_words(repetition, bytes[1]);
+        return &repetition[..end];
+    }
     let part = alphabet::nth_part(repetition, bytes[1], component - 1);
     let Part::At { start, end } = part else {
         return &repetition[..0];
@@ -54,6 +58,22 @@ fn is_present(delimiters: Delimiters, bytes: &[u8]) -> bool
     ensures { λ r. ⌜ r ≡ isPresent (stateOf (delimiters .bytes) (now (bytes .entry))) ⌝ }
 {
     element::is_present(element::state_of(delimiters, bytes))
+}
+
+// A fault of a form, in the repetition of a number.
+fn placed(number: usize, form: Check) -> Check
+    ensures { λ r. ⌜ r ≡ placed number form ⌝ }
+{
+    match form {
+        Check::Passes => Check::Passes,
+        Check::Fails {
+            kind: fault,
+            place: _,
+        } => Check::Fails {
+            kind: fault,
+            place: number,
+        },
+    }
 }
 
 // One repetition, of the given number, against a type: what is empty or null passes.
@@ -70,17 +90,7 @@ pub fn check_repetition(
     if !is_present(delimiters, part) {
         return Check::Passes;
     }
-    let form = check_form(kind, part);
-    match form {
-        Check::Passes => Check::Passes,
-        Check::Fails {
-            kind: fault,
-            place: _,
-        } => Check::Fails {
-            kind: fault,
-            place: number,
-        },
-    }
+    placed(number, check_form(kind, part))
 }
 
 // Numbers 31 and 34, where a part is required.
@@ -95,18 +105,31 @@ fn check_required(required: bool, state: State) -> Check
     }
 }
 
-// The same of repetition 1 of a row's field: what is not required is not looked at.
-fn check_first(delimiters: Delimiters, row: Row, repetition: &[u8]) -> Check
-    ensures { λ r. ⌜ r ≡ requiredCheck (row .required)
-        (stateOf (delimiters .bytes) (judgedPart (delimiters .bytes) (row .component) (now (repetition .entry)))) ⌝ }
+// The same, and then 36: by the state of the part that is judged in repetition 1, and by whether there are more.
+fn check_sent(row: Row, state: State, many: bool) -> Check
+    ensures { λ r. ⌜ r ≡ sentCheck row state many ⌝ }
 {
-    if !row.required {
+    let required = check_required(row.required, state);
+    let repeated = alphabet::fails_if(!row.repeats & many, Refusal::Repeated, 1);
+    alphabet::or_else(required, repeated)
+}
+
+// What a row that says its own type asks of repetition 1 of its field, which may have more: its state is told once.
+pub fn check_own(delimiters: Delimiters, row: Row, first: &[u8], many: bool) -> Check
+    ensures { λ r. ⌜ r ≡ ownCheck (delimiters .bytes) row (now (first .entry)) many ⌝ }
+{
+    let component = row.component;
+    let part = judged_part(delimiters, component, first);
+    let state = element::state_of(delimiters, part);
+    let sent = check_sent(row, state, many);
+    let Check::Passes = sent else {
+        return sent;
+    };
+    if !element::is_present(state) {
         return Check::Passes;
     }
-    let component = row.component;
-    let part = judged_part(delimiters, component, repetition);
-    let state = element::state_of(delimiters, part);
-    check_required(true, state)
+    let kind = row.kind;
+    placed(1, check_form(kind, part))
 }
 
 // Whether some repetition of a field is present, as a whole.
@@ -201,20 +224,35 @@ fn check_said(delimiters: Delimiters, kind: Kind, said: &[u8], field: &[u8]) -> 
     )
 }
 
-// The checks of a row before its repetitions are judged in turn: 31 or 34, then 36, then 35.
-pub fn check_opening(delimiters: Delimiters, row: Row, said: &[u8], field: &[u8]) -> Check
-    ensures { λ r. ⌜ r ≡ openingCheck (delimiters .bytes) row (now (said .entry))
+// The checks of a row whose type is said, before its repetitions are judged in turn: 31 or 34, then 36, then 35.
+pub fn check_opening(
+    delimiters: Delimiters,
+    row: Row,
+    said: &[u8],
+    first: &[u8],
+    many: bool,
+    field: &[u8],
+) -> Check
+    ensures { λ r. ⌜ r ≡ openingCheck (delimiters .bytes) row (now (said .entry)) (now (first .entry)) many
         (split (getD (delimiters .bytes) 2 0) (now (field .entry))) ⌝ }
 {
-    let bytes = delimiters.bytes;
-    let end = alphabet::find(field, bytes[2]);
-    let required = check_first(delimiters, row, &field[..end]);
-    let many = !row.repeats & (end < field.len());
-    let repeated = alphabet::fails_if(many, Refusal::Repeated, 1);
-    let first = alphabet::or_else(required, repeated);
-    let Check::Passes = first else {
-        return first;
+    let component = row.component;
+    let part = judged_part(delimiters, component, first);
+    let state = element::state_of(delimiters, part);
+    let sent = check_sent(row, state, many);
+    let Check::Passes = sent else {
+        return sent;
     };
     let kind = row.kind;
     check_said(delimiters, kind, said, field)
+}
+
+// Whether any bytes pass, so that no repetition has to be looked at.
+pub fn is_any(kind: Kind) -> bool
+    ensures { λ r. ⌜ r ≡ isAny kind ⌝ }
+{
+    let Kind::Any = kind else {
+        return false;
+    };
+    true
 }

@@ -3,7 +3,9 @@
 mod checks;
 
 pub use checks::check_opening;
+pub use checks::check_own;
 pub use checks::check_repetition;
 pub use checks::component_of;
+pub use checks::is_any;
 pub use checks::kind_of;
 pub use checks::said_field;

@@ -201,15 +201,18 @@ loop-again c =
     )
 
 begin-row-requires : tie.Need-begin-row-requires Inv-loop2 μ-loop2 Inv-loop μ-loop Inv-judging μ-judging
-begin-row-requires c κs = c .before .before .before .before .loop .inv .0
+begin-row-requires c κs =
+    let l = c .before .before .before .before in
+    let n = segment-length l in
+    let g = before-end l in
+    let m = fits (outer l) in
+    (l .loop .inv .0, omega arith)
 
 loop2-holds : tie.Need-loop2-holds Inv-loop2 μ-loop2 Inv-loop μ-loop Inv-judging μ-judging
 loop2-holds c =
     let r = c .before in
     let t = r .begin-row .ensures in
-    let o = t .ordered in
-    let f = t .first in
-    (omega arith, t .inside, omega arith, begun r)
+    (t .ordered, t .inside, t .counted, begun r)
 
 loop-again-2 : tie.Need-loop-again-2 Inv-loop2 μ-loop2 Inv-loop μ-loop Inv-judging μ-judging
 loop-again-2 c =

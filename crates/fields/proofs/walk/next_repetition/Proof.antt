@@ -8,10 +8,10 @@ use Rattle.fields.proofs.CursorLaws.{step-in, step-asks}
 use Rattle.fields.proofs.walk.next_repetition.Statement.{statement}
 use Rattle.fields.proofs.walk.next_repetition.Tie as tie
 
-within : (c : tie.After-find) → c .before .before .before .before .args .turn .start + c .find .result ≤ c .before .before .before .before .args .turn .end
+within : (c : tie.After-find-by-words) → c .before .before .before .before .args .turn .start + c .find-by-words .result ≤ c .before .before .before .before .args .turn .end
 within c =
     let a = c .before .before .before .before .args in
-    step-in (a .delimiters .bytes) (now (a .segment)) (a .turn) (c .before .before .before .before .pre) (c .find .result) (c .find .ensures)
+    step-in (a .delimiters .bytes) (now (a .segment)) (a .turn) (c .before .before .before .before .pre) (c .find-by-words .result) (c .find-by-words .ensures)
 
 returns : tie.Need-returns
 returns c =
@@ -26,8 +26,8 @@ returns c =
       most = omega arith;
       counted = omega arith;
       asks =
-          step-asks (a .delimiters .bytes) (now (a .segment)) (a .turn) g (f .find .result) (f .find .ensures)
-          (record { cursor = a .turn .cursor; found = c .before .check-repetition .result; start = a .turn .start + f .find .result + 1; end = a .turn .end; repetition = a .turn .repetition + 1; component = a .turn .component; kind = a .turn .kind })
+          step-asks (a .delimiters .bytes) (now (a .segment)) (a .turn) g (f .find-by-words .result) (f .find-by-words .ensures)
+          (record { cursor = a .turn .cursor; found = c .before .check-repetition .result; start = a .turn .start + f .find-by-words .result + 1; end = a .turn .end; repetition = a .turn .repetition + 1; component = a .turn .component; kind = a .turn .kind })
           refl refl refl refl refl (c .before .check-repetition .ensures);
     }
 

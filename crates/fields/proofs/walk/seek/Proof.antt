@@ -1,75 +1,76 @@
--- Rests on the laws of a cursor, which stands at each turn.
+-- Rests on the laws of the part that is wanted, and of repetition 1 of it.
 use borrow.Author.Needs.{needs}
-use mathlib.Core.Path.{ap, _∙_}
-use Prim.Native.Nat.{ℕ, _≤_, _-_, _+_}
-use lib.ListN.{length}
+use mathlib.Core.Path.{_≡_, ap, _∙_}
+use mathlib.Core.List.{List}
+use Prim.Native.Nat.{ℕ, _≤_, _+_}
+use lib.ListN.{length, getD, drop, length-drop}
 use native.Mathlib.Omega.{arith}
 use denote.Ref.{now}
-use Rattle.fields.specs.Walk.{Stands}
-use Rattle.alphabet.specs.Lists.{find}
-use Rattle.alphabet.proofs.ListLaws.{rest-of}
-use Rattle.alphabet.proofs.PartLaws.{walk-in}
-use Rattle.fields.proofs.CursorLaws.{finds-here, finds-none, stands-on}
+use Rattle.alphabet.specs.Lists.{first, either}
+use Rattle.alphabet.proofs.ListLaws.{rest-of, first-le}
+use Rattle.fields.proofs.CursorLaws.{finds-none, part-ends, finds-here}
 use Rattle.fields.proofs.walk.seek.Statement.{statement}
 use Rattle.fields.proofs.walk.seek.Tie as tie
 
-abbrev Inv-loop : tie.InvT-loop
-Inv-loop segment separator wanted index₀ place₀ index place = Stands separator segment (record { index = index; place = place }) × (index ≤ wanted)
-
-abbrev μ-loop : tie.MeasureT-loop
-μ-loop segment separator wanted index₀ place₀ index place = length segment - place
-
-inside : (c : tie.After-find Inv-loop μ-loop) → c .before .before .loop .place + c .find .result ≤ length (now (c .before .before .before .before .before .args .segment))
-inside c =
-    let l = c .before .before in
-    let a = l .before .before .before .args in
-    walk-in (a .separator) (now (a .segment)) (l .loop .place) (c .find .result) (l .loop .inv .0 .inside) (c .find .ensures)
-
-behind-requires : tie.Need-behind-requires Inv-loop μ-loop
-behind-requires c κs =
-    let l = c .before .before .before in
-    let a = l .before .before .before .args in
-    (l .loop .inv .0, ap (λ (n : ℕ). l .loop .place + n) (c .before .find .ensures ∙ ap (find (a .separator)) (rest-of (now (a .segment)) (l .loop .place))))
-
-returns : tie.Need-returns Inv-loop μ-loop
+returns : tie.Need-returns
 returns c =
-    let l = c .before .before .before .before in
-    let a = l .before .before .before .args in
-    finds-here (a .separator) (now (a .segment)) (l .loop .index) (l .loop .place) (c .before .before .find .result) (l .loop .inv .0) (c .before .before .find .ensures) (a .wanted) (c .before .if1 .taken) (c .behind .result) (c .behind .ensures)
+    let r = c .before .before in
+    let a = r .before .before .before .args in
+    finds-none (a .delimiters .bytes) (now (a .segment)) (r .reach .result) (a .wanted) (r .reach .ensures) (c .if1 .taken)
 
-returns-2 : tie.Need-returns-2 Inv-loop μ-loop
+module _ (c : tie.After-find-two-by-words) where
+  abbrev r : tie.After-reach
+  r = c .before .before .before .before
+
+  abbrev ds : List ℕ
+  ds = r .before .before .before .args .delimiters .bytes
+
+  abbrev s : List ℕ
+  s = now (r .before .before .before .args .segment)
+
+  -- where repetition 1 ends
+  found : c .find-two-by-words .result ≡ first (either (getD ds 0 0) (getD ds 2 0)) (drop (r .reach .result .place) s)
+  found = c .find-two-by-words .ensures ∙ ap (first (either (getD ds 0 0) (getD ds 2 0))) (rest-of s (r .reach .result .place))
+
+  within : r .reach .result .place + c .find-two-by-words .result ≤ length s
+  within =
+      let i = r .reach .ensures .stands .inside in
+      let u = first-le (either (getD ds 0 0) (getD ds 2 0)) (drop (r .reach .result .place) s) in
+      let d = length-drop (r .reach .result .place) s in
+      omega (arith, found)
+
+  here : r .before .before .before .args .wanted ≤ r .reach .result .index
+  here = omega (arith, c .before .before .if1 .left)
+
+behind-requires : tie.Need-behind-requires
+behind-requires c κs =
+    let t = c .before in
+    let q = r t in
+    (q .reach .ensures .stands, part-ends (ds t) (s t) (q .reach .result) (q .before .before .before .args .wanted) (q .reach .ensures) (here t) (t .find-two-by-words .result) (c .end-behind .result) (found t) (c .end-behind .ensures))
+
+returns-2 : tie.Need-returns-2
 returns-2 c =
-    let l = c .before .before .before .before in
-    let a = l .before .before .before .args in
-    let i = l .loop .inv .1 in
-    let e = c .before .if1 .left in
-    finds-none (a .separator) (now (a .segment)) (l .loop .index) (l .loop .place) (c .before .before .find .result) (l .loop .inv .0) (c .before .before .find .ensures) (a .wanted) (omega (arith, e)) (c .if2 .taken)
-
-loop-again : tie.Need-loop-again Inv-loop μ-loop
-loop-again c =
-    let l = c .before .before .before .before in
-    let a = l .before .before .before .args in
-    let i = l .loop .inv .1 in
-    let e = c .before .if1 .left in
-    (stands-on (a .separator) (now (a .segment)) (l .loop .index) (l .loop .place) (c .before .before .find .result) (l .loop .inv .0) (c .before .before .find .ensures) (c .if2 .left), omega (arith, e))
+    let e = c .before in
+    let t = e .before in
+    let q = r t in
+    finds-here (ds t) (s t) (q .reach .result) (q .before .before .before .args .wanted) (q .reach .ensures) (here t) (t .find-two-by-words .result) (e .end-behind .result) (found t) (e .end-behind .ensures) (c .behind .result) (c .behind .ensures)
 
 pub seek-spec : {M : Type 1} → statement M
 seek-spec =
     tie.close
     (tie.spec
-    Inv-loop
-    μ-loop
+    (λ c. search needs)
     (λ c κs. search needs)
-    (λ c. (c .rewound .ensures .0, c .rewound .ensures .1))
-    (λ c. let i = c .loop .inv .0 .inside in search needs)
-    (λ c. let i = c .loop .inv .0 .inside in search needs)
-    (λ c. let i = c .loop .inv .0 .inside in search needs)
-    (λ c κs. search needs)
-    (λ c. let i = inside c in omega arith)
-    behind-requires
     returns
-    returns-2
-    (λ c. let i = inside (c .before .before) in omega arith)
-    (λ c. let l = c .before .before .before .before in let i = l .loop .inv .1 in let e = c .before .if1 .left in omega (arith, e))
-    (λ c. let i = inside (c .before .before) in omega arith)
-    loop-again)
+    (λ c. let i = c .before .before .reach .ensures .stands .inside in search needs)
+    (λ c. let i = c .before .before .reach .ensures .stands .inside in search needs)
+    (λ c. let i = c .before .before .reach .ensures .stands .inside in search needs)
+    (λ c. search needs)
+    (λ c. search needs)
+    (λ c κs. search needs)
+    (λ c. let i = within c in omega arith)
+    (λ c. search needs)
+    (λ c κs. within c)
+    (λ c. search needs)
+    behind-requires
+    returns-2)

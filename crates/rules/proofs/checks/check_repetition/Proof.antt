@@ -16,19 +16,11 @@ returns c =
 
 returns-2 : tie.Need-returns-2
 returns-2 c =
-    let f = c .before .before in
+    let f = c .before in
     let j = f .before .before .before in
     let a = j .before .before .args in
-    sym (repetition-present (a .delimiters .bytes) (a .component) (a .kind) (a .number) (now (a .repetition)) (now (j .judged-part .result)) (j .judged-part .ensures) (sym (f .before .before .is-present .ensures) ∙ not-false _ (f .before .if1 .left))
-    ∙ ap (placed (a .number)) (sym (f .check-form .ensures) ∙ c .enum-told .given .1))
-
-returns-3 : tie.Need-returns-3
-returns-3 c =
-    let f = c .before .before .before in
-    let j = f .before .before .before in
-    let a = j .before .before .args in
-    sym (repetition-present (a .delimiters .bytes) (a .component) (a .kind) (a .number) (now (a .repetition)) (now (j .judged-part .result)) (j .judged-part .ensures) (sym (f .before .before .is-present .ensures) ∙ not-false _ (f .before .if1 .left))
-    ∙ ap (placed (a .number)) (sym (f .check-form .ensures) ∙ c .before .form .given .1))
+    c .placed .ensures ∙ ap (placed (a .number)) (f .check-form .ensures)
+    ∙ sym (repetition-present (a .delimiters .bytes) (a .component) (a .kind) (a .number) (now (a .repetition)) (now (j .judged-part .result)) (j .judged-part .ensures) (sym (f .before .before .is-present .ensures) ∙ not-false _ (f .before .if1 .left)))
 
 pub check-repetition-spec : {M : Type 1} → statement M
 check-repetition-spec =
@@ -38,7 +30,5 @@ check-repetition-spec =
     (λ c κs. search needs)
     returns
     (λ c κs. search needs)
-    (λ c. search needs)
-    (λ c. search needs)
-    returns-2
-    returns-3)
+    (λ c κs. search needs)
+    returns-2)
