@@ -9,7 +9,7 @@ ghost use Rattle.acknowledgement.specs.Acknowledgement.{header, sent, ty
 pub fn header_of(message: &[u8]) -> &[u8]
     ensures { λ r. ⌜ now r ≡ header (now (message .entry)) ⌝ }
 {
-    let end = alphabet::find_far(message, alphabet::CARRIAGE_RETURN);
+    let end = search::find_far(message, alphabet::CARRIAGE_RETURN);
     if end == message.len() {
         return message;
     }
@@ -51,7 +51,7 @@ pub fn is_present(header: &[u8], bytes: &[u8]) -> bool
 pub fn is_acknowledgeable(message: &[u8]) -> bool
     ensures { λ r. ⌜ r ≡ acknowledgeable (now (message .entry)) ⌝ }
 {
-    let end = alphabet::find_far(message, alphabet::CARRIAGE_RETURN);
+    let end = search::find_far(message, alphabet::CARRIAGE_RETURN);
     if end == message.len() {
         return false;
     }

@@ -93,39 +93,11 @@ pub fn is_without(bytes: &[u8], b: u8) -> bool
     without
 }
 
-// A place at or before the first b: blocks without it are passed over whole.
-fn before_first(bytes: &[u8], b: u8) -> usize
-    ensures { λ r. ⌜ r ≤ find b (now (bytes .entry)) ⌝ }
-{
-    let mut i = 0;
-    while BLOCK <= bytes.len() - i {
-        if !is_without(&bytes[i..i + BLOCK], b) {
-            return i;
-        }
-        i += BLOCK;
-    }
-    i
-}
-
 // The place of the first b, or the length where there is none.
 pub fn find(bytes: &[u8], b: u8) -> usize
     ensures { λ r. ⌜ r ≡ find b (now (bytes .entry)) ⌝ }
 {
     let mut i = 0;
-    while i < bytes.len() {
-        if bytes[i] == b {
-            return i;
-        }
-        i += 1;
-    }
-    bytes.len()
-}
-
-// The same, for a byte that stands far off, as the end of a segment does: faster there, and slower where it is near.
-pub fn find_far(bytes: &[u8], b: u8) -> usize
-    ensures { λ r. ⌜ r ≡ find b (now (bytes .entry)) ⌝ }
-{
-    let mut i = before_first(bytes, b);
     while i < bytes.len() {
         if bytes[i] == b {
             return i;

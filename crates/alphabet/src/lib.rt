@@ -19,7 +19,6 @@ pub use bytes::BLOCK;
 pub use bytes::CARRIAGE_RETURN;
 pub use bytes::byte_at;
 pub use bytes::find;
-pub use bytes::find_far;
 pub use bytes::first_not_allowed;
 pub use bytes::hex_digit;
 pub use bytes::hex_value;

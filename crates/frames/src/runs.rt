@@ -41,7 +41,7 @@ pub fn pass(limit: usize, state: FrameState, rest: &[u8], buffer: &mut [u8]) -> 
     ensures { λ r. ⌜ PassesOver limit state (now (rest .entry)) (now (buffer .entry)) r (now (buffer .exit)) ⌝ }
 {
     if state.mode == OUTSIDE {
-        let dropped = alphabet::find_far(rest, OPENS);
+        let dropped = search::find_by_words(rest, OPENS);
         return Passed {
             run: dropped,
             state: FrameState::of(OUTSIDE, 0, counted_on(state.count, dropped)),

@@ -1,1 +1,2 @@
 pub mod NearLaws
+pub mod WordLaws

@@ -1,1 +1,2 @@
 pub mod Two
+pub mod Words

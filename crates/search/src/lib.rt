@@ -1,10 +1,12 @@
 // Where one of five bytes first stands, told of 32 bytes together: the tests are free of branches and every byte of a
 // block is looked at, so that the compiler takes many bytes in one step. The same search ends, where it is told to, at
 // bytes that are not printable.
+mod far;
 mod two;
 mod words;
 
 use alphabet::BLOCK;
+pub use far::find_far;
 pub use two::find_either;
 pub use words::find_by_words;
 pub use words::find_two_by_words;

@@ -26,8 +26,8 @@ returns c =
     let z = k .before .before .before .before .before .before in
     let l = now (z .args .rest) in
     let d = now (z .args .buffer) in
-    subst (λ (t : FrameState). PassesOver (z .args .limit) (z .args .state) l d (record { run = k .before .find-far .result; state = t }) d) (sym (c .of .ensures))
-    (pass-outside (z .args .limit) (z .args .state) l d (z .pre .0) (z .pre .1) (k .before .find-far .result) (k .counted-on .result) (k .before .before .if1 .taken) (k .before .find-far .ensures) (k .counted-on .ensures))
+    subst (λ (t : FrameState). PassesOver (z .args .limit) (z .args .state) l d (record { run = k .before .find-by-words .result; state = t }) d) (sym (c .of .ensures))
+    (pass-outside (z .args .limit) (z .args .state) l d (z .pre .0) (z .pre .1) (k .before .find-by-words .result) (k .counted-on .result) (k .before .before .if1 .taken) (k .before .find-by-words .ensures) (k .counted-on .ensures))
 
 held : (z : tie.Start) → z .args .state .held ≤ z .args .limit
 held z = pass-held (z .args .limit) (z .args .state) (now (z .args .rest)) (now (z .args .buffer)) (z .pre .0) (z .pre .1)

@@ -9,10 +9,10 @@ use native.Mathlib.Omega.{arith}
 use borrow.Author.Needs.{needs}
 use borrow.Author.Tests.{leb-true, not-false}
 use denote.Ref.{now}
 use Rattle.alphabet.specs.Lists.{find}
 use Rattle.alphabet.proofs.ListLaws.{first-block}
-use Rattle.alphabet.proofs.bytes.before_first.Statement.{statement}
-use Rattle.alphabet.proofs.bytes.before_first.Tie as tie
+use Rattle.search.proofs.far.before_first.Statement.{statement}
+use Rattle.search.proofs.far.before_first.Tie as tie
 
 abbrev Inv-loop : tie.InvT-loop
 Inv-loop bytes b i₀ i = (i ≤ length bytes) × (i ≤ find b bytes)
