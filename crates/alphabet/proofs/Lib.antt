@@ -9,3 +9,4 @@ pub mod LimitLaws
 pub mod CheckLaws
 pub mod NullLaws
 pub mod FillingLaws
+pub mod AllowedLaws

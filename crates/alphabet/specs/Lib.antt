@@ -7,3 +7,4 @@ pub mod Limits
 pub mod Answers
 pub mod Parts
 pub mod Filling
+pub mod Allowed

@@ -1,10 +1,12 @@
 // What a byte may be, by document 01's 'Bytes and segments', where a byte first stands, and whether two texts are the
 // same. The tests are free of branches and nested as their definitions are, so that they need no proof.
 ghost use mathlib.Core.Path.{_≡_};
-ghost use Prim.Native.Nat.{_%_, _≤_};
+ghost use mathlib.Core.Bool.{_&&_};
+ghost use Prim.Native.Nat.{ℕ, _%_, _≤_};
 ghost use lib.Dec.{leb};
 ghost use lib.ListN.{length, getD};
 ghost use Rattle.alphabet.specs.Bytes.{printable, allowed, notAllowed, capital, digit, hexOf, hexDigit, isNull};
+ghost use Rattle.alphabet.specs.Allowed.{heightOf, turnedOf};
 ghost use Rattle.alphabet.specs.Lists.{first, find, same};
 
 // CR, which ends every segment.
@@ -107,17 +109,48 @@ pub fn find(bytes: &[u8], b: u8) -> usize
     bytes.len()
 }
 
-// Whether all bytes may stand in a message. As in `is_without`, nothing branches.
+// A number that is 32 or more for CR and for the bytes from 32 on, and for no others.
+fn height(b: u8) -> u8
+    ensures { λ r. ⌜ r ≡ heightOf b ⌝ }
+{
+    if b == CARRIAGE_RETURN { 255 } else { b }
+}
+
+// A number that is over 222 for the bytes from 127 to 159, and for no others: 96 more, and from 0 again behind 255.
+fn turned(b: u8) -> u8
+    ensures { λ r. ⌜ r ≡ turnedOf b ⌝ }
+{
+    if b < 160 { b + 96 } else { b - 160 }
+}
+
+// The lesser of two, in a form of which the compiler makes one instruction for many.
+fn lesser(one: u8, other: u8) -> u8
+    ensures { λ r. ⌜ ((k : ℕ) → leb k r ≡ (leb k other && leb k one)) ⌝ }
+{
+    if one < other { one } else { other }
+}
+
+// The greater of two, likewise.
+fn greater(one: u8, other: u8) -> u8
+    ensures { λ r. ⌜ ((k : ℕ) → leb r k ≡ (leb other k && leb one k)) ⌝ }
+{
+    if one < other { other } else { one }
+}
+
+// Whether all bytes may stand in a message. As in `is_without`, nothing branches: the least height and the most that
+// is turned tell.
 fn is_all_allowed(bytes: &[u8]) -> bool
     ensures { λ r. ⌜ r ≡ leb (length (now (bytes .entry))) (first notAllowed (now (bytes .entry))) ⌝ }
 {
-    let mut all = true;
+    let mut least: u8 = 255;
+    let mut most: u8 = 0;
     let mut i = 0;
     while i < bytes.len() {
-        all = all & is_allowed(bytes[i]);
+        least = lesser(height(bytes[i]), least);
+        most = greater(turned(bytes[i]), most);
         i += 1;
     }
-    all
+    (32 <= least) & (most <= 222)
 }
 
 // The place of the first byte that may not stand in a message, or the length where there is none, which is the usual
