@@ -1,9 +1,11 @@
 // Where one of five bytes first stands, told of 32 bytes together: the tests are free of branches and every byte of a
 // block is looked at, so that the compiler takes many bytes in one step. The same search ends, where it is told to, at
 // bytes that are not printable.
+mod one;
 mod two;
 
 use alphabet::BLOCK;
+pub use one::find_one;
 pub use two::find_either;
 ghost use mathlib.Core.Path.{_≡_};
 ghost use mathlib.Core.Bool.{cond, _&&_};
