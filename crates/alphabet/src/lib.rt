@@ -33,6 +33,7 @@ pub use delimiters::Delimiters;
 pub use delimiters::first_wrong_delimiter;
 pub use delimiters::is_permitted;
 pub use filling::put;
+pub use filling::put_long;
 pub use hex::all_hex;
 pub use limits::id_limit;
 pub use limits::message_limit;

@@ -1,8 +1,8 @@
 -- The outcome of escaping, case by case, and what the measure says of it. Assumes nothing.
-use mathlib.Core.Path.{_≡_, refl, sym, ap}
+use mathlib.Core.Path.{_≡_, refl, sym, ap, _∙_}
 use mathlib.Core.List.{List, [], _∷_}
 use mathlib.Core.Bool.{Bool, true, false, cond}
-use Prim.Native.Nat.{ℕ, _*_, _/_, _%_, _≤_, _<_}
+use Prim.Native.Nat.{ℕ, _+_, _-_, _*_, _/_, _%_, _≤_, _<_}
 use native.Mathlib.Omega.{arith}
 use lib.Dec.{leb, ltb}
 use lib.ListN.{length, getD, length-append}
@@ -29,6 +29,14 @@ room-takes room n h = rw (le-leb _ _ h)
 pub room-short : (room n : ℕ) → room < n → Short ≡ roomFor room n
 unfolding roomFor
 room-short room n h = rw (lt-leb _ _ h)
+
+-- and whether more does, once n of it is taken
+pub room-left : (room n m : ℕ) → n ≤ room → leb m (room - n) ≡ leb (n + m) room
+room-left room n m h = at (leb m (room - n)) refl
+  where
+    at : (t : Bool) → leb m (room - n) ≡ t → leb m (room - n) ≡ leb (n + m) room
+    at true e = e ∙ sym (le-leb (n + m) room (omega (arith, leb-true m (room - n) e)))
+    at false e = e ∙ sym (lt-leb (n + m) room (omega (arith, leb-false m (room - n) e)))
 
 -- what roomFor says
 pub takes-is : (room n m : ℕ) → Takes m ≡ roomFor room n → (m ≡ n) × (n ≤ room)
@@ -67,7 +75,7 @@ byte-most ds b = at (ltb (find b ds) 5) (printable b)
     at false true = omega arith
     at false false = omega arith
 
-bytes-most : (ds t : List ℕ) → length (escapeBytes ds t) ≤ 5 * length t
+pub bytes-most : (ds t : List ℕ) → length (escapeBytes ds t) ≤ 5 * length t
 unfolding escapeBytes
 bytes-most ds [] = omega arith
 bytes-most ds (b ∷ r) = omega (arith, byte-most ds b, bytes-most ds r, length-append (escapeByte ds b) (escapeBytes ds r))

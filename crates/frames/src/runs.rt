@@ -53,7 +53,7 @@ pub fn pass(limit: usize, state: FrameState, rest: &[u8], buffer: &mut [u8]) -> 
         if limit - held < run {
             run = limit - held;
         }
-        let place = alphabet::put(buffer, held, &rest[..run]);
+        let place = alphabet::put_long(buffer, held, &rest[..run]);
         return Passed {
             run: run,
             state: FrameState::of(INSIDE, held + run, state.count),

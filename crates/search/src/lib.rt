@@ -2,11 +2,13 @@
 // block is looked at, so that the compiler takes many bytes in one step. The same search ends, where it is told to, at
 // bytes that are not printable.
 mod far;
+mod one;
 mod two;
 mod words;
 
 use alphabet::BLOCK;
 pub use far::find_far;
+pub use one::find_one;
 pub use two::find_either;
 pub use words::find_by_words;
 pub use words::find_two_by_words;

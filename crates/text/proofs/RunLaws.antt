@@ -4,11 +4,13 @@ use mathlib.Core.List.{List, [], _∷_, _++_, map}
 use mathlib.Core.Bool.{Bool, true, false, cond}
 use Prim.Native.Nat.{ℕ, zero, suc, _+_, _≤_, _<_}
 use native.Mathlib.Nat.{add-zero}
+use native.Mathlib.Decide.{decLt}
 use native.Mathlib.Omega.{arith}
 use lib.ListN.{length, getD, take, drop, length-append, length-drop, length-map}
-use lib.Seq.{length-take-le, drop-drop}
-use borrow.Author.Tests.{le-ltb}
-use Rattle.alphabet.proofs.ListLaws.{first-past, find-own}
+use lib.Dec.{eqb}
+use lib.Seq.{length-take-le, drop-drop, getD-drop}
+use borrow.Author.Tests.{le-ltb, eqb-false}
+use Rattle.alphabet.proofs.ListLaws.{first-le, first-here, first-past, first-passes, first-before, find-own}
 use Rattle.alphabet.specs.Lists.{first, find}
 use Rattle.plain.specs.Plain.{special}
 use Rattle.plain.proofs.PlainLaws.{plain-is}
@@ -73,3 +75,25 @@ run-begins q ds s i h good o =
     let a = text-allowed q ds s i h good o in
     let e = first-past (special ds) s i h (rw (a .0, le-ltb (find (getD s i 0) ds) 5 (a .1))) in
     omega arith
+
+-- and it reaches to the next of them
+module _ {A : Type 0} (q : Sequences A) (ds s : List ℕ) (i : ℕ) (five : length ds ≡ 5) (good : isText (scan q ds i 0 (drop i s)) ≡ true) where
+  abbrev end : ℕ
+  end = first (special ds) (drop i s)
+
+  no-other : end < find (escapeOf ds) (drop i s) → ⊥
+  no-other h =
+      let n = first-le (eqb (escapeOf ds)) (drop i s) in
+      let d = length-drop i s in
+      let g = getD-drop i s end 0 in
+      let o : getD s (i + end) 0 ≡ escapeOf ds → ⊥ = λ w. eqb-false (escapeOf ds) _ (first-before (eqb (escapeOf ds)) (drop i s) end h) (sym (g ∙ w)) in
+      let b = run-begins q ds s (i + end) (omega arith) (text-run q ds s i end (omega arith) five good .0) o in
+      let z = first-here (special ds) s (i + end) (omega arith) (ap (special ds) (sym g) ∙ first-passes (special ds) (drop i s) (omega arith)) in
+      omega arith
+
+  pub run-reaches : find (escapeOf ds) (drop i s) ≤ first (special ds) (drop i s)
+  run-reaches = at (decLt end (find (escapeOf ds) (drop i s)))
+    where
+      at : Dec (end < find (escapeOf ds) (drop i s)) → find (escapeOf ds) (drop i s) ≤ end
+      at (yes h) = absurd (no-other h)
+      at (no h) = omega arith

@@ -108,7 +108,7 @@ fn judge(delimiters: Delimiters, text: &[u8]) -> Judged
 }
 
 // Writes what a text with no fault says to the front of the buffer: a sequence, or the bytes up to the next one, at
-// each turn.
+// each turn. These stand plainly, since there is no fault, so that an escape alone is sought.
 fn write_text(delimiters: Delimiters, text: &[u8], buffer: &mut [u8])
     requires { ⌜ (isText (scan plainText (delimiters .bytes) 0 0 (now text)) ≡ true)
         × (length (textOf (scan plainText (delimiters .bytes) 0 0 (now text))) ≤ length (now buffer)) ⌝ }
@@ -128,8 +128,8 @@ fn write_text(delimiters: Delimiters, text: &[u8], buffer: &mut [u8])
             place = put_meaning(delimiters, &rest[..n], buffer, place);
             i = from + n + 1;
         } else {
-            let end = i + plain_run(delimiters, &text[i..]);
-            place = alphabet::put(buffer, place, &text[i..end]);
+            let end = i + search::find_one(&text[i..], mark);
+            place = alphabet::put_long(buffer, place, &text[i..end]);
             i = end;
         }
     }

@@ -56,8 +56,8 @@ run c =
 add-end : tie.Need-add-end Inv-loop μ-loop
 add-end c = let h = run c .1 in omega arith
 
-part-put-end : tie.Need-part-put-end Inv-loop μ-loop
-part-put-end c = let h = run (c .before) .1 in omega arith
+part-put-long-end : tie.Need-part-put-long-end Inv-loop μ-loop
+part-put-long-end c = let h = run (c .before) .1 in omega arith
 
 loop-less : tie.Need-loop-less Inv-loop μ-loop
 loop-less c = let h = run (c .before .before .before .before .before) .1 in omega arith
@@ -82,7 +82,7 @@ loop-again c =
     let q = fill-length f (l .before .before .before .pre) in
     let z = fill-room f in
     let p = put-fits (o .put-written .last .1 .1 .0) (take (i + n - i) (drop i s)) (o .put-written .result) (omega (arith, l .before .before .before .pre)) in
-    (h, fill-more _ _ _ _ f (bytes-from ds s i n (r .0) ∙ ap (λ (j : ℕ). take j (drop i s) ++ escapeBytes ds (drop (i + n) s)) (sym e)) (c .before .before .put .ensures .1 ∙ p .1) (c .before .before .put .ensures .0 ∙ p .0))
+    (h, fill-more _ _ _ _ f (bytes-from ds s i n (r .0) ∙ ap (λ (j : ℕ). take j (drop i s) ++ escapeBytes ds (drop (i + n) s)) (sym e)) (c .before .before .put-long .ensures .1 ∙ p .1) (c .before .before .put-long .ensures .0 ∙ p .0))
 
 same-length : tie.Need-same-length Inv-loop μ-loop
 same-length c = fill-length (c .before .loop .inv .1) (c .before .before .before .before .pre)
@@ -91,7 +91,10 @@ returns : tie.Need-returns Inv-loop μ-loop
 returns c =
     let l = c .before in
     let a = l .before .before .before .args in
-    fill-end (l .loop .inv .1) (bytes-end (a .delimiters .bytes) (now (a .text)) (l .loop .i) (omega arith))
+    let f = l .loop .inv .1 in
+    let e = bytes-end (a .delimiters .bytes) (now (a .text)) (l .loop .i) (omega arith) in
+    let z = ap length e in
+    (omega (arith, fill-room f), fill-end f e)
 
 pub write-escaped-spec : {M : Type 1} → statement M
 write-escaped-spec =
@@ -110,7 +113,7 @@ write-escaped-spec =
     add-end
     (λ c. omega arith)
     (λ c. omega arith)
-    part-put-end
+    part-put-long-end
     (λ c κs. search needs)
     loop-less
     loop-again

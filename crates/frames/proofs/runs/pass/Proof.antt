@@ -51,8 +51,8 @@ bounds c =
 within : (c : tie.Joined3) → c .if3 .run ≤ length (now (c .before .before .before .before .before .before .before .before .args .rest))
 within c = let b = bounds c .0 in let f = first-le framing (now (c .before .before .before .before .before .before .before .before .args .rest)) in omega arith
 
-slice-aggregate-put : tie.Need-slice-aggregate-put
-slice-aggregate-put c = sym (length-take-le _ _ (within (c .before .before)))
+slice-aggregate-put-long : tie.Need-slice-aggregate-put-long
+slice-aggregate-put-long c = sym (length-take-le _ _ (within (c .before .before)))
 
 add-of : tie.Need-add-of
 add-of c =
@@ -69,9 +69,9 @@ returns-2 c =
     let b = bounds k in
     let l = now (z .args .rest) in
     let d = now (z .args .buffer) in
-    let x = c .before .before .before .before .put .last .0 in
+    let x = c .before .before .before .before .put-long .last .0 in
     subst (λ (t : FrameState). PassesOver (z .args .limit) (z .args .state) l d (record { run = k .if3 .run; state = t }) x) (sym (c .of2 .ensures))
-    (pass-inside (z .args .limit) (z .args .state) l d (z .pre .0) (z .pre .1) (k .if3 .run) x (k .before .before .if2 .taken) (b .0) (b .1) (c .before .before .before .before .put .ensures .1))
+    (pass-inside (z .args .limit) (z .args .state) l d (z .pre .0) (z .pre .1) (k .if3 .run) x (k .before .before .if2 .taken) (b .0) (b .1) (c .before .before .before .before .put-long .ensures .1))
 
 returns-3 : tie.Need-returns-3
 returns-3 c =
@@ -94,7 +94,7 @@ pass-spec =
     (λ c κs. search needs)
     sub-if3
     sub-run
-    slice-aggregate-put
+    slice-aggregate-put-long
     (λ c κs. search needs)
     add-of
     (λ c κs. search needs)

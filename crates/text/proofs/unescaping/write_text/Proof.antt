@@ -1,5 +1,5 @@
 -- Rests on the laws of a rest that has no fault, and of a buffer that is filled from its front: what the rest of the text says is left, at each turn;
--- and on a run saying what it is.
+-- and on a run saying what it is, up to the next escape delimiter.
 use lib.ListN.{length-append, length-drop, length, getD, take, drop}
 use lib.Seq.{length-take-le}
 use Prim.Native.Nat.{ℕ, _≤_, _<_, _+_, _-_}
@@ -7,18 +7,19 @@ use mathlib.Core.Path.{_≡_, sym, ap, subst⁻¹, _∙_}
 use mathlib.Core.List.{List, _++_, map-id}
 use native.Mathlib.Omega.{arith}
 use borrow.Author.Needs.{needs}
+use borrow.Author.Tests.{ne-eqb}
+use lib.Dec.{eqb}
 use denote.Ref.{now}
 use mathlib.Core.Bool.{true}
-use Rattle.alphabet.proofs.ListLaws.{rest-of}
-use Rattle.alphabet.specs.Lists.{first, find}
+use Rattle.alphabet.proofs.ListLaws.{rest-of, first-past}
+use Rattle.alphabet.specs.Lists.{find}
 use Rattle.escaping.specs.Escape.{escapeOf}
 use Rattle.text.specs.Unescape.{known, meaning, plainText, emit, step, scan}
-use Rattle.plain.specs.Plain.{special}
 use Rattle.text.specs.Judging.{isText, textOf}
 use Rattle.alphabet.proofs.FillingLaws.{Filling, fill-start, fill-more, fill-room, fill-length, fill-end, put-fits}
 use Rattle.text.proofs.StepLaws.{step-known, scan-end, text-past, text-opens}
 use Rattle.plain.proofs.PlainLaws.{run-from}
-use Rattle.text.proofs.RunLaws.{run-begins, text-run}
+use Rattle.text.proofs.RunLaws.{run-reaches, text-run}
 use Rattle.text.proofs.unescaping.write_text.Statement.{statement}
 use Rattle.text.proofs.unescaping.write_text.Tie as tie
 
@@ -87,18 +88,19 @@ Runs l n =
     (0 < n) × (l .loop .i + n ≤ length (S l)) × (isText (scan plainText (Ds l) (l .loop .i + n) 0 (drop (l .loop .i + n) (S l))) ≡ true)
     × (textOf (scan plainText (Ds l) (l .loop .i) 0 (drop (l .loop .i) (S l))) ≡ take n (drop (l .loop .i) (S l)) ++ textOf (scan plainText (Ds l) (l .loop .i + n) 0 (drop (l .loop .i + n) (S l))))
 
-plain : (k : tie.After-plain-run Inv-loop μ-loop) → Runs (k .before .before .before .before .before) (k .plain-run .result)
+plain : (k : tie.After-find-one Inv-loop μ-loop) → Runs (k .before .before .before .before .before) (k .find-one .result)
 plain k =
     let l = k .before .before .before .before .before in
     let i = l .loop .i in
-    let n = k .plain-run .result in
+    let n = k .find-one .result in
+    let e = escapeOf (Ds l) in
     let h = k .before .before .before .before .loop-test .taken in
     let g = l .loop .inv .1 in
     let five : length (Ds l) ≡ 5 = search needs in
-    let e : n ≡ first (special (Ds l)) (drop i (S l)) = k .plain-run .ensures ∙ ap (first (special (Ds l))) (rest-of (S l) i) in
-    let b = run-begins plainText (Ds l) (S l) i h g (k .before .before .if1 .left) in
-    let r = run-from (special (Ds l)) (S l) i n (omega arith) (k .plain-run .ensures) in
-    let t = text-run plainText (Ds l) (S l) i n (r .0) five g in
+    let m : n ≡ find e (drop i (S l)) = k .find-one .ensures ∙ ap (find e) (rest-of (S l) i) in
+    let b = first-past (eqb e) (S l) i h (ne-eqb e _ (λ w. k .before .before .if1 .left (sym w))) in
+    let r = run-from (eqb e) (S l) i n (omega arith) (k .find-one .ensures) in
+    let t = text-run plainText (Ds l) (S l) i n (omega (arith, m, run-reaches plainText (Ds l) (S l) i five g)) five g in
     let u = textOf (scan plainText (Ds l) (i + n) 0 (drop (i + n) (S l))) in
     (omega arith, r .1, t .0, t .1 ∙ ap (λ (w : List ℕ). w ++ u) (map-id (take n (drop i (S l)))))
 
@@ -138,8 +140,8 @@ loop-again c =
 add-end : tie.Need-add-end Inv-loop μ-loop
 add-end c = let h = plain c .1 in omega arith
 
-part-put-end : tie.Need-part-put-end Inv-loop μ-loop
-part-put-end c = let h = plain (c .before) .1 in omega arith
+part-put-long-end : tie.Need-part-put-long-end Inv-loop μ-loop
+part-put-long-end c = let h = plain (c .before) .1 in omega arith
 
 loop-less-2 : tie.Need-loop-less-2 Inv-loop μ-loop
 loop-less-2 c =
@@ -154,7 +156,7 @@ loop-again-2 c =
     let l = k .before .before .before .before .before in
     let s = S l in
     let i = l .loop .i in
-    let n = k .plain-run .result in
+    let n = k .find-one .result in
     let f = l .loop .inv .2 in
     let m = plain k in
     let h = m .1 in
@@ -167,7 +169,7 @@ loop-again-2 c =
     let r = fill-room f in
     let q = kept l in
     let p = put-fits (l .loop .buffer) (take (i + n - i) (drop i s)) (l .loop .place) (omega (arith, l .before .before .before .before .pre .1)) in
-    (h, m .2, fill-more _ _ _ _ f (m .3 ∙ ap (λ (j : ℕ). take j (drop i s) ++ u) (sym e)) (c .before .before .put .ensures .1 ∙ p .1) (c .before .before .put .ensures .0 ∙ p .0))
+    (h, m .2, fill-more _ _ _ _ f (m .3 ∙ ap (λ (j : ℕ). take j (drop i s) ++ u) (sym e)) (c .before .before .put-long .ensures .1 ∙ p .1) (c .before .before .put-long .ensures .0 ∙ p .0))
 
 same-length : tie.Need-same-length Inv-loop μ-loop
 same-length c = kept (c .before)
@@ -205,7 +207,7 @@ write-text-spec =
     add-end
     (λ c. omega arith)
     (λ c. omega arith)
-    part-put-end
+    part-put-long-end
     (λ c κs. search needs)
     loop-less-2
     loop-again-2
