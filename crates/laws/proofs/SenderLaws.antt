@@ -16,7 +16,7 @@ use Rattle.laws.proofs.EachLaws.{Each, Every, at-each, each-take, each-
 use Rattle.alphabet.proofs.PartLaws.{split-step}
 use Rattle.reading.specs.Segments.{allButLast, segments, delimitersOf, fieldSeparator}
 use Rattle.reading.specs.Message.{Opened}
-use Rattle.laws.proofs.RawLaws.{raw-header, raw-component}
+use Rattle.element.proofs.RawLaws.{raw-header, raw-component}
 use Rattle.laws.proofs.Clean.{permitted-printable}
 use Rattle.laws.proofs.LineLaws.{Printable, Not, Clean}
 use Rattle.acknowledgement.specs.Acknowledgement.{sent, typePart}
