@@ -1,5 +1,5 @@
 -- Laws of the header that is taken from a message, and of whether it can be acknowledged, case by case. Assumes nothing.
-use mathlib.Core.Path.{_≡_, refl, sym, ap}
+use mathlib.Core.Path.{_≡_, refl, sym, ap, _∙_}
 use mathlib.Core.Bool.{Bool, true, false, cond, not, _&&_}
 use mathlib.Core.List.{List, [], _∷_}
 use Prim.Native.Nat.{ℕ, suc, _+_, _≤_, _<_}
@@ -7,7 +7,7 @@ use native.Mathlib.Nat.{suc-add}
 use native.Mathlib.Omega.{arith}
 use lib.Dec.{leb, ltb, eqb}
 use lib.ListN.{length, take}
-use lib.Seq.{take-all, length-take-le}
+use lib.Seq.{take-all, take-take, length-take-le}
 use borrow.Author.Tests.{lt-ltb, le-ltb, ltb-true, ltb-false}
 use Rattle.alphabet.specs.Bytes.{carriageReturn, ascii}
 use Rattle.alphabet.specs.Limits.{idLimit}
@@ -16,11 +16,13 @@ use Rattle.alphabet.specs.declared.answers.Check.{Check}
 use Rattle.alphabet.specs.declared.answers.Check.the-variants.{Passes, Fails}
 use Rattle.alphabet.specs.declared.answers.Refusal.{Refusal}
 use Rattle.alphabet.specs.declared.answers.Refusal.the-variants.{None, NotAcknowledgeable, CallersTime, CallersId}
+use Rattle.alphabet.proofs.ListLaws.{first-le}
 use Rattle.alphabet.proofs.BoolLaws.{false-true, and-both, or-neither}
 use Rattle.reading.specs.Reading.{opening}
 use Rattle.reading.specs.Message.{Opened}
 use Rattle.reading.proofs.Accepted.{opened-if}
 use Rattle.times.specs.Times.{isTs}
+use Rattle.acknowledgement.specs.Fields.{lineIn}
 use Rattle.acknowledgement.specs.Acknowledgement.{header, sent, typePart, present, passes, badId, acknowledgeable, refusing}
 
 module _ (m : List ℕ) where
@@ -123,3 +125,24 @@ sound-header m e =
 pub return-inside : (m : List ℕ) → acknowledgeable m ≡ true → find carriageReturn m < length m
 unfolding acknowledgeable
 return-inside m e = ltb-true (find carriageReturn m) (length m) (and-both (ltb (find carriageReturn m) (length m)) _ e .0)
+
+-- its control ID is present
+pub id-present : (m : List ℕ) → acknowledgeable m ≡ true → present (header m) (sent (header m) 10) ≡ true
+unfolding acknowledgeable
+id-present m e =
+    let there = and-both (ltb (find carriageReturn m) (length m)) _ e .1 in
+    let sound = and-both (passes (opening (header m))) _ there .1 in
+    let other = and-both (not (same (typePart (header m) 1) (ascii "ACK"))) _ sound .1 in
+    and-both (present (header m) (sent (header m) 10)) _ other .0
+
+-- ---- the header without its CR
+
+pub line-long : (m : List ℕ) → length (lineIn m) ≡ find carriageReturn m
+line-long m = length-take-le (find carriageReturn m) m (first-le (eqb carriageReturn) m)
+
+pub line-header : (m : List ℕ) → find carriageReturn m < length m → lineIn m ≡ lineIn (header m)
+line-header m h = sym (ap (λ (n : ℕ). take n (header m)) (header-find m h) ∙ take-take (find carriageReturn m) (find carriageReturn m + 1) m (omega arith))
+
+-- what was taken ends in its only CR
+pub one-return : (m h : List ℕ) → find carriageReturn m < length m → h ≡ header m → find carriageReturn h + 1 ≡ length h
+one-return m h i e = ap (λ (x : List ℕ). find carriageReturn x + 1) e ∙ header-ends m i ∙ sym (ap length e)

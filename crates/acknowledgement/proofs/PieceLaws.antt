@@ -14,7 +14,7 @@ use Rattle.alphabet.proofs.HexLaws.{drop-two}
 use Rattle.alphabet.specs.Bytes.{carriageReturn, ascii}
 use Rattle.alphabet.specs.Delimiters.{firstWrongDelimiter}
 use Rattle.alphabet.specs.Limits.{messageLimit, idLimit}
-use Rattle.alphabet.specs.Lists.{first}
+use Rattle.alphabet.specs.Lists.{first, find}
 use Rattle.alphabet.specs.Parts.{join}
 use Rattle.alphabet.specs.declared.answers.Refusal.the-variants.{AcknowledgementTooLong}
 use Rattle.reading.specs.Segments.{isHeader, delimitersOf, fieldSeparator}
@@ -27,7 +27,10 @@ use Rattle.escaping.proofs.OutcomeLaws.{escape-most, escaping-fits}
 use Rattle.acknowledgement.specs.Acknowledgement.{sent, typePart, present, encoding, typeSent, version, headerParts, answerParts, acknowledgement, roomy}
 use Rattle.together.specs.Together.{together, least}
 use Rattle.together.proofs.PieceLaws.{least-both}
+use Rattle.acknowledgement_code.specs.Codes.{lettersOf}
+use Rattle.acknowledgement.specs.Fields.{endsOf, cutOut}
 use Rattle.acknowledgement.specs.Pieces.{eventMark, event, fixedText, pieces}
+use Rattle.acknowledgement.proofs.FieldLaws.{sent-cut, before-id, earlier, two-cut}
 use Rattle.acknowledgement_code.specs.declared.Code.{Code}
 use Rattle.acknowledgement_code.specs.declared.Code.the-variants.{Accept, Error, Reject}
 
@@ -127,17 +130,47 @@ module _ (h time id : List ℕ) where
 
   -- the pieces one behind another, with the fixed texts where they stand
   cut : (code : Code) (e : List ℕ)
-      → together (pieces h time (escape (delimitersOf h) id) (fixedText code) e) ≡ take 8 h ++ names (ascii "ACK" ++ (eventMark h (event h) ++ (event h ++ rest code (e ++ []))))
-  unfolding together pieces answerParts spread
+      → together (pieces h time (escape (delimitersOf h) id) (fixedText sep code) e)
+      ≡ take 8 h ++ sep ∷ (cutOut h (endsOf h .four) (endsOf h .six + 1) ++ (cutOut h (endsOf h .two) (endsOf h .four + 1)
+      ++ (time ++ sep ∷ sep ∷ (ascii "ACK" ++ (eventMark h (event h) ++ (event h ++ sep ∷ (escape (delimitersOf h) id ++ sep ∷ (cutOut h (endsOf h .ten) (endsOf h .eleven)
+      ++ sep ∷ (version ++ carriageReturn ∷ (ascii "MSA" ++ sep ∷ (lettersOf code ++ sep ∷ (cutOut h (endsOf h .nine) (endsOf h .ten) ++ carriageReturn ∷ (e ++ [])))))))))))))
+  unfolding together pieces
   cut Accept e = refl
   cut Error e = refl
   cut Reject e = refl
 
-  pub pieces-together : (code : Code) (e : List ℕ) → 8 ≤ length h → isHeader h ≡ true
-      → together (pieces h time (escape (delimitersOf h) id) (fixedText code) e) ≡ acknowledgement h time id code [] ++ e
+  -- two parts with a separator behind each, and more behind them
+  pair-behind : (a b z : List ℕ) → (a ++ sep ∷ (b ++ sep ∷ [])) ++ z ≡ a ++ sep ∷ (b ++ sep ∷ z)
+  pair-behind a b z = append-assoc a (sep ∷ (b ++ sep ∷ [])) z ∙ ap (λ (y : List ℕ). a ++ sep ∷ y) (append-assoc b (sep ∷ []) z)
+
+  -- with the fields that are sent in the place of what is cut out
+  uncut : (receiver sender eleven ten : List ℕ) (code : Code) (e : List ℕ)
+      → receiver ≡ sent h 5 ++ sep ∷ (sent h 6 ++ sep ∷ []) → sender ≡ sent h 3 ++ sep ∷ (sent h 4 ++ sep ∷ []) → eleven ≡ sent h 11 → ten ≡ sent h 10
+      → take 8 h ++ sep ∷ (receiver ++ (sender
+      ++ (time ++ sep ∷ sep ∷ (ascii "ACK" ++ (eventMark h (event h) ++ (event h ++ sep ∷ (escape (delimitersOf h) id ++ sep ∷ (eleven
+      ++ sep ∷ (version ++ carriageReturn ∷ (ascii "MSA" ++ sep ∷ (lettersOf code ++ sep ∷ (ten ++ carriageReturn ∷ e))))))))))))
+      ≡ take 8 h ++ names (ascii "ACK" ++ (eventMark h (event h) ++ (event h ++ rest code e)))
+  unfolding answerParts spread
+  uncut receiver sender eleven ten code e r s f t =
+      (λ i. take 8 h ++ sep ∷ (r i ++ (s i
+      ++ (time ++ sep ∷ sep ∷ (ascii "ACK" ++ (eventMark h (event h) ++ (event h ++ sep ∷ (escape (delimitersOf h) id ++ sep ∷ (f i
+      ++ sep ∷ (version ++ carriageReturn ∷ (ascii "MSA" ++ sep ∷ (lettersOf code ++ sep ∷ (t i ++ carriageReturn ∷ e)))))))))))))
+      ∙ ap (λ (y : List ℕ). take 8 h ++ sep ∷ y) (pair-behind (sent h 5) (sent h 6) _)
+      ∙ ap (λ (y : List ℕ). take 8 h ++ sep ∷ (sent h 5 ++ sep ∷ (sent h 6 ++ sep ∷ y))) (pair-behind (sent h 3) (sent h 4) _)
+
+  pub pieces-together : (code : Code) (e : List ℕ) → 8 ≤ length h → find carriageReturn h + 1 ≡ length h → isHeader h ≡ true → present h (sent h 10) ≡ true
+      → together (pieces h time (escape (delimitersOf h) id) (fixedText sep code) e) ≡ acknowledgement h time id code [] ++ e
   unfolding headerParts typeSent spread
-  pieces-together code e l is =
+  pieces-together code e l one is there =
+      let long : 4 ≤ length h = omega arith in
+      let eight = before-id h long one there in
+      let seven = earlier h long one 7 eight in
+      let six = earlier h long one 6 seven in
+      let five = earlier h long one 5 six in
+      let four = earlier h long one 4 five in
+      let three = earlier h long one 3 four in
       cut code e
+      ∙ uncut _ _ _ _ code (e ++ []) (two-cut h long one 3 five) (two-cut h long one 1 three) (sent-cut h long one 9 11 refl) (sent-cut h long one 8 10 refl)
       ∙ ap (λ (z : List ℕ). z ++ names (ascii "ACK" ++ (eventMark h (event h) ++ (event h ++ rest code (e ++ []))))) (front-bytes h l is)
       ∙ ap (λ (z : List ℕ). (ascii "MSH" ++ sep ∷ encoding h) ++ names (ascii "ACK" ++ z)) (event-whole h (rest code (e ++ [])))
       ∙ spread-is code (e ++ []) ∙ ap (λ (z : List ℕ). acknowledgement h time id code [] ++ z) (append-nil e)

@@ -1,2 +1,3 @@
 pub mod Acknowledgement
+pub mod Fields
 pub mod Pieces

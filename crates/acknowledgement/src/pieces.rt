@@ -1,8 +1,10 @@
 // An acknowledgement as pieces that stand one behind another: bytes of the sender's header, bytes of the caller's,
 // fixed texts, and the segments behind MSA. All are measured before the first is written, so that one that does not fit
 // writes nothing. The pieces share a lifetime, so that one array can hold them; the fixed texts are handed down as one,
-// since a text of a function's own ends with the function.
-use crate::sender::field_of;
+// since a text of a function's own ends with the function. Fields that stand together in the header, with their
+// separators, are one piece: a header that has a control ID has all fields before it.
+use crate::sender::FieldEnds;
+use crate::sender::cut_out;
 use crate::sender::is_present;
 use crate::sender::type_part;
 use acknowledgement_code::Code;
@@ -10,23 +12,29 @@ use alphabet::Answer;
 use alphabet::Refusal;
 use escaping::Room;
 ghost use mathlib.Core.Path.{_≡_};
+ghost use Rattle.alphabet.specs.Bytes.{carriageReturn};
 ghost use Rattle.alphabet.specs.Delimiters.{firstWrongDelimiter};
 ghost use Rattle.alphabet.specs.Limits.{idLimit};
+ghost use Rattle.alphabet.specs.Lists.{find};
 ghost use mathlib.Core.Bool.{true};
-ghost use mathlib.Core.List.{[], _++_, map};
-ghost use Prim.Native.Nat.{_≤_};
+ghost use mathlib.Core.List.{[], _∷_, _++_, map};
+ghost use Prim.Native.Nat.{_+_, _≤_};
 ghost use lib.ListN.{length};
 ghost use Rattle.reading.specs.Segments.{isHeader, delimitersOf};
 ghost use Rattle.escaping.specs.Outcomes.{answer, filled};
-ghost use Rattle.acknowledgement.specs.Acknowledgement.{roomy, acknowledgement};
+ghost use Rattle.acknowledgement_code.specs.Codes.{lettersOf};
+ghost use Rattle.acknowledgement.specs.Acknowledgement.{sent, present, roomy, acknowledgement};
+ghost use Rattle.acknowledgement.specs.Fields.{endsOf};
 ghost use Rattle.together.specs.Together.{together};
 ghost use Rattle.acknowledgement.specs.Pieces.{eventMark, event, fixedText, pieces};
 
 // The event of the sender's type; none where it is not present.
-fn event_of<'a>(header: &'a [u8]) -> &'a [u8]
+fn event_of<'a>(header: &'a [u8], ends: FieldEnds) -> &'a [u8]
+    requires { ⌜ (4 ≤ length (now header)) × (find carriageReturn (now header) + 1 ≡ length (now header)) ⌝ }
+    requires { ⌜ ends ≡ endsOf (now header) ⌝ }
     ensures { λ r. ⌜ now r ≡ event (now (header .entry)) ⌝ }
 {
-    let part = type_part(header, 2);
+    let part = type_part(header, ends, 1);
     if is_present(header, part) {
         return part;
     }
@@ -48,46 +56,36 @@ fn event_mark<'a>(header: &'a [u8], event: &[u8]) -> &'a [u8]
 // front of the sender's header.
 fn pieces_of<'a>(
     header: &'a [u8],
+    ends: FieldEnds,
     time: &'a [u8],
     id: &'a [u8],
     fixed: &'a [u8],
     behind: &'a [u8],
-) -> [&'a [u8]; 30]
-    requires { ⌜ 8 ≤ length (now header) ⌝ }
-    requires { ⌜ 12 ≤ length (now fixed) ⌝ }
+) -> [&'a [u8]; 16]
+    requires { ⌜ (8 ≤ length (now header)) × (find carriageReturn (now header) + 1 ≡ length (now header)) ⌝ }
+    requires { ⌜ ends ≡ endsOf (now header) ⌝ }
+    requires { ⌜ 18 ≤ length (now fixed) ⌝ }
     ensures { λ r. ⌜ map now r
         ≡ pieces (now (header .entry)) (now (time .entry)) (now (id .entry)) (now (fixed .entry))
         (now (behind .entry)) ⌝ }
 {
     let front = &header[..8];
     let mark = &header[3..4];
-    let three = field_of(header, 3);
-    let four = field_of(header, 4);
-    let five = field_of(header, 5);
-    let six = field_of(header, 6);
-    let ten = field_of(header, 10);
-    let eleven = field_of(header, 11);
-    let event = event_of(header);
+    let receiver = cut_out(header, ends.four, ends.six + 1);
+    let sender = cut_out(header, ends.two, ends.four + 1);
+    let event = event_of(header, ends);
     let before_event = event_mark(header, event);
-    let ack = &fixed[..3];
-    let version = &fixed[3..6];
-    let msa = &fixed[6..9];
-    let letters = &fixed[9..11];
-    let end = &fixed[11..12];
+    let eleven = cut_out(header, ends.ten, ends.eleven);
+    let ten = cut_out(header, ends.nine, ends.ten);
+    let ack = &fixed[..5];
+    let answer = &fixed[5..17];
+    let end = &fixed[17..18];
     [
         front,
         mark,
-        five,
-        mark,
-        six,
-        mark,
-        three,
-        mark,
-        four,
-        mark,
+        receiver,
+        sender,
         time,
-        mark,
-        mark,
         ack,
         before_event,
         event,
@@ -95,13 +93,7 @@ fn pieces_of<'a>(
         id,
         mark,
         eleven,
-        mark,
-        version,
-        end,
-        msa,
-        mark,
-        letters,
-        mark,
+        answer,
         ten,
         end,
         behind,
@@ -111,14 +103,16 @@ fn pieces_of<'a>(
 // Writes all pieces where there is room for them, in the buffer and by the limit of a message.
 fn write_pieces<'a>(
     header: &'a [u8],
+    ends: FieldEnds,
     time: &'a [u8],
     id: &'a [u8],
     fixed: &'a [u8],
     behind: &'a [u8],
     buffer: &mut [u8],
 ) -> Answer
-    requires { ⌜ 8 ≤ length (now header) ⌝ }
-    requires { ⌜ 12 ≤ length (now fixed) ⌝ }
+    requires { ⌜ (8 ≤ length (now header)) × (find carriageReturn (now header) + 1 ≡ length (now header)) ⌝ }
+    requires { ⌜ ends ≡ endsOf (now header) ⌝ }
+    requires { ⌜ 18 ≤ length (now fixed) ⌝ }
     ensures { λ r. ⌜ r ≡ answer
         (roomy (length (now (buffer .entry)))
         (together (pieces (now (header .entry)) (now (time .entry)) (now (id .entry)) (now (fixed .entry))
@@ -128,7 +122,7 @@ fn write_pieces<'a>(
         (together (pieces (now (header .entry)) (now (time .entry)) (now (id .entry)) (now (fixed .entry))
         (now (behind .entry))))) (now (buffer .entry)) ⌝ }
 {
-    let pieces = pieces_of(header, time, id, fixed, behind);
+    let pieces = pieces_of(header, ends, time, id, fixed, behind);
     let size = together::put(&pieces, alphabet::message_limit(), buffer);
     match size {
         Room::Short => Answer {
@@ -144,15 +138,44 @@ fn write_pieces<'a>(
     }
 }
 
-// The texts that no message changes, one behind another: `ACK`, `2.4`, `MSA`, the letters of the code, and CR.
-fn fixed_text(code: Code) -> [u8; 12]
-    ensures { λ r. ⌜ r ≡ fixedText code ⌝ }
+// The second letter of a code; the first is A.
+fn letter_of(code: Code) -> u8
+    ensures { λ r. ⌜ 65 ∷ r ∷ [] ≡ lettersOf code ⌝ }
 {
     match code {
-        Code::Accept => *b"ACK2.4MSAAA\r",
-        Code::Error => *b"ACK2.4MSAAE\r",
-        Code::Reject => *b"ACK2.4MSAAR\r",
+        Code::Accept => b'A',
+        Code::Error => b'E',
+        Code::Reject => b'R',
     }
+}
+
+// The texts that no message changes but for its separator, one behind another: an empty field and `ACK`; `2.4`, CR, MSA
+// and the code; and CR.
+fn fixed_text(mark: u8, code: Code) -> [u8; 18]
+    ensures { λ r. ⌜ r ≡ fixedText mark code ⌝ }
+{
+    let cr = alphabet::CARRIAGE_RETURN;
+    let letter = letter_of(code);
+    [
+        mark,
+        mark,
+        b'A',
+        b'C',
+        b'K',
+        mark,
+        b'2',
+        b'.',
+        b'4',
+        cr,
+        b'M',
+        b'S',
+        b'A',
+        mark,
+        b'A',
+        letter,
+        mark,
+        cr,
+    ]
 }
 
 // A buffer for the ID, of which each byte may be written as five. By a call of its own it is no list of so many bytes
@@ -166,16 +189,17 @@ fn id_buffer() -> [u8; 1000]
 // Writes an acknowledgement, with the segments behind MSA, to the front of the buffer.
 pub fn write<'a>(
     header: &'a [u8],
+    ends: FieldEnds,
     time: &'a [u8],
     id: &[u8],
     code: Code,
     behind: &'a [u8],
     buffer: &mut [u8],
 ) -> Answer
-    requires { ⌜ 8 ≤ length (now header) ⌝ }
-    requires { ⌜ isHeader (now header) ≡ true ⌝ }
+    requires { ⌜ (8 ≤ length (now header)) × (find carriageReturn (now header) + 1 ≡ length (now header)) ⌝ }
+    requires { ⌜ (isHeader (now header) ≡ true) × (present (now header) (sent (now header) 10) ≡ true) ⌝ }
     requires { ⌜ firstWrongDelimiter (delimitersOf (now header)) ≡ 5 ⌝ }
-    requires { ⌜ length (now id) ≤ idLimit ⌝ }
+    requires { ⌜ (ends ≡ endsOf (now header)) × (length (now id) ≤ idLimit) ⌝ }
     ensures { λ r. ⌜ r ≡ answer
         (roomy (length (now (buffer .entry)))
         (acknowledgement (now (header .entry)) (now (time .entry)) (now (id .entry)) code [] ++ now (behind .entry))) ⌝ }
@@ -188,6 +212,6 @@ pub fn write<'a>(
     let mut escaped = id_buffer();
     let written = escaping::escape(delimiters, id, &mut escaped);
     let n = written.length;
-    let fixed = fixed_text(code);
-    write_pieces(header, time, &escaped[..n], &fixed, behind, buffer)
+    let fixed = fixed_text(alphabet::byte_at(header, 3), code);
+    write_pieces(header, ends, time, &escaped[..n], &fixed, behind, buffer)
 }

@@ -2,3 +2,4 @@ pub mod LevelLaws
 pub mod StartLaws
 pub mod StateLaws
 pub mod FindingLaws
+pub mod RawLaws

@@ -15,9 +15,9 @@ use levels::part_of;
 ghost use mathlib.Core.Path.{_≡_};
 ghost use mathlib.Core.List.{[], _∷_};
 ghost use Prim.Native.Nat.{_≤_};
-ghost use lib.ListN.{length};
+ghost use lib.ListN.{length, getD};
 ghost use Rattle.alphabet.specs.Answers.{inOrder, answered};
-ghost use Rattle.alphabet.specs.Parts.{began};
+ghost use Rattle.alphabet.specs.Parts.{split, began};
 ghost use Rattle.reading.specs.Segments.{segmentAt};
 ghost use Rattle.reading.specs.Reading.{reading};
 ghost use Rattle.element.specs.Addresses.{addressCheck};
@@ -136,6 +136,18 @@ pub fn bytes_of(message: &[u8], address: Address) -> &[u8]
     let found = find(message, address);
     let element = found.element;
     bytes_at(message, element)
+}
+
+// Part `index`, from 0, of some bytes at a separator; none where there are fewer parts. Judges that have found a field
+// split it by this.
+pub fn part_in(bytes: &[u8], separator: u8, index: usize) -> &[u8]
+    ensures { λ r. ⌜ now r ≡ getD (split separator (now (bytes .entry))) index [] ⌝ }
+{
+    let part = alphabet::nth_part(bytes, separator, index);
+    let Part::At { start, end } = part else {
+        return &bytes[..0];
+    };
+    &bytes[start..end]
 }
 
 // The bytes at an address as they were sent, for judges that have read the message already: no fault is looked for, and

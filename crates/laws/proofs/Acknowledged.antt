@@ -31,7 +31,7 @@ use Rattle.reading.proofs.SegmentLaws.{segments-walk}
 use Rattle.element.specs.Finding.{rawBytes}
 use Rattle.element.specs.declared.address.Address.{Address}
 use Rattle.laws.proofs.HeaderLaws.{first-segment as begins}
-use Rattle.laws.proofs.RawLaws.{raw-header, raw-component}
+use Rattle.element.proofs.RawLaws.{raw-header, raw-component}
 use Rattle.times.specs.Times.{isTs}
 use Rattle.escaping.specs.Escape.{escape}
 use Rattle.escaping.specs.Outcomes.{text, fault}

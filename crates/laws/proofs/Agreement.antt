@@ -29,9 +29,9 @@ use Rattle.element.specs.Finding.{partBytes, found, elementBytes}
 use Rattle.element.proofs.LevelLaws.{Within, in-absent, within-field, within-in, within-segment, element-split}
 use Rattle.laws.specs.Elements.{address, Asks, whole-repetition, whole-component}
 use Rattle.laws.specs.Held.{HeldAgainst, RowFinds, own, other, numbersFrom, JudgedByElements}
-use Rattle.laws.proofs.ElementLaws.{absent-means, means-absent}
+use Rattle.laws.proofs.ElementLaws.{means-absent}
 use Rattle.laws.proofs.HeaderLaws.{first-segment}
-use Rattle.laws.proofs.RawLaws.{part-in-bytes}
+use Rattle.element.proofs.RawLaws.{absent-means, part-in-bytes}
 use Rattle.laws.proofs.LevelBytes.{split-further}
 use Rattle.laws.proofs.Asking.{answered-exactly}
 use Rattle.laws.proofs.FoundLaws.{shown-is, absent-nowhere}

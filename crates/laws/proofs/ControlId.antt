@@ -21,7 +21,7 @@ use Rattle.field_table.specs.Table.{rows}
 use Rattle.field_table.specs.declared.Kind.the-variants.{Identifier}
 use Rattle.rules.specs.Rules.{judgedPart}
 use Rattle.fields.specs.Judging.{Fault, Sound, Faulty, repetitionsIn, repetitionsOf, located, orFault, firstFault, segmentFault, segmentFaults, judging}
-use Rattle.laws.proofs.RawLaws.{raw-whole}
+use Rattle.element.proofs.RawLaws.{raw-whole}
 use Rattle.laws.proofs.HeaderRows.{asks, Single, single, nothing-there, finds, placed-passes, id-form, first-stands, timed-found, identified-found, in-header}
 
 -- where nothing is found in all, nothing is found in each

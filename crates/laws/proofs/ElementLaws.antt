@@ -1,25 +1,25 @@
 -- What is promised of elements: each lies inside its segment, absent means past the last part, which bytes each state means, and the whole of a
 -- level with one part is that part. Assumes nothing.
 use mathlib.Core.Path.{_≡_, refl, sym, ap, subst, _∙_}
-use mathlib.Core.List.{List, []}
+use mathlib.Core.List.{List}
 use mathlib.Core.Bool.{Bool, true, false, not, cond, _&&_, _||_}
 use Prim.Native.Nat.{ℕ, zero, suc, _+_, _-_, _≤_}
 use native.Mathlib.Omega.{arith}
 use lib.Dec.{eqb, leb}
-use lib.ListN.{length, getD, take, drop}
+use lib.ListN.{length, getD}
 use borrow.Author.Tests.{eqb-true, eq-eqb, not-false}
 use Rattle.alphabet.specs.Lists.{first, find}
 use Rattle.alphabet.specs.Bytes.{isNull}
-use Rattle.alphabet.specs.Parts.{split, standing, partAt}
+use Rattle.alphabet.specs.Parts.{split, partAt}
 use Rattle.alphabet.specs.declared.parts.Part.{Part}
 use Rattle.alphabet.specs.declared.parts.Part.the-variants.{At, Absent}
 use Rattle.alphabet.proofs.BoolLaws.{false-true}
 use Rattle.alphabet.proofs.NullLaws.{two-quotes, not-quotes}
-use Rattle.alphabet.proofs.ListLaws.{piece-of-piece, first-before, first-none}
-use Rattle.alphabet.proofs.PartLaws.{part-bytes, standing-first, standing-absent, absent-past}
+use Rattle.alphabet.proofs.ListLaws.{first-before, first-none}
+use Rattle.alphabet.proofs.PartLaws.{standing-first, standing-absent}
 use Rattle.reading.specs.Segments.{fieldSeparator, segmentAt}
 use Rattle.element.specs.States.{blank, isEmpty, stateOf}
-use Rattle.element.specs.Levels.{between, moved, partIn, fieldIn, fieldAt, below, repetitionAt, componentAt, subcomponentAt, fixed, unsplit, elementAt}
+use Rattle.element.specs.Levels.{between, partIn, fieldIn, fieldAt, below, repetitionAt, componentAt, subcomponentAt, fixed, unsplit, elementAt}
 use Rattle.element.specs.declared.address.Address.{Address}
 use Rattle.element.specs.declared.states.State.{State}
 use Rattle.element.specs.declared.states.State.the-variants.{Empty, Null, Present}
@@ -84,41 +84,9 @@ one-state ds bytes Present Present (present p q) (present r s) = refl
 
 -- ---- absent means past the last part
 
-pub absent-means : (sep : ℕ) (m : List ℕ) (s e k : ℕ) → partIn sep m (At s e) k ≡ Absent → length (split sep (between m s e)) ≤ k
-unfolding partIn partAt
-absent-means sep m s e k q = at (standing 0 (split sep (between m s e)) k) refl q
-  where
-    at : (p : Part) → standing 0 (split sep (between m s e)) k ≡ p → moved s p ≡ Absent → length (split sep (between m s e)) ≤ k
-    at Absent r q = absent-past 0 (split sep (between m s e)) k r
-    at (At a b) r q = absurd (let z : _≡_ {A = ℕ} 0 1 = cc in omega arith)
-
 pub means-absent : (sep : ℕ) (m : List ℕ) (s e k : ℕ) → length (split sep (between m s e)) ≤ k → partIn sep m (At s e) k ≡ Absent
 unfolding partIn partAt
 means-absent sep m s e k h = rw (standing-absent 0 (split sep (between m s e)) k h)
-
--- ---- a part's bytes are exactly the part of the split
-
-pub part-means : (sep : ℕ) (m : List ℕ) (s e k b f : ℕ) → s ≤ e → e ≤ length m → partIn sep m (At s e) k ≡ At b f
-    → (s ≤ b) × (b ≤ f) × (f ≤ e) × (between m b f ≡ getD (split sep (between m s e)) k [])
-unfolding partIn
-part-means sep m s e k b f h l q = at (partAt sep (between m s e) k) refl q
-  where
-    at : (p : Part) → partAt sep (between m s e) k ≡ p → moved s p ≡ At b f → (s ≤ b) × (b ≤ f) × (f ≤ e) × (between m b f ≡ getD (split sep (between m s e)) k [])
-    at Absent r q = absurd (let z : _≡_ {A = ℕ} 0 1 = cc in omega arith)
-    at (At x y) r q =
-        let g : s + x ≡ b = cc in
-        let j : s + y ≡ f = cc in
-        let i = part-bytes sep (between m s e) k x y r in
-        let i1 = i .1 in
-        let i2 = i .2 in
-        let n = between-length m s e h l in
-        let w : f - b ≡ y - x = omega arith in (
-          omega arith,
-          omega arith,
-          omega arith,
-          ap (λ (z : ℕ). take z (drop b m)) w ∙ ap (λ (z : ℕ). take (y - x) (drop z m)) (sym g)
-              ∙ sym (piece-of-piece m s (e - s) x (y - x) (omega arith)) ∙ i .3,
-        )
 
 -- ---- the whole of a level that has one part is that part
 

@@ -18,9 +18,9 @@ use Rattle.element.specs.Levels.{fixed, partIn, fieldIn, below, repetitionAt, c
 use Rattle.element.specs.declared.address.Address.{Address}
 use Rattle.element.proofs.LevelLaws.{Within, in-absent, field-header, field-other, within-segment, within-field, within-below, element-split}
 use Rattle.laws.specs.Elements.{level, segmentBytes, fieldPlace, fieldBytes, repetitionBytes, componentBytes, levels, before, beforeLevel, segmentStart, fieldStart, repetitionStart, componentStart, startOf, Past, no-field, no-repetition, no-component, no-subcomponent, SplitFurther}
-use Rattle.laws.proofs.ElementLaws.{absent-means, means-absent}
+use Rattle.laws.proofs.ElementLaws.{means-absent}
 use Rattle.laws.proofs.LevelStarts.{Begins, begins-segment, begins-in, begins-below}
-use Rattle.laws.proofs.RawLaws.{part-in-bytes, segment-part-bytes}
+use Rattle.element.proofs.RawLaws.{absent-means, part-in-bytes, segment-part-bytes}
 
 -- ---- one level
 

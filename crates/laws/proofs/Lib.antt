@@ -2,7 +2,6 @@ pub mod EachLaws
 pub mod HeaderLaws
 pub mod HeaderFields
 pub mod ElementLaws
-pub mod RawLaws
 pub mod LevelStarts
 pub mod LevelBytes
 pub mod Asking

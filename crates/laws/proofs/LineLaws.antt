@@ -24,7 +24,7 @@ use Rattle.reading.proofs.SegmentLaws.{segments-ended}
 use Rattle.reading.proofs.Accepted.{accepting}
 use Rattle.element.specs.Finding.{rawBytes}
 use Rattle.laws.proofs.EachLaws.{Each, Every, each-append, each-at, each-weaken, each-join, every-weaken, each-free, every-at}
-use Rattle.laws.proofs.RawLaws.{raw-header, raw-other}
+use Rattle.element.proofs.RawLaws.{raw-header, raw-other}
 
 abbrev pub Printable : ℕ → Type 0
 Printable b = printable b ≡ true

@@ -4,7 +4,7 @@ use mathlib.Core.Bool.{Bool, true, false, _||_}
 use mathlib.Core.List.{List, [], _∷_}
 use Prim.Native.Nat.{ℕ, _+_, _-_, _≤_, _<_}
 use native.Mathlib.Omega.{arith}
-use lib.ListN.{length, getD, take, drop-of-length-le}
+use lib.ListN.{length, getD, take}
 use borrow.Author.Tests.{ne-eqb}
 use Rattle.alphabet.specs.Bytes.{carriageReturn, printable, allowed}
 use Rattle.alphabet.specs.Delimiters.{permitted}
@@ -13,13 +13,13 @@ use Rattle.alphabet.specs.Parts.{split}
 use Rattle.alphabet.proofs.BoolLaws.{false-true}
 use Rattle.alphabet.proofs.DelimiterLaws.{delimiter-permitted, delimiters-differ}
 use Rattle.laws.proofs.EachLaws.{Each, Every, at-each, each-take, each-both, each-weaken, each-split, split-each, every-at}
-use Rattle.alphabet.proofs.PartLaws.{split-step}
-use Rattle.reading.specs.Segments.{allButLast, segments, delimitersOf, fieldSeparator}
+use Rattle.reading.specs.Segments.{segments, delimitersOf, fieldSeparator}
 use Rattle.reading.specs.Message.{Opened}
-use Rattle.laws.proofs.RawLaws.{raw-header, raw-component}
+use Rattle.element.proofs.RawLaws.{raw-component}
 use Rattle.laws.proofs.Clean.{permitted-printable}
 use Rattle.laws.proofs.LineLaws.{Printable, Not, Clean}
 use Rattle.acknowledgement.specs.Acknowledgement.{sent, typePart}
+use Rattle.acknowledgement.proofs.FieldLaws.{split-header, segments-header as one-segment, sent-is as sent-part}
 
 plain-allowed : (b : ℕ) → allowed b ≡ true → Not carriageReturn b → Printable b
 plain-allowed b e n = subst (λ (t : Bool). (t || printable b) ≡ true) (ne-eqb b carriageReturn n) e
@@ -38,19 +38,12 @@ module _ (h : List ℕ) (o : Opened h) (one : find carriageReturn h + 1 ≡ leng
   long : 4 ≤ length h
   long = let n = o .nine-bytes in omega arith
 
-  split-header : split carriageReturn h ≡ line ∷ [] ∷ []
-  unfolding split
-  split-header =
-      let gone : length h ≤ find carriageReturn h + 1 = omega arith in
-      split-step carriageReturn h (omega arith) ∙ ap (λ (x : List ℕ). line ∷ split carriageReturn x) (drop-of-length-le h gone)
-
   pub segments-header : segments h ≡ line ∷ []
-  unfolding segments allButLast
-  segments-header = ap allButLast split-header
+  segments-header = one-segment h long one
 
   no-return : Each (Not carriageReturn) line
   unfolding Every
-  no-return = subst (Every (Each (Not carriageReturn))) split-header (split-each carriageReturn h) .0
+  no-return = subst (Every (Each (Not carriageReturn))) (split-header h long one) (split-each carriageReturn h) .0
 
   line-printable : Each Printable line
   line-printable =
@@ -61,7 +54,7 @@ module _ (h : List ℕ) (o : Opened h) (one : find carriageReturn h + 1 ≡ leng
   -- ---- fields
 
   pub sent-is : (f : ℕ) → (f ≡ 1 → ⊥) → sent h f ≡ getD (split sep line) (f - 1) []
-  sent-is f n = raw-header h long f n ∙ ap (λ (x : List (List ℕ)). getD (split sep (getD x 0 [])) (f - 1) []) segments-header
+  sent-is = sent-part h long one
 
   -- each byte of a part of something keeps what it was, and none is the separator
   part-each : (P : ℕ → Type 0) (x : ℕ) (l : List ℕ) (k : ℕ) → Each P l → Each (λ (b : ℕ). P b × Not x b) (getD (split x l) k [])

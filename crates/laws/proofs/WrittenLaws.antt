@@ -25,7 +25,7 @@ use Rattle.reading.specs.Reading.{reading}
 use Rattle.reading.specs.Message.{ended, Opened, Message}
 use Rattle.reading.proofs.Accepted.{accepting}
 use Rattle.element.specs.Finding.{rawBytes}
-use Rattle.laws.proofs.RawLaws.{raw-component, raw-component-other}
+use Rattle.element.proofs.RawLaws.{raw-component, raw-component-other}
 use Rattle.forms.specs.declared.layouts.Form.the-variants.{Ts}
 use Rattle.times.specs.Times.{isTs}
 use Rattle.laws.proofs.ValueBytes.{time-each, digit-none}

@@ -1,5 +1,5 @@
 -- What a step gathers: what comes next behind one or another of the places that are in a set and have a name, counted place by place. Assumes nothing.
-use mathlib.Core.Path.{_≡_, refl, sym, subst}
+use mathlib.Core.Path.{_≡_, refl, sym, ap, _∙_, subst}
 use mathlib.Core.Logic.{_⊎_, inl, inr, ⊎-elim}
 use mathlib.Core.Bool.{Bool, true, false, cond, _&&_, _||_}
 use mathlib.Core.List.{List}
@@ -10,7 +10,7 @@ use lib.ListN.{getD}
 use native.Mathlib.Decide.{decLt}
 use native.Mathlib.Omega.{arith}
 use lib.Dec.{T, eqb}
-use borrow.Author.Tests.{eqb-true, eqb-false}
+use borrow.Author.Tests.{eqb-true, eqb-false, eq-eqb, ne-eqb}
 use Rattle.structure.specs.Engine.{bit, has, hasb, Entry, entry, into, join, entryAt, nameIn, gathered}
 use Rattle.structure.proofs.SetLaws.{has-zero, or-left, or-right, or-cases}
 use Rattle.structure.proofs.FollowLaws.{T-left, T-right, T-cases}
@@ -100,16 +100,31 @@ module _ (ns follow : List ℕ) (last set n : ℕ) where
 
   -- ---- one turn of a step: `test` and `ends` as the code has them
 
-  pub gathered-hit : (k next : ℕ) (ends : Bool) → entry next ends ≡ gathered ns follow last set n k → (eqb (bitAnd (set / 2 ^ k) 1) 1 && eqb (getD ns k 0) n) ≡ true
+  pub gathered-hit : (k next : ℕ) (ends : Bool) → entry next ends ≡ gathered ns follow last set n k → bitAnd (set / 2 ^ k) 1 ≡ 1 → getD ns k 0 ≡ n
       → entry (bitOr next (getD follow k 0)) (ends || eqb (bitAnd (last / 2 ^ k) 1) 1) ≡ gathered ns follow last set n (k + 1)
   unfolding gathered
-  gathered-hit k next ends e t =
-      rw add-one (rw (low-bit (last / 2 ^ k), ← e) (rw (rw (low-bit (set / 2 ^ k)) at t)))
+  gathered-hit k next ends e i f =
+      let t : hasb set k ≡ true = eq-eqb (bit set k) 1 (sym (low-bit (set / 2 ^ k)) ∙ i) in
+      rw add-one (rw (low-bit (last / 2 ^ k), ← e) (rw (t, eq-eqb (getD ns k 0) n f)))
 
-  pub gathered-miss : (k next : ℕ) (ends : Bool) → entry next ends ≡ gathered ns follow last set n k → (eqb (bitAnd (set / 2 ^ k) 1) 1 && eqb (getD ns k 0) n) ≡ false
+  missed : (k next : ℕ) (ends : Bool) → entry next ends ≡ gathered ns follow last set n k → (eqb (bitAnd (set / 2 ^ k) 1) 1 && eqb (getD ns k 0) n) ≡ false
       → entry next ends ≡ gathered ns follow last set n (k + 1)
   unfolding gathered
-  gathered-miss k next ends e t = rw add-one (rw (rw (low-bit (set / 2 ^ k)) at t) e)
+  missed k next ends e t = rw add-one (rw (rw (low-bit (set / 2 ^ k)) at t) e)
+
+  -- a place that is not in the set
+  pub gathered-out : (k next : ℕ) (ends : Bool) → entry next ends ≡ gathered ns follow last set n k → (bitAnd (set / 2 ^ k) 1 ≡ 1 → ⊥)
+      → entry next ends ≡ gathered ns follow last set n (k + 1)
+  gathered-out k next ends e t = missed k next ends e (ap (λ (x : Bool). x && eqb (getD ns k 0) n) (ne-eqb (bitAnd (set / 2 ^ k) 1) 1 t))
+
+  -- a place of another name
+  pub gathered-other : (k next : ℕ) (ends : Bool) → entry next ends ≡ gathered ns follow last set n k → (getD ns k 0 ≡ n → ⊥)
+      → entry next ends ≡ gathered ns follow last set n (k + 1)
+  gathered-other k next ends e t = missed k next ends e (at (eqb (bitAnd (set / 2 ^ k) 1) 1))
+    where
+      at : (x : Bool) → (x && eqb (getD ns k 0) n) ≡ false
+      at true = ne-eqb (getD ns k 0) n t
+      at false = refl
 
   pub gathered-none : gathered ns follow last set n 0 ≡ into 0
   unfolding gathered

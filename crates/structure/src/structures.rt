@@ -51,8 +51,10 @@ fn admission_of(event: &[u8]) -> Structure
 fn structure_of(message: &[u8]) -> Structure
     ensures { λ r. ⌜ choiceOf r ≡ structureFor builtIn (now (message .entry)) ⌝ }
 {
-    let kind = element::raw(message, type_address(1));
-    let event = element::raw(message, type_address(2));
+    let whole = element::raw(message, type_address(0));
+    let separator = alphabet::byte_at(message, 4);
+    let kind = element::part_in(whole, separator, 0);
+    let event = element::part_in(whole, separator, 1);
     if alphabet::same(kind, b"ORU") & alphabet::same(event, b"R01") {
         return Structure::ObservationReport;
     }

@@ -39,9 +39,11 @@ pub fn step(names: &[u32], follow: &[u64], last: u64, places: u64, name: u32) ->
     let mut ends = false;
     let mut p: usize = 0;
     while p < names.len() {
-        if ((places >> p) & 1 == 1) & (names[p] == name) {
-            next = next | follow[p];
-            ends = ends | ((last >> p) & 1 == 1);
+        if names[p] == name {
+            if (places >> p) & 1 == 1 {
+                next = next | follow[p];
+                ends = ends | ((last >> p) & 1 == 1);
+            }
         }
         p += 1;
     }

@@ -9,20 +9,20 @@ use Rattle.acknowledgement.proofs.acknowledging.refusal_of.Tie as tie
 
 returns : tie.Need-returns
 returns c =
-    let a = c .before .before .before .before .before .args in
+    let a = c .before .before .before .before .before .before .before .args in
     sym (no-time (now (a .message)) (now (a .time)) (now (a .id)) (ap not (sym (c .before .is-ts .ensures)) ∙ c .if1 .taken))
 
 returns-2 : tie.Need-returns-2
 returns-2 c =
     let t = c .before .before in
-    let a = t .before .before .before .before .before .args in
+    let a = t .before .before .before .before .before .before .before .args in
     sym (no-id (now (a .message)) (now (a .time)) (now (a .id)) (ap not (sym (t .before .is-ts .ensures)) ∙ t .if1 .left) (sym (c .before .is-bad-id .ensures) ∙ c .if2 .taken))
 
 returns-3 : tie.Need-returns-3
 returns-3 c =
     let n = c .before .before in
     let t = n .before .before in
-    let a = t .before .before .before .before .before .args in
+    let a = t .before .before .before .before .before .before .before .args in
     sym
     (no-header (now (a .message)) (now (a .time)) (now (a .id)) (ap not (sym (t .before .is-ts .ensures)) ∙ t .if1 .left) (sym (n .before .is-bad-id .ensures) ∙ n .if2 .left)
     (ap not (sym (c .before .is-acknowledgeable .ensures)) ∙ c .if3 .taken))
@@ -31,7 +31,7 @@ returns-4 : tie.Need-returns-4
 returns-4 c =
     let n = c .before .before in
     let t = n .before .before in
-    let a = t .before .before .before .before .before .args in
+    let a = t .before .before .before .before .before .before .before .args in
     sym
     (nothing (now (a .message)) (now (a .time)) (now (a .id)) (ap not (sym (t .before .is-ts .ensures)) ∙ t .if1 .left) (sym (n .before .is-bad-id .ensures) ∙ n .if2 .left)
     (ap not (sym (c .before .is-acknowledgeable .ensures)) ∙ c .if3 .left))

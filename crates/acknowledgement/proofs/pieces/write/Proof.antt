@@ -15,7 +15,7 @@ use Rattle.escaping.specs.Outcomes.{Outcome}
 use Rattle.escaping.specs.Outcomes.{escaping, answer, filled}
 use Rattle.acknowledgement.specs.Acknowledgement.{roomy}
 use Rattle.together.specs.Together.{together}
-use Rattle.acknowledgement.specs.Pieces.{pieces}
+use Rattle.acknowledgement.specs.Pieces.{fixedText, pieces}
 use Rattle.acknowledgement.proofs.PieceLaws.{id-fits, pieces-together}
 use Rattle.acknowledgement.proofs.pieces.write.Statement.{statement}
 use Rattle.acknowledgement.proofs.pieces.write.Tie as tie
@@ -31,7 +31,7 @@ escaped c =
     let b = c .before .before in
     let s = b .before .before .before .before .before .before .before in
     let d = b .id-buffer .result in
-    let f = id-fits (delimitersOf (now (s .args .header))) (now (s .args .id)) (length d) (s .pre .1 .1 .0) (s .pre .1 .1 .1) (b .id-buffer .ensures) in
+    let f = id-fits (delimitersOf (now (s .args .header))) (now (s .args .id)) (length d) (s .pre .1 .1 .0) (s .pre .1 .1 .1 .1) (b .id-buffer .ensures) in
     let o = ap (λ ds. escaping ds (now (s .args .id)) (length d)) (b .before .delimiters-of .ensures) ∙ f .0 in (
       ap (λ (r : Answer). r .length) (c .escape .ensures .0) ∙ ap (λ (x : Outcome ℕ). answer x .length) o,
       c .escape .ensures .1 ∙ ap (λ (x : Outcome ℕ). filled x d) o,
@@ -61,14 +61,14 @@ returns : tie.Need-returns
 returns c =
     let p = c .before .before in
     let k = p .before .before .before .before in
-    let e = k .before .before in
+    let e = k .before .before .before in
     let s = e .before .before .before .before .before .before .before .before .before in
     let a = s .args in
     let h = now (a .header) in
     let d = now (a .buffer) in
     let o =
-    ap₂ (λ (x f : List ℕ). roomy (length d) (together (pieces h (now (a .time)) x f (now (a .behind))))) (handed e) (k .fixed-text .ensures)
-    ∙ ap (roomy (length d)) (pieces-together h (now (a .time)) (now (a .id)) (a .code) (now (a .behind)) (s .pre .0) (s .pre .1 .0)) in
+    ap₂ (λ (x f : List ℕ). roomy (length d) (together (pieces h (now (a .time)) x f (now (a .behind))))) (handed e) (k .fixed-text .ensures ∙ ap (λ (x : ℕ). fixedText x (a .code)) (k .before .byte-at .ensures))
+    ∙ ap (roomy (length d)) (pieces-together h (now (a .time)) (now (a .id)) (a .code) (now (a .behind)) (s .pre .0 .0) (s .pre .0 .1) (s .pre .1 .0 .0) (s .pre .1 .0 .1)) in
     (p .write-pieces .ensures .0 ∙ ap answer o, p .write-pieces .ensures .1 ∙ ap (λ (x : Outcome ℕ). filled x d) o)
 
 pub write-spec : {M : Type 1} → statement M
@@ -80,9 +80,10 @@ write-spec =
     (λ c. search needs)
     (λ c κs. search needs)
     (λ c κs. search needs)
-    (λ c. inside (c .before .before))
-    (λ c. sym (length-take-le _ _ (inside (c .before .before .before))))
-    (λ c. search needs)
     (λ c κs. search needs)
+    (λ c. inside (c .before .before .before))
+    (λ c. sym (length-take-le _ _ (inside (c .before .before .before .before))))
+    (λ c. search needs)
+    (λ c κs. let s = c .before .before .before .before .before .before .before .before .before .before .before .before .before .before .before in ((s .pre .0 .0, s .pre .0 .1), (s .pre .1 .1 .1 .0, search needs)))
     (λ c. search needs)
     returns)

@@ -1,13 +1,12 @@
 -- Rests on the laws of what a step gathers: what comes next behind the places below `p` that are hit, at each turn.
-use Prim.Native.Nat.{ℕ, _≤_, _-_}
-use mathlib.Core.Path.{_≡_, refl, sym, ap, ap₂, _∙_}
+use Prim.Native.Nat.{_≤_, _-_}
+use mathlib.Core.Path.{_≡_, sym, ap, ap₂, _∙_}
 use mathlib.Core.Logic.{⊎-elim}
-use mathlib.Core.Bool.{Bool}
 use lib.ListN.{length}
 use native.Mathlib.Omega.{arith}
 use denote.Ref.{now}
-use Rattle.structure.specs.Engine.{Entry, entry, gathered}
-use Rattle.structure.proofs.GatherLaws.{gathered-hit, gathered-miss, gathered-none}
+use Rattle.structure.specs.Engine.{entry, gathered}
+use Rattle.structure.proofs.GatherLaws.{gathered-hit, gathered-out, gathered-other, gathered-none}
 use Rattle.structure.proofs.walking.step.Statement.{statement}
 use Rattle.structure.proofs.walking.step.Tie as tie
 
@@ -25,8 +24,10 @@ loop-again c =
     let e = l .loop .inv .1 in (
       omega arith,
       ⊎-elim
-          (λ w. ap₂ entry (w .2) (w .3) ∙ gathered-hit (now (a .names)) (now (a .follow)) (a .last) (a .places) (a .name) (l .loop .p) (l .loop .next) (l .loop .ends) e (w .0 .taken))
-          (λ w. ap₂ entry (w .1) (w .2) ∙ gathered-miss (now (a .names)) (now (a .follow)) (a .last) (a .places) (a .name) (l .loop .p) (l .loop .next) (l .loop .ends) e (w .0 .left))
+          (λ w. ap₂ entry (w .3) (w .4) ∙ gathered-hit (now (a .names)) (now (a .follow)) (a .last) (a .places) (a .name) (l .loop .p) (l .loop .next) (l .loop .ends) e (w .1 .taken) (w .0 .taken))
+          (⊎-elim
+          (λ w. ap₂ entry (w .2) (w .3) ∙ gathered-out (now (a .names)) (now (a .follow)) (a .last) (a .places) (a .name) (l .loop .p) (l .loop .next) (l .loop .ends) e (w .1 .left))
+          (λ w. ap₂ entry (w .1) (w .2) ∙ gathered-other (now (a .names)) (now (a .follow)) (a .last) (a .places) (a .name) (l .loop .p) (l .loop .next) (l .loop .ends) e (w .0 .left)))
           (c .if1 .came),
     )
 
