@@ -133,7 +133,7 @@ fn seek(segment: &[u8], delimiters: Delimiters, cursor: Cursor, wanted: usize) -
             end: start,
         };
     }
-    let first = start + search::find_two_by_words(&segment[start..], bytes[0], bytes[2]);
+    let first = start + search::find_two(&segment[start..], bytes[0], bytes[2]);
     let end = end_behind(segment, bytes[0], first);
     Sought {
         cursor: behind(segment, bytes[0], at, end),

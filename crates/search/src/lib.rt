@@ -1,12 +1,14 @@
 // Where one of five bytes first stands, told of 32 bytes together: the tests are free of branches and every byte of a
 // block is looked at, so that the compiler takes many bytes in one step. The same search ends, where it is told to, at
 // bytes that are not printable.
+mod both;
 mod far;
 mod one;
 mod two;
 mod words;
 
 use alphabet::BLOCK;
+pub use both::find_two;
 pub use far::find_far;
 pub use one::find_one;
 pub use two::find_either;

@@ -82,7 +82,7 @@ fn is_without_either(bytes: &[u8], one: u8, other: u8) -> bool
 }
 
 // A place at or before the first byte that is one or the other: blocks without both are passed over whole.
-fn before_either(bytes: &[u8], one: u8, other: u8) -> usize
+pub fn before_either(bytes: &[u8], one: u8, other: u8) -> usize
     ensures { λ r. ⌜ r ≤ first (either one other) (now (bytes .entry)) ⌝ }
 {
     let mut i = 0;

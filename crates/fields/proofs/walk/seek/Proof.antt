@@ -18,7 +18,7 @@ returns c =
     let a = r .before .before .before .args in
     finds-none (a .delimiters .bytes) (now (a .segment)) (r .reach .result) (a .wanted) (r .reach .ensures) (c .if1 .taken)
 
-module _ (c : tie.After-find-two-by-words) where
+module _ (c : tie.After-find-two) where
   abbrev r : tie.After-reach
   r = c .before .before .before .before
 
@@ -29,10 +29,10 @@ module _ (c : tie.After-find-two-by-words) where
   s = now (r .before .before .before .args .segment)
 
   -- where repetition 1 ends
-  found : c .find-two-by-words .result ≡ first (either (getD ds 0 0) (getD ds 2 0)) (drop (r .reach .result .place) s)
-  found = c .find-two-by-words .ensures ∙ ap (first (either (getD ds 0 0) (getD ds 2 0))) (rest-of s (r .reach .result .place))
+  found : c .find-two .result ≡ first (either (getD ds 0 0) (getD ds 2 0)) (drop (r .reach .result .place) s)
+  found = c .find-two .ensures ∙ ap (first (either (getD ds 0 0) (getD ds 2 0))) (rest-of s (r .reach .result .place))
 
-  within : r .reach .result .place + c .find-two-by-words .result ≤ length s
+  within : r .reach .result .place + c .find-two .result ≤ length s
   within =
       let i = r .reach .ensures .stands .inside in
       let u = first-le (either (getD ds 0 0) (getD ds 2 0)) (drop (r .reach .result .place) s) in
@@ -46,14 +46,14 @@ behind-requires : tie.Need-behind-requires
 behind-requires c κs =
     let t = c .before in
     let q = r t in
-    (q .reach .ensures .stands, part-ends (ds t) (s t) (q .reach .result) (q .before .before .before .args .wanted) (q .reach .ensures) (here t) (t .find-two-by-words .result) (c .end-behind .result) (found t) (c .end-behind .ensures))
+    (q .reach .ensures .stands, part-ends (ds t) (s t) (q .reach .result) (q .before .before .before .args .wanted) (q .reach .ensures) (here t) (t .find-two .result) (c .end-behind .result) (found t) (c .end-behind .ensures))
 
 returns-2 : tie.Need-returns-2
 returns-2 c =
     let e = c .before in
     let t = e .before in
     let q = r t in
-    finds-here (ds t) (s t) (q .reach .result) (q .before .before .before .args .wanted) (q .reach .ensures) (here t) (t .find-two-by-words .result) (e .end-behind .result) (found t) (e .end-behind .ensures) (c .behind .result) (c .behind .ensures)
+    finds-here (ds t) (s t) (q .reach .result) (q .before .before .before .args .wanted) (q .reach .ensures) (here t) (t .find-two .result) (e .end-behind .result) (found t) (e .end-behind .ensures) (c .behind .result) (c .behind .ensures)
 
 pub seek-spec : {M : Type 1} → statement M
 seek-spec =
