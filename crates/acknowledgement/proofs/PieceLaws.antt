@@ -4,14 +4,15 @@ use mathlib.Core.Bool.{Bool, true, false, cond, _&&_}
 use mathlib.Core.List.{List, [], _∷_, _++_, append-assoc, append-nil}
 use Prim.Native.Nat.{ℕ, _+_, _≤_, _<_}
 use native.Mathlib.Omega.{arith}
-use lib.ListN.{length, getD, take, drop}
+use lib.ListN.{length, getD, take, drop, drop-of-length-le}
+use lib.Seq.{take-length}
 use lib.Dec.{leb, ltb, eqb}
 use borrow.Author.Tests.{eqb-true, ne-eqb, le-leb, lt-leb}
 use Rattle.alphabet.proofs.BoolLaws.{false-true, and-both}
 use Rattle.alphabet.proofs.LimitLaws.{id-limit-small}
 use Rattle.alphabet.proofs.ListLaws.{drop-next}
 use Rattle.alphabet.proofs.HexLaws.{drop-two}
-use Rattle.alphabet.specs.Bytes.{carriageReturn, ascii}
+use Rattle.alphabet.specs.Bytes.{carriageReturn, ascii, isNull}
 use Rattle.alphabet.specs.Delimiters.{firstWrongDelimiter}
 use Rattle.alphabet.specs.Limits.{messageLimit, idLimit}
 use Rattle.alphabet.specs.Lists.{first, find}
@@ -20,10 +21,12 @@ use Rattle.alphabet.specs.declared.answers.Refusal.the-variants.{Acknowledgemen
 use Rattle.reading.specs.Segments.{isHeader, delimitersOf, fieldSeparator}
 use Rattle.reading.specs.Message.{ended}
 use Rattle.element.specs.States.{stateOf}
-use Rattle.escaping.specs.Escape.{escape}
+use Rattle.plain.specs.Plain.{special}
+use Rattle.escaping.specs.Escape.{escapeBytes, escape}
+use Rattle.escaping.proofs.RunLaws.{bytes-run}
 use Rattle.escaping.specs.Outcomes.{text, fault}
 use Rattle.escaping.specs.Outcomes.{escaping}
-use Rattle.escaping.proofs.OutcomeLaws.{escape-most, escaping-fits}
+use Rattle.escaping.proofs.OutcomeLaws.{escape-other, escape-most, escaping-fits}
 use Rattle.acknowledgement.specs.Acknowledgement.{sent, typePart, present, encoding, typeSent, version, headerParts, answerParts, acknowledgement, roomy}
 use Rattle.together.specs.Together.{together, least}
 use Rattle.together.proofs.PieceLaws.{least-both}
@@ -79,6 +82,14 @@ pub id-fits : (ds id : List ℕ) (room : ℕ) → firstWrongDelimiter ds ≡ 5 �
 id-fits ds id room d l e =
     let fits : length (escape ds id) ≤ room = omega (arith, escape-most ds id, id-limit-small) in
     (escaping-fits ds id (escape ds id) room (omega arith) refl fits, fits)
+
+-- one that is plain is written as it is
+pub id-plain : (ds id : List ℕ) → first (special ds) id ≡ length id → isNull id ≡ false → escape ds id ≡ id
+unfolding escapeBytes
+id-plain ds id e n =
+    let gone : length id ≤ length id = omega arith in
+    escape-other ds id n ∙ bytes-run ds id (length id) (omega arith)
+    ∙ ap (λ (x : List ℕ). take (length id) id ++ escapeBytes ds x) (drop-of-length-le id gone) ∙ append-nil (take (length id) id) ∙ take-length id
 
 -- ---- the acknowledgement
 

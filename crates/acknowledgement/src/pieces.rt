@@ -9,18 +9,21 @@ use crate::sender::is_present;
 use crate::sender::type_part;
 use acknowledgement_code::Code;
 use alphabet::Answer;
+use alphabet::Delimiters;
 use alphabet::Refusal;
 use escaping::Room;
 ghost use mathlib.Core.Path.{_≡_};
 ghost use Rattle.alphabet.specs.Bytes.{carriageReturn};
 ghost use Rattle.alphabet.specs.Delimiters.{firstWrongDelimiter};
 ghost use Rattle.alphabet.specs.Limits.{idLimit};
+ghost use Rattle.alphabet.specs.Filling.{over};
 ghost use Rattle.alphabet.specs.Lists.{find};
 ghost use mathlib.Core.Bool.{true};
 ghost use mathlib.Core.List.{[], _∷_, _++_, map};
 ghost use Prim.Native.Nat.{_+_, _≤_};
 ghost use lib.ListN.{length};
 ghost use Rattle.reading.specs.Segments.{isHeader, delimitersOf};
+ghost use Rattle.escaping.specs.Escape.{escape};
 ghost use Rattle.escaping.specs.Outcomes.{answer, filled};
 ghost use Rattle.acknowledgement_code.specs.Codes.{lettersOf};
 ghost use Rattle.acknowledgement.specs.Acknowledgement.{sent, present, roomy, acknowledgement};
@@ -186,6 +189,28 @@ fn id_buffer() -> [u8; 1000]
     [0; 1000]
 }
 
+// Whether the ID, as text, is its own bytes: none of them is escaped, and it is not null.
+fn is_plain(delimiters: Delimiters, id: &[u8]) -> bool
+    ensures { λ r. ⌜ (r ≡ true → escape (delimiters .bytes) (now (id .entry)) ≡ now (id .entry)) ⌝ }
+{
+    let run = plain::plain_run(delimiters, id);
+    (run == id.len()) & !alphabet::is_null(id)
+}
+
+// Writes the ID as text to the front of a buffer, and returns its length. That it is plain is the usual case, and asked
+// first.
+fn put_id(delimiters: Delimiters, id: &[u8], buffer: &mut [u8]) -> usize
+    requires { ⌜ (firstWrongDelimiter (delimiters .bytes) ≡ 5) × (length (now id) ≤ idLimit) × (length (now buffer) ≡ 1000) ⌝ }
+    ensures { λ r. ⌜ r ≡ length (escape (delimiters .bytes) (now (id .entry))) ⌝ }
+    ensures { λ _. ⌜ now (buffer .exit) ≡ over (escape (delimiters .bytes) (now (id .entry))) (now (buffer .entry)) ⌝ }
+{
+    if is_plain(delimiters, id) {
+        return alphabet::put(buffer, 0, id);
+    }
+    let written = escaping::escape(delimiters, id, buffer);
+    written.length
+}
+
 // Writes an acknowledgement, with the segments behind MSA, to the front of the buffer.
 pub fn write<'a>(
     header: &'a [u8],
@@ -210,8 +235,7 @@ pub fn write<'a>(
 {
     let delimiters = reading::delimiters_of(header);
     let mut escaped = id_buffer();
-    let written = escaping::escape(delimiters, id, &mut escaped);
-    let n = written.length;
+    let n = put_id(delimiters, id, &mut escaped);
     let fixed = fixed_text(alphabet::byte_at(header, 3), code);
     write_pieces(header, ends, time, &escaped[..n], &fixed, behind, buffer)
 }

@@ -1,4 +1,4 @@
--- Rests on the law that an ID written as text has room, and on the texts together being the acknowledgement.
+-- Rests on the ID being written as text, and on the texts together being the acknowledgement.
 use mathlib.Core.Path.{_≡_, sym, ap, ap₂, _∙_}
 use mathlib.Core.List.{List}
 use Prim.Native.Nat.{ℕ, _≤_}
@@ -9,6 +9,7 @@ use borrow.Author.Needs.{needs}
 use denote.Ref.{now}
 use Rattle.alphabet.specs.Filling.{over}
 use Rattle.alphabet.specs.declared.answers.Answer.{Answer}
+use Rattle.alphabet.specs.Delimiters.{firstWrongDelimiter}
 use Rattle.reading.specs.Segments.{delimitersOf}
 use Rattle.escaping.specs.Escape.{escape}
 use Rattle.escaping.specs.Outcomes.{Outcome}
@@ -16,46 +17,34 @@ use Rattle.escaping.specs.Outcomes.{escaping, answer, filled}
 use Rattle.acknowledgement.specs.Acknowledgement.{roomy}
 use Rattle.together.specs.Together.{together}
 use Rattle.acknowledgement.specs.Pieces.{fixedText, pieces}
-use Rattle.acknowledgement.proofs.PieceLaws.{id-fits, pieces-together}
+use Rattle.acknowledgement.proofs.PieceLaws.{pieces-together}
 use Rattle.acknowledgement.proofs.pieces.write.Statement.{statement}
 use Rattle.acknowledgement.proofs.pieces.write.Tie as tie
 
--- the ID as it was written: its length, the buffer that holds it, and that there was room
-escaped : (c : tie.After-escape)
-    → let b = c .before .before in
-    let a = b .before .before .before .before .before .before .before .args in
-    let w = escape (delimitersOf (now (a .header))) (now (a .id)) in
-    (c .escape .result .length ≡ length w) × (c .escape .last .1 .1 .0 ≡ over w (b .id-buffer .result)) × (length w ≤ 1000)
-unfolding answer filled
-escaped c =
-    let b = c .before .before in
-    let s = b .before .before .before .before .before .before .before in
-    let d = b .id-buffer .result in
-    let f = id-fits (delimitersOf (now (s .args .header))) (now (s .args .id)) (length d) (s .pre .1 .1 .0) (s .pre .1 .1 .1 .1) (b .id-buffer .ensures) in
-    let o = ap (λ ds. escaping ds (now (s .args .id)) (length d)) (b .before .delimiters-of .ensures) ∙ f .0 in (
-      ap (λ (r : Answer). r .length) (c .escape .ensures .0) ∙ ap (λ (x : Outcome ℕ). answer x .length) o,
-      c .escape .ensures .1 ∙ ap (λ (x : Outcome ℕ). filled x d) o,
-      omega (arith, f .1, b .id-buffer .ensures),
-    )
-
 -- what is handed on is the ID as text
-handed : (c : tie.After-escape)
+handed : (c : tie.After-put-id)
     → let a = c .before .before .before .before .before .before .before .before .before .args in
-    take (c .escape .result .length) (c .escape .last .1 .1 .0) ≡ escape (delimitersOf (now (a .header))) (now (a .id))
+    take (c .put-id .result) (c .put-id .last .1 .1 .0) ≡ escape (delimitersOf (now (a .header))) (now (a .id))
 handed c =
     let b = c .before .before in
-    let a = b .before .before .before .before .before .before .before .args in
-    let w = escape (delimitersOf (now (a .header))) (now (a .id)) in
-    let e = escaped c in
-    ap₂ (λ (n : ℕ) (x : List ℕ). take n x) (e .0) (e .1) ∙ take-append-seam w (drop (length w) (b .id-buffer .result))
+    let a = c .before .before .before .before .before .before .before .before .before .args in
+    let w = escape (b .before .delimiters-of .result .bytes) (now (a .id)) in
+    ap₂ (λ (n : ℕ) (x : List ℕ). take n x) (c .put-id .ensures .0) (c .put-id .ensures .1) ∙ take-append-seam w (drop (length w) (b .id-buffer .result))
+    ∙ ap (λ (ds : List ℕ). escape ds (now (a .id))) (b .before .delimiters-of .ensures)
 
-inside : (c : tie.After-escape) → c .escape .result .length ≤ length (c .escape .last .1 .1 .0)
+inside : (c : tie.After-put-id) → c .put-id .result ≤ length (c .put-id .last .1 .1 .0)
 inside c =
     let b = c .before .before in
-    let a = b .before .before .before .before .before .before .before .args in
-    let w = escape (delimitersOf (now (a .header))) (now (a .id)) in
-    let e = escaped c in
+    let a = c .before .before .before .before .before .before .before .before .before .args in
+    let w = escape (b .before .delimiters-of .result .bytes) (now (a .id)) in
+    let e = c .put-id .ensures in
     omega (arith, e .0, ap length (e .1), length-append w (drop (length w) (b .id-buffer .result)))
+
+put-id-requires : tie.Need-put-id-requires
+put-id-requires c κs =
+    let b = c .before in
+    let s = c .before .before .before .before .before .before .before .before in
+    (ap firstWrongDelimiter (b .before .delimiters-of .ensures) ∙ s .pre .1 .1 .0, s .pre .1 .1 .1 .1, b .id-buffer .ensures)
 
 returns : tie.Need-returns
 returns c =
@@ -78,7 +67,7 @@ write-spec =
     (λ c κs. search needs)
     (λ c κs. search needs)
     (λ c. search needs)
-    (λ c κs. search needs)
+    put-id-requires
     (λ c κs. search needs)
     (λ c κs. search needs)
     (λ c. inside (c .before .before .before))
