@@ -1,8 +1,10 @@
 // The table of document 01, 'Fields judged', as data: its rows, and the lists of values that they name. The judge is
 // handed the rows, once for a message, as a value, and knows nothing of what stands in them.
 ghost use mathlib.Core.Path.{_≡_};
-ghost use Rattle.alphabet.specs.Parts.{split};
+ghost use Prim.Native.Nat.{_<_};
 ghost use Rattle.field_table.specs.Table.{valuesOf, member, rows};
+ghost use Rattle.field_table.specs.declared.Values.the-variants.{ValueTypes, Codes};
+ghost use Rattle.field_table.specs.Codes.{singles, CodeOf};
 
 // The lists: MSH-11, MSH-12, PID-8, OBX-2, OBX-11 and MSA-1.
 pub enum Values {
@@ -193,21 +195,84 @@ pub fn all_rows() -> [Row; COUNT]
     ROWS
 }
 
-// Whether bytes are one of the values that stand in a text between its spaces.
-fn is_one_of(bytes: &[u8], values: &[u8]) -> bool
-    ensures { λ r. ⌜ r ≡ member (now (bytes .entry)) (split 32 (now (values .entry))) ⌝ }
+// The codes of OBX-2 and of MSA-1: two letters as one number, the first higher.
+const CE: u32 = 0x4345;
+
+const DT: u32 = 0x4454;
+
+const ED: u32 = 0x4544;
+
+const FT: u32 = 0x4654;
+
+const NM: u32 = 0x4E4D;
+
+const RP: u32 = 0x5250;
+
+const SN: u32 = 0x534E;
+
+const ST: u32 = 0x5354;
+
+const TM: u32 = 0x544D;
+
+const TS: u32 = 0x5453;
+
+const TX: u32 = 0x5458;
+
+const AA: u32 = 0x4141;
+
+const AE: u32 = 0x4145;
+
+const AR: u32 = 0x4152;
+
+// Whether bytes are one of some letters.
+fn is_letter_of(bytes: &[u8], letters: &[u8]) -> bool
+    ensures { λ r. ⌜ r ≡ member (now (bytes .entry)) (singles (now (letters .entry))) ⌝ }
 {
-    let mut start = 0;
-    loop {
-        let end = start + alphabet::find(&values[start..], b' ');
-        if alphabet::same(bytes, &values[start..end]) {
-            return true;
-        }
-        if end == values.len() {
-            return false;
-        }
-        start = end + 1;
+    if bytes.len() != 1 {
+        return false;
     }
+    alphabet::find(letters, bytes[0]) < letters.len()
+}
+
+// A byte as a wider number.
+fn wide(byte: u8) -> u32
+    ensures { λ r. ⌜ (r ≡ byte) × (r < 256) ⌝ }
+{
+    byte as u32
+}
+
+// Two bytes as such a number. Bytes that are not two have the number 0, which no code has.
+fn code_of(bytes: &[u8]) -> u32
+    ensures { λ r. ⌜ CodeOf r (now (bytes .entry)) ⌝ }
+{
+    if bytes.len() != 2 {
+        return 0;
+    }
+    let first = wide(bytes[0]);
+    let second = wide(bytes[1]);
+    first * 256 + second
+}
+
+fn is_value_type(bytes: &[u8]) -> bool
+    ensures { λ r. ⌜ r ≡ member (now (bytes .entry)) (valuesOf ValueTypes) ⌝ }
+{
+    let code = code_of(bytes);
+    (code == CE)
+        | ((code == DT)
+            | ((code == ED)
+                | ((code == FT)
+                    | ((code == NM)
+                        | ((code == RP)
+                            | ((code == SN)
+                                | ((code == ST)
+                                    | ((code == TM) | ((code == TS) | (code == TX))))))))))
+}
+
+fn is_code(bytes: &[u8]) -> bool
+    ensures { λ r. ⌜ r ≡ member (now (bytes .entry)) (valuesOf Codes) ⌝ }
+{
+    let code = code_of(bytes);
+    (code == AA) | ((code == AE) | (code == AR))
 }
 
 // Whether bytes are in a list.
@@ -215,11 +280,11 @@ pub fn is_listed(bytes: &[u8], values: Values) -> bool
     ensures { λ r. ⌜ r ≡ member (now (bytes .entry)) (valuesOf values) ⌝ }
 {
     match values {
-        Values::Processing => is_one_of(bytes, b"D P T"),
-        Values::Version => is_one_of(bytes, b"2.4"),
-        Values::Sex => is_one_of(bytes, b"M F O U"),
-        Values::ValueTypes => is_one_of(bytes, b"CE DT ED FT NM RP SN ST TM TS TX"),
-        Values::Statuses => is_one_of(bytes, b"C D F I N O P R S U W X"),
-        Values::Codes => is_one_of(bytes, b"AA AE AR"),
+        Values::Processing => is_letter_of(bytes, b"DPT"),
+        Values::Version => alphabet::same(bytes, b"2.4"),
+        Values::Sex => is_letter_of(bytes, b"MFOU"),
+        Values::ValueTypes => is_value_type(bytes),
+        Values::Statuses => is_letter_of(bytes, b"CDFINOPRSUWX"),
+        Values::Codes => is_code(bytes),
     }
 }
