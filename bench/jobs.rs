@@ -22,6 +22,48 @@ fn baseline_find(message: &[u8], address: Address) -> baseline::Element {
 
 #[no_mangle]
 #[inline(never)]
+fn baseline_nm(message: &[u8], address: Address) -> baseline::Value<baseline::Number> {
+    baseline::nm(message, address)
+}
+
+#[no_mangle]
+#[inline(never)]
+fn baseline_si(message: &[u8], address: Address) -> baseline::Value<baseline::Number> {
+    baseline::si(message, address)
+}
+
+#[no_mangle]
+#[inline(never)]
+fn baseline_dt(message: &[u8], address: Address) -> baseline::Value<baseline::Time> {
+    baseline::dt(message, address)
+}
+
+#[no_mangle]
+#[inline(never)]
+fn baseline_tm(message: &[u8], address: Address) -> baseline::Value<baseline::Time> {
+    baseline::tm(message, address)
+}
+
+#[no_mangle]
+#[inline(never)]
+fn baseline_ts(message: &[u8], address: Address) -> baseline::Value<baseline::Time> {
+    baseline::ts(message, address)
+}
+
+#[no_mangle]
+#[inline(never)]
+fn baseline_structure(message: &[u8]) -> baseline::Verdict {
+    baseline::structure(message)
+}
+
+#[no_mangle]
+#[inline(never)]
+fn baseline_could_stand(message: &[u8], index: usize) -> u32 {
+    baseline::could_stand(message, index)
+}
+
+#[no_mangle]
+#[inline(never)]
 fn baseline_verdict(message: &[u8]) -> baseline::Verdict {
     baseline::verdict(message)
 }
@@ -98,6 +140,11 @@ pub const LONG: &str = "long-visit";
 pub const BEHIND: usize = 10_000;
 
 /// The titles of what is refused.
+const BYTE_REFUSED: &str = "read, a byte refused";
+const NAME_REFUSED: &str = "read, a name refused";
+const STRUCTURE_REFUSED: &str = "structure, refused";
+const SEGMENT_REFUSED: &str = "verdict, a segment refused";
+const FIELD_REFUSED: &str = "verdict, a field refused";
 const ACKNOWLEDGE_REFUSED: &str = "acknowledge, refused";
 const FORMAT_REFUSED: &str = "format, refused";
 
@@ -151,18 +198,10 @@ impl Entry {
         }
     }
 
-    /// What an element says, and what the structure alone comes to, is asked of the library only.
+    /// Whether the baseline has it too. All that there is today has one; an entry point that is new in
+    /// the library is measured alone until it has.
     pub fn has_baseline(self) -> bool {
-        !matches!(
-            self,
-            Entry::Structure
-                | Entry::CouldStand
-                | Entry::Nm(_)
-                | Entry::Si(_)
-                | Entry::Dt(_)
-                | Entry::Tm(_)
-                | Entry::Ts(_)
-        )
+        true
     }
 }
 
@@ -194,18 +233,17 @@ impl Job {
         row(self.title, self.kind)
     }
 
-    /// Whether the message has a fault, in its last result.
-    fn is_refused(&self) -> bool {
-        self.title == ACKNOWLEDGE_REFUSED
-    }
-
     /// The number that it is to be answered by. Data in Base64 are no value of any form, and one word
     /// that goes into no line. No element of a report is a time of day.
     fn number(&self) -> u32 {
-        match (self.entry, self.kind) {
-            (Entry::Format, _) if self.title == FORMAT_REFUSED => 42,
-            (Entry::Nm(_) | Entry::Si(_) | Entry::Dt(_) | Entry::Ts(_), DOCUMENT) => 32,
-            (Entry::Tm(_), _) => 32,
+        match (self.title, self.entry, self.kind) {
+            (BYTE_REFUSED, ..) => 4,
+            (NAME_REFUSED, ..) => 6,
+            (STRUCTURE_REFUSED | SEGMENT_REFUSED, ..) => 21,
+            (FIELD_REFUSED, ..) => 32,
+            (FORMAT_REFUSED, ..) => 42,
+            (_, Entry::Nm(_) | Entry::Si(_) | Entry::Dt(_) | Entry::Ts(_), DOCUMENT) => 32,
+            (_, Entry::Tm(_), _) => 32,
             _ => 0,
         }
     }
@@ -285,17 +323,18 @@ impl Job {
         match self.entry {
             Entry::Read => told(baseline_read(bytes)),
             Entry::Verdict => {
-                let found = baseline_verdict(bytes);
-                Told::Verdict(Verdict {
-                    number: found.number,
-                    could_end: found.could_end,
-                    place: found.place,
-                    field: found.field,
-                    repetition: found.repetition,
-                    // All that is judged alone is accepted, and then no names are listed.
-                    names: 0,
-                })
+                let baseline::Verdict { number, could_end, place, field, repetition, names } =
+                    baseline_verdict(bytes);
+                let names = names.iter().count();
+                Told::Verdict(Verdict { number, could_end, place, field, repetition, names })
             }
+            Entry::Structure => {
+                let baseline::Verdict { number, could_end, place, names, .. } =
+                    baseline_structure(bytes);
+                let names = names.iter().count();
+                Told::Structure(Structure { number, could_end, place, names })
+            }
+            Entry::CouldStand => Told::Name(baseline_could_stand(bytes, LAST_NAME)),
             Entry::Acknowledge => told(baseline_acknowledge(bytes, TIME, ID, buffer)),
             Entry::Escape => told(baseline_escape(&DELIMITERS, bytes, buffer)),
             Entry::Unescape => told(baseline_unescape(&DELIMITERS, bytes, buffer)),
@@ -304,15 +343,14 @@ impl Job {
             Entry::Find(address) => {
                 let found = baseline_find(bytes, address);
                 let baseline::Element { number, place, start, end, .. } = found;
-                let state = match found.state {
-                    None => library::ABSENT,
-                    Some(baseline::State::Empty) => library::EMPTY,
-                    Some(baseline::State::Null) => library::NULL,
-                    Some(baseline::State::Present) => library::PRESENT,
-                };
+                let state = state_of(found.state);
                 Told::Element(Element { number, state, place, start, end })
             }
-            _ => unreachable!("the baseline has no such function"),
+            Entry::Nm(address) => Told::Number(number_of(baseline_nm(bytes, address))),
+            Entry::Si(address) => Told::Number(number_of(baseline_si(bytes, address))),
+            Entry::Dt(address) => Told::Time(time_of(baseline_dt(bytes, address))),
+            Entry::Tm(address) => Told::Time(time_of(baseline_tm(bytes, address))),
+            Entry::Ts(address) => Told::Time(time_of(baseline_ts(bytes, address))),
         }
     }
 
@@ -342,7 +380,7 @@ impl Job {
             Told::Name(name) => return *name == DSC,
         };
         let has_error = match told {
-            Told::Answer(answer) if self.is_refused() => {
+            Told::Answer(answer) if self.title == ACKNOWLEDGE_REFUSED => {
                 buffer[..answer.length].ends_with(&error_at_last_result(&self.bytes))
             }
             _ => true,
@@ -353,6 +391,41 @@ impl Job {
 
 fn row(title: &str, kind: &str) -> String {
     format!("{title} {kind}").replace(", ", " ").replace(' ', "-")
+}
+
+// The baseline's values as the library gives them.
+
+fn state_of(state: Option<baseline::State>) -> u32 {
+    match state {
+        None => library::ABSENT,
+        Some(baseline::State::Empty) => library::EMPTY,
+        Some(baseline::State::Null) => library::NULL,
+        Some(baseline::State::Present) => library::PRESENT,
+    }
+}
+
+fn number_of(found: baseline::Value<baseline::Number>) -> Number {
+    let baseline::Value { number, place, state, said } = found;
+    let baseline::Number { value, decimals } = said;
+    Number { number, state: state_of(state), place, value, decimals }
+}
+
+fn time_of(found: baseline::Value<baseline::Time>) -> Time {
+    let baseline::Value { number, place, state, said } = found;
+    let baseline::Time { date, clock, digits, offset, sign } = said;
+    let part = |part| match part {
+        baseline::NOT_SENT => library::NOT_SENT,
+        _ => u64::from(part),
+    };
+    let ([hour, minute, second, fraction], [hours, minutes]) = (clock.map(part), offset.map(part));
+    let sign = match sign {
+        b'+' => library::PLUS,
+        b'-' => library::MINUS,
+        _ => library::NO_OFFSET,
+    };
+    let clock = [hour, minute, second, fraction, u64::from(digits)];
+    let (date, offset) = (date.map(part), [sign, hours, minutes]);
+    Time { number, state: state_of(state), place, date, clock, offset }
 }
 
 /// The ERR of a report whose last result has a time that is none, with the CR before it.
@@ -450,13 +523,14 @@ pub fn one(row: &str) -> Option<Job> {
 
 fn measured(wanted: Option<&str>) -> Vec<Job> {
     let mut jobs = Jobs { wanted, list: Vec::new() };
-    jobs.add_report_and_more(SMALL, 9, 1_024);
-    jobs.add_refused_text(SMALL, 1_024);
+    jobs.add_report(SMALL, 9, 1_024);
     jobs.add_report(USUAL, 40, 5_120);
     jobs.add_report(LARGE, 256, 32_768);
-    jobs.add_texts(LARGE, 32_768);
-    jobs.add_report_and_more(LARGEST, 4_096, LONGEST);
+    jobs.add_report(LARGEST, 4_096, LONGEST);
     jobs.add_document(DOCUMENT, LONGEST);
+    jobs.add_more_of_report(SMALL, 9, 1_024);
+    jobs.add_more_of_report(LARGEST, 4_096, LONGEST);
+    jobs.add_refused_text(SMALL, 1_024);
     jobs.add_lookups();
     in_order(jobs.list)
 }
@@ -498,26 +572,72 @@ impl Jobs<'_> {
         }
     }
 
-    /// What is measured of a message of any kind. The answer to a refused one tells where its fault
-    /// stands, for which segments are counted.
+    /// What is measured of a message of any kind. A fault stands as far behind as it can, so that what
+    /// is refused is passed over to the end; and where an answer tells its place, segments are counted.
     fn add_message(&mut self, kind: &'static str, message: impl Fn() -> Vec<u8>) {
+        let with_bad_byte = || reports::with_bad_byte(&message());
+        let with_bad_name = || reports::with_bad_name(&message());
+        let misplaced = || reports::misplaced(&message());
         let refused = || reports::refused(&message());
         self.add("read", kind, Entry::Read, &message);
+        self.add(BYTE_REFUSED, kind, Entry::Read, with_bad_byte);
+        self.add(NAME_REFUSED, kind, Entry::Read, with_bad_name);
+        self.add("structure", kind, Entry::Structure, &message);
+        self.add(STRUCTURE_REFUSED, kind, Entry::Structure, misplaced);
         self.add("verdict", kind, Entry::Verdict, &message);
+        self.add(SEGMENT_REFUSED, kind, Entry::Verdict, misplaced);
+        self.add(FIELD_REFUSED, kind, Entry::Verdict, refused);
         self.add("acknowledge", kind, Entry::Acknowledge, &message);
         self.add(ACKNOWLEDGE_REFUSED, kind, Entry::Acknowledge, refused);
         self.add("feed", kind, Entry::Feed(WHOLE), || framed(&message()));
         self.add("feed, by 1,460", kind, Entry::Feed(PACKET), || framed(&message()));
     }
 
+    /// The last result stands before the last segment, and is a number.
     fn add_report(&mut self, kind: &'static str, segments: usize, bytes: usize) {
-        self.add_message(kind, || reports::report(segments, bytes));
+        let report = || reports::report(segments, bytes);
+        let (last_result, last) = (segments - 2, segments - 1);
+        self.add_message(kind, report);
+        self.add("find OBX-5", kind, Entry::Find(field(last_result, 5)), report);
+        self.add("find NTE-3, far", kind, Entry::Find(field(last, 3)), report);
+        self.add("nm", kind, Entry::Nm(field(last_result, 5)), report);
+        self.add("ts", kind, Entry::Ts(field(last_result, 14)), report);
         self.add("format", kind, Entry::Format, || reports::formatted_text(bytes));
-    }
-
-    fn add_texts(&mut self, kind: &'static str, bytes: usize) {
         self.add("escape", kind, Entry::Escape, || reports::text(bytes));
         self.add("unescape", kind, Entry::Unescape, || written_text(bytes));
+    }
+
+    /// The entry points and elements that are left, for what grows with the message.
+    fn add_more_of_report(&mut self, kind: &'static str, segments: usize, bytes: usize) {
+        let report = || reports::report(segments, bytes);
+        let (patient, last_result) = (1, segments - 2);
+        self.add_parts(kind, last_result, 1, report);
+        self.add("si", kind, Entry::Si(field(last_result, 1)), report);
+        self.add("dt", kind, Entry::Dt(field(patient, 7)), report);
+        self.add("tm", kind, Entry::Tm(field(last_result, 14)), report);
+        let misplaced = || reports::misplaced(&report());
+        self.add("could_stand", kind, Entry::CouldStand, misplaced);
+    }
+
+    /// Every entry point, with the data where a text or a value is asked for.
+    fn add_document(&mut self, kind: &'static str, bytes: usize) {
+        let document = || reports::document(bytes);
+        let data = || reports::base64(bytes).into_bytes();
+        let (segment, component) = (reports::DOCUMENT_SEGMENT, reports::DOCUMENT_COMPONENT);
+        let value = Address { repetition: 1, component, ..field(segment, 5) };
+        self.add_message(kind, document);
+        self.add("find OBX-5", kind, Entry::Find(field(segment, 5)), document);
+        self.add("nm", kind, Entry::Nm(value), document);
+        self.add("ts", kind, Entry::Ts(value), document);
+        self.add("escape", kind, Entry::Escape, data);
+        self.add("unescape", kind, Entry::Unescape, data);
+        self.add_parts(kind, segment, component, document);
+        self.add("si", kind, Entry::Si(value), document);
+        self.add("dt", kind, Entry::Dt(value), document);
+        self.add("tm", kind, Entry::Tm(value), document);
+        let misplaced = || reports::misplaced(&document());
+        self.add("could_stand", kind, Entry::CouldStand, misplaced);
+        self.add_refused_text(kind, bytes);
     }
 
     /// Nobody formats data, but whoever does is told so: they are looked at to the end for every fault.
@@ -526,61 +646,18 @@ impl Jobs<'_> {
         self.add(FORMAT_REFUSED, kind, Entry::Format, data);
     }
 
-    /// Every entry point. The last result stands before the last segment, and is a number.
-    fn add_report_and_more(&mut self, kind: &'static str, segments: usize, bytes: usize) {
-        self.add_report(kind, segments, bytes);
-        self.add_texts(kind, bytes);
-        let report = || reports::report(segments, bytes);
-        self.add_structures(kind, report);
-        let (patient, last_result, last) = (1, segments - 2, segments - 1);
-        self.add("find NTE-3, far", kind, Entry::Find(field(last, 3)), report);
-        self.add_finds(kind, last_result, 1, report);
-        self.add("nm", kind, Entry::Nm(field(last_result, 5)), report);
-        self.add("si", kind, Entry::Si(field(last_result, 1)), report);
-        self.add("dt", kind, Entry::Dt(field(patient, 7)), report);
-        self.add("tm", kind, Entry::Tm(field(last_result, 14)), report);
-        self.add("ts", kind, Entry::Ts(field(last_result, 14)), report);
-    }
-
-    /// Every entry point too, with the data where a text or a value is asked for.
-    fn add_document(&mut self, kind: &'static str, bytes: usize) {
-        let document = || reports::document(bytes);
-        let data = || reports::base64(bytes).into_bytes();
-        self.add_message(kind, document);
-        self.add_refused_text(kind, bytes);
-        self.add("escape", kind, Entry::Escape, data);
-        self.add("unescape", kind, Entry::Unescape, data);
-        self.add_structures(kind, document);
-        let (segment, component) = (reports::DOCUMENT_SEGMENT, reports::DOCUMENT_COMPONENT);
-        self.add_finds(kind, segment, component, document);
-        let value = Address { repetition: 1, component, ..field(segment, 5) };
-        self.add("nm", kind, Entry::Nm(value), document);
-        self.add("si", kind, Entry::Si(value), document);
-        self.add("dt", kind, Entry::Dt(value), document);
-        self.add("tm", kind, Entry::Tm(value), document);
-        self.add("ts", kind, Entry::Ts(value), document);
-    }
-
-    fn add_structures(&mut self, kind: &'static str, message: impl Fn() -> Vec<u8>) {
-        let misplaced = || reports::misplaced(&message());
-        self.add("structure", kind, Entry::Structure, &message);
-        self.add("could_stand", kind, Entry::CouldStand, misplaced);
-    }
-
-    /// A field of the first segment, and what a result says: as a field, by its component and by the
-    /// first subcomponent of that; and a field behind it.
-    fn add_finds(
+    /// A field of the first segment, what a result says by its component and by the first subcomponent
+    /// of that, and a field behind it.
+    fn add_parts(
         &mut self,
         kind: &'static str,
         result: usize,
         component: usize,
         message: impl Fn() -> Vec<u8>,
     ) {
-        let value = field(result, 5);
-        let part = Address { repetition: 1, component, ..value };
+        let part = Address { repetition: 1, component, ..field(result, 5) };
         let lookups = [
             ("find MSH-10", field(0, 10)),
-            ("find OBX-5", value),
             ("find OBX-5, a component", part),
             ("find OBX-5, a subcomponent", Address { subcomponent: 1, ..part }),
             ("find OBX-11", field(result, 11)),

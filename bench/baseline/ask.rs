@@ -141,18 +141,17 @@ fn state_word(number: u32, state: Option<State>) -> &'static str {
 
 /// The parts of a time, `-` for those that were not sent.
 fn time_words(time: Time) -> String {
-    let parts = [time.date, time.clock].concat().into_iter().chain(time.fraction);
+    let digits = if time.digits == 0 { NOT_SENT } else { time.digits };
     let part_word = |part: u32| match part {
         NOT_SENT => "-".to_string(),
         _ => part.to_string(),
     };
+    let parts = time.date.into_iter().chain(time.clock).chain([digits]);
     let mut words: Vec<String> = parts.map(part_word).collect();
-    words.push(match time.offset {
-        [NOT_SENT, _] => "-".to_string(),
-        [hours, minutes] => {
-            let sign = if time.minus { '-' } else { '+' };
-            format!("{sign}{hours:02}{minutes:02}")
-        }
+    let [hours, minutes] = time.offset;
+    words.push(match time.sign {
+        0 => "-".to_string(),
+        sign => format!("{}{hours:02}{minutes:02}", char::from(sign)),
     });
     words.join(" ")
 }

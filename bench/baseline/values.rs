@@ -17,22 +17,17 @@ pub struct Number {
 pub struct Time {
     /// Year, month and day.
     pub date: [u32; 3],
-    /// Hour, minute and second.
-    pub clock: [u32; 3],
-    /// The digits behind a second's point as a number, and how many they are.
-    pub fraction: [u32; 2],
-    /// Hours and minutes, and whether they are to be taken off.
+    /// Hour, minute, second and what the digits behind its point say as a number.
+    pub clock: [u32; 4],
+    /// How many digits stand behind the point.
+    pub digits: u32,
+    /// Hours and minutes, and their sign as it was sent: 0 where there is no offset.
     pub offset: [u32; 2],
-    pub minus: bool,
+    pub sign: u8,
 }
 
-const NO_TIME: Time = Time {
-    date: [NOT_SENT; 3],
-    clock: [NOT_SENT; 3],
-    fraction: [NOT_SENT; 2],
-    offset: [NOT_SENT; 2],
-    minus: false,
-};
+const NO_TIME: Time =
+    Time { date: [NOT_SENT; 3], clock: [NOT_SENT; 4], digits: 0, offset: [0; 2], sign: 0 };
 
 impl Default for Time {
     fn default() -> Time {
@@ -149,7 +144,8 @@ fn with_tail(mut time: Time, tail: &[u8]) -> Result<Time, u32> {
         [] => return Ok(time),
         [b'.', behind @ ..] => match leading_digits(behind) {
             (digits, offset) if matches!(digits.len(), 1..=4) && time.clock[2] != NOT_SENT => {
-                time.fraction = [figures(digits, 0) as u32, digits.len() as u32];
+                time.clock[3] = figures(digits, 0) as u32;
+                time.digits = digits.len() as u32;
                 offset
             }
             _ => return Err(32),
@@ -164,7 +160,7 @@ fn with_tail(mut time: Time, tail: &[u8]) -> Result<Time, u32> {
                 return Err(32);
             }
             time.offset = [pair(digits, 0), pair(digits, 2)];
-            time.minus = *sign == b'-';
+            time.sign = *sign;
             Ok(time)
         }
         _ => Err(32),
@@ -201,7 +197,7 @@ fn date_of(digits: &[u8]) -> Option<[u32; 3]> {
 
 /// A time of day that exists, of digits that were looked at.
 #[inline(always)]
-fn clock_of(digits: &[u8]) -> Option<[u32; 3]> {
+fn clock_of(digits: &[u8]) -> Option<[u32; 4]> {
     if !matches!(digits.len(), 2 | 4 | 6) {
         return None;
     }
@@ -209,7 +205,7 @@ fn clock_of(digits: &[u8]) -> Option<[u32; 3]> {
         true => Some(pair(digits, at)).filter(|&figure| figure <= most),
         false => Some(NOT_SENT),
     };
-    Some([part(0, 23)?, part(2, 59)?, part(4, 59)?])
+    Some([part(0, 23)?, part(2, 59)?, part(4, 59)?, NOT_SENT])
 }
 
 #[inline(always)]
