@@ -4,6 +4,9 @@
 use crate::jobs::{self, Entry, Job, BEHIND, BRIEF, DOCUMENT, FULL, LARGE, LARGEST, LONG, SMALL};
 use std::collections::HashMap;
 
+/// The most instructions, in those of the baseline.
+const MOST_RATIO: f64 = 1.0;
+
 /// The most instructions per byte of the largest messages, in those of the small report.
 const MOST_GROWTH: f64 = 1.1;
 
@@ -22,8 +25,13 @@ impl Counts {
         Ok(Counts(lines.lines().filter_map(pair).collect()))
     }
 
-    fn get(&self, side: &str, job: &Job) -> Option<u64> {
+    pub fn get(&self, side: &str, job: &Job) -> Option<u64> {
         self.0.get(&format!("{side} {}", job.row())).copied()
+    }
+
+    /// How many times the baseline's instructions the library takes.
+    pub fn ratio(&self, job: &Job) -> Option<f64> {
+        Some(self.get("library", job)? as f64 / self.get("baseline", job)? as f64)
     }
 
     fn per_byte(&self, side: &str, job: &Job) -> Option<f64> {
@@ -37,17 +45,11 @@ pub fn titled(job: &Job) -> String {
     format!("{}{document}", job.title)
 }
 
-pub fn instruction_cells(job: &Job, counts: &Counts) -> String {
-    let (Some(ours), Some(each)) = (counts.get("library", job), counts.per_byte("library", job))
-    else {
-        return "- | - | - | -".to_string();
-    };
-    match counts.get("baseline", job) {
-        Some(theirs) => {
-            let ratio = ours as f64 / theirs as f64;
-            format!("{ours} | {each:.1} | {theirs} | {ratio:.2}")
-        }
-        None => format!("{ours} | {each:.1} | - | -"),
+/// What the library takes, and for each byte.
+pub fn own_cells(job: &Job, counts: &Counts) -> String {
+    match (counts.get("library", job), counts.per_byte("library", job)) {
+        (Some(ours), Some(each)) => format!("{ours} | {each:.1}"),
+        _ => "- | -".to_string(),
     }
 }
 
@@ -57,6 +59,7 @@ pub fn tell_of_counts(jobs: &[Job], counts: &Counts) {
         return;
     }
     println!();
+    tell_dearer(jobs, counts);
     tell_growth(jobs, counts);
     println!();
     tell_without_memcpy(jobs, counts);
@@ -65,6 +68,29 @@ pub fn tell_of_counts(jobs: &[Job], counts: &Counts) {
 
 pub fn find_job<'a>(jobs: &'a [Job], title: &str, kind: &str) -> Option<&'a Job> {
     jobs.iter().find(|job| job.title == title && job.kind == kind)
+}
+
+/// What takes more than the baseline does.
+fn tell_dearer(jobs: &[Job], counts: &Counts) {
+    let ratios: Vec<(&Job, f64)> =
+        jobs.iter().filter_map(|job| Some((job, counts.ratio(job)?))).collect();
+    if ratios.is_empty() {
+        return;
+    }
+    let dearer: Vec<String> = ratios
+        .iter()
+        .filter(|(_, ratio)| *ratio > MOST_RATIO)
+        .map(|(job, ratio)| format!("{} ({}) {ratio:.2}", job.title, job.kind))
+        .collect();
+    match dearer.len() {
+        0 => println!("Over {MOST_RATIO:.2} of the baseline: none of {}", ratios.len()),
+        count => println!(
+            "Over {MOST_RATIO:.2} of the baseline: {count} of {}: {}",
+            ratios.len(),
+            dearer.join("; ")
+        ),
+    }
+    println!();
 }
 
 /// How many times the instructions per byte of the small report the larger ones take, and in brackets

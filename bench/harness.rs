@@ -18,7 +18,7 @@ mod reports;
 mod stack;
 
 use calls::Side;
-use counts::{find_job, instruction_cells, tell_of_counts, titled, Counts};
+use counts::{find_job, own_cells, tell_of_counts, titled, Counts};
 use jobs::{Job, DOCUMENT, LARGE, LARGEST, ROOM, SMALL};
 use std::hint::black_box;
 use std::process::ExitCode;
@@ -90,6 +90,14 @@ fn table(jobs: &[Job], counts: &Counts) -> ExitCode {
     }
     tell_of_counts(jobs, counts);
     ExitCode::SUCCESS
+}
+
+fn instruction_cells(job: &Job, counts: &Counts) -> String {
+    let own = own_cells(job, counts);
+    match (counts.get("baseline", job), counts.ratio(job)) {
+        (Some(theirs), Some(ratio)) => format!("{own} | {theirs} | {ratio:.2}"),
+        _ => format!("{own} | - | -"),
+    }
 }
 
 fn print_times(rows: &[&str]) -> ExitCode {

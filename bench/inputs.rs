@@ -13,7 +13,7 @@ mod jobs;
 mod reports;
 
 use baseline::Address;
-use counts::{instruction_cells, tell_of_counts, titled, Counts};
+use counts::{own_cells, tell_of_counts, titled, Counts};
 use jobs::{Entry, LAST_NAME};
 use std::io::{self, Write};
 use std::process::ExitCode;
@@ -73,10 +73,10 @@ fn write_bytes(row: &str) -> io::Result<()> {
 
 fn table(file: &str) -> io::Result<()> {
     let (jobs, counts) = (jobs::all(), Counts::of_file(file)?);
-    println!("| Entry point | Bytes | Instructions | per byte | baseline | ratio |");
-    println!("|---|---|---|---|---|---|");
+    println!("| Entry point | Bytes | Instructions | per byte |");
+    println!("|---|---|---|---|");
     for job in &jobs {
-        println!("| {} | {} | {} |", titled(job), job.length(), instruction_cells(job, &counts));
+        println!("| {} | {} | {} |", titled(job), job.length(), own_cells(job, &counts));
     }
     tell_of_counts(&jobs, &counts);
     Ok(())
