@@ -21,13 +21,15 @@ pub fn is_printable(byte: u8) -> bool {
 
 /// The place of the first byte that may not stand in a message.
 pub fn first_not_allowed(bytes: &[u8]) -> Option<usize> {
-    first_block_with(bytes, |byte| !(is_printable(byte) | (byte == CR)))
+    first_block_with::<128>(bytes, |byte| !(is_printable(byte) | (byte == CR)))
 }
 
 /// The place of the first byte for which the test holds: in a block at once, then in the block.
 #[inline(always)]
-pub fn first_block_with(bytes: &[u8], test: impl Fn(u8) -> bool) -> Option<usize> {
-    const BLOCK: usize = 32;
+pub fn first_block_with<const BLOCK: usize>(
+    bytes: &[u8],
+    test: impl Fn(u8) -> bool,
+) -> Option<usize> {
     let mut blocks = bytes.chunks_exact(BLOCK);
     let mut start = 0;
     for block in &mut blocks {

@@ -66,8 +66,9 @@ impl From<Refusal> for Verdict {
     }
 }
 
-/// Numbers 1 to 8.
-#[inline]
+/// Numbers 1 to 8. Apart from those who call it, whose numbers would take the registers that the
+/// reader's loops want.
+#[inline(never)]
 pub fn read(message: &[u8]) -> Answer {
     match reading::check(message, |_, _| ()) {
         Ok(()) => Answer::default(),
