@@ -80,16 +80,41 @@ fn table(jobs: &[Job], counts: &Counts) -> ExitCode {
     }
     println!("| Entry point | Bytes | Instructions | per byte | baseline | ratio | µs | baseline | ratio |");
     println!("|---|---|---|---|---|---|---|---|---|");
+    let mut ratios = Vec::new();
     for job in jobs {
+        let (ours, theirs) = times(job);
+        ratios.push((job.title, counts.ratio(job), theirs.map(|theirs| ours / theirs)));
         let (title, bytes) = (titled(job), job.length());
-        println!(
-            "| {title} | {bytes} | {} | {} |",
-            instruction_cells(job, counts),
-            time_cells(job)
-        );
+        let (instructions, times) = (instruction_cells(job, counts), time_cells(ours, theirs));
+        println!("| {title} | {bytes} | {instructions} | {times} |");
     }
+    println!();
+    tell_ranges(jobs, &ratios);
     tell_of_counts(jobs, counts);
     ExitCode::SUCCESS
+}
+
+/// The title of a row, and how many times the baseline's instructions and time it takes.
+type Ratios = (&'static str, Option<f64>, Option<f64>);
+
+/// The least and the most of each title, over its kinds.
+fn tell_ranges(jobs: &[Job], ratios: &[Ratios]) {
+    let range = |title: &str, ratio: fn(&Ratios) -> Option<f64>| {
+        let of_title = ratios.iter().filter(|row| row.0 == title).filter_map(ratio);
+        let (least, most) = of_title.fold((f64::INFINITY, 0.0_f64), |(least, most), ratio| {
+            (least.min(ratio), most.max(ratio))
+        });
+        match least > most {
+            true => "-".to_string(),
+            false => format!("{least:.2} to {most:.2}"),
+        }
+    };
+    println!("| Entry point | instructions, in the baseline's | time, in the baseline's |");
+    println!("|---|---|---|");
+    for title in jobs::titles(jobs) {
+        let (instructions, time) = (range(title, |row| row.1), range(title, |row| row.2));
+        println!("| {title} | {instructions} | {time} |");
+    }
 }
 
 fn instruction_cells(job: &Job, counts: &Counts) -> String {
@@ -111,12 +136,13 @@ fn print_times(rows: &[&str]) -> ExitCode {
     ExitCode::SUCCESS
 }
 
-fn time_cells(job: &Job) -> String {
-    match times(job) {
-        (ours, Some(theirs)) => {
+/// Nanoseconds of both sides in microseconds.
+fn time_cells(ours: f64, theirs: Option<f64>) -> String {
+    match theirs {
+        Some(theirs) => {
             format!("{:.2} | {:.2} | {:.2}", ours / 1000.0, theirs / 1000.0, ours / theirs)
         }
-        (ours, None) => format!("{:.2} | - | -", ours / 1000.0),
+        None => format!("{:.2} | - | -", ours / 1000.0),
     }
 }
 
