@@ -167,18 +167,18 @@ fn part_of(bytes: &[u8], address: Address, delimiters: &Delimiters) -> Option<(u
     let separators = address.field - usize::from(address.segment == 0);
     let rest = behind_fields(bytes, field_mark, separators)?;
     if repetition == 0 {
-        return found(rest, first_block_with::<32>(rest, ends_field));
+        return found(rest, first_block_with(rest, ends_field));
     }
     let rest = behind(rest, repetition_mark, repetition - 1, ends_field)?;
     if component == 0 {
-        return found(rest, first_block_with::<32>(rest, ends_repetition));
+        return found(rest, first_block_with(rest, ends_repetition));
     }
     let rest = behind(rest, component_mark, component - 1, ends_repetition)?;
     if subcomponent == 0 {
-        return found(rest, first_block_with::<32>(rest, ends_component));
+        return found(rest, first_block_with(rest, ends_component));
     }
     let rest = behind(rest, subcomponent_mark, subcomponent - 1, ends_component)?;
-    found(rest, first_block_with::<32>(rest, ends_subcomponent))
+    found(rest, first_block_with(rest, ends_subcomponent))
 }
 
 /// What stands behind so many field separators of a segment. A block with fewer than are left, all
