@@ -6,23 +6,23 @@
 //!     harness table [COUNTS]     times all in turns and prints the table; COUNTS is a file of lines
 //!                                SIDE ROW INSTRUCTIONS, where SIDE-memcpy has those of libc's memcpy
 //!                                among them
+//!     harness time ROW ..        prints the microseconds of one call of the library, a line for each
 //!     harness stack              prints how deep the library goes into the stack; fails where that
 //!                                grows with the message
 
+mod calls;
+mod counts;
 mod jobs;
 mod library;
 mod reports;
 mod stack;
 
-use jobs::{Entry, Job, Side, BEHIND, BRIEF, FULL, LONG, ROOM};
-use jobs::{DOCUMENT, LARGE, LARGEST, SMALL};
-use std::collections::HashMap;
+use calls::Side;
+use counts::{find_job, own_cells, tell_of_counts, titled, Counts};
+use jobs::{Job, DOCUMENT, LARGE, LARGEST, ROOM, SMALL};
 use std::hint::black_box;
 use std::process::ExitCode;
 use std::time::Instant;
-
-/// The most instructions per byte of the largest messages, in those of the small report.
-const MOST_GROWTH: f64 = 1.1;
 
 /// By so many bytes of stack two ways through the same code may differ.
 const STACK_SLACK: usize = 256;
@@ -34,18 +34,17 @@ fn main() -> ExitCode {
         ["rows"] => print_rows(),
         ["once", side, row] => return call_once(side, row),
         ["table"] => return table(&jobs::all(), &Counts::default()),
-        ["table", file] => match std::fs::read_to_string(file) {
-            Ok(lines) => return table(&jobs::all(), &Counts::of(&lines)),
+        ["table", file] => match Counts::of_file(file) {
+            Ok(counts) => return table(&jobs::all(), &counts),
             Err(fault) => {
                 eprintln!("{file}: {fault}");
                 return ExitCode::FAILURE;
             }
         },
+        ["time", ref rows @ ..] => return print_times(rows),
         ["stack"] => return stacks(&jobs::all()),
         _ => {
-            eprintln!(
-                "usage: harness once SIDE ROW | harness rows | harness table [COUNTS] | harness stack"
-            );
+            eprintln!("usage: harness once SIDE ROW | rows | table [COUNTS] | time ROW .. | stack");
             return ExitCode::from(2);
         }
     }
@@ -71,28 +70,6 @@ fn call_once(side: &str, row: &str) -> ExitCode {
     ExitCode::SUCCESS
 }
 
-/// Instructions, by side and row.
-#[derive(Default)]
-struct Counts(HashMap<String, u64>);
-
-impl Counts {
-    fn of(lines: &str) -> Counts {
-        let pair = |line: &str| {
-            let (name, count) = line.rsplit_once(' ')?;
-            Some((name.to_string(), count.parse().ok()?))
-        };
-        Counts(lines.lines().filter_map(pair).collect())
-    }
-
-    fn get(&self, side: &str, job: &Job) -> Option<u64> {
-        self.0.get(&format!("{side} {}", job.row())).copied()
-    }
-
-    fn per_byte(&self, side: &str, job: &Job) -> Option<f64> {
-        Some(self.get(side, job)? as f64 / job.measure() as f64)
-    }
-}
-
 /// Nothing is timed that both sides do not answer alike.
 fn table(jobs: &[Job], counts: &Counts) -> ExitCode {
     for job in jobs {
@@ -103,128 +80,69 @@ fn table(jobs: &[Job], counts: &Counts) -> ExitCode {
     }
     println!("| Entry point | Bytes | Instructions | per byte | baseline | ratio | µs | baseline | ratio |");
     println!("|---|---|---|---|---|---|---|---|---|");
+    let mut ratios = Vec::new();
     for job in jobs {
-        let document = if job.kind == DOCUMENT { ", a document" } else { "" };
-        let (title, bytes) = (job.title, job.length());
-        let instructions = instruction_cells(job, counts);
-        println!("| {title}{document} | {bytes} | {instructions} | {} |", time_cells(job));
-    }
-    if counts.0.is_empty() {
-        return ExitCode::SUCCESS;
+        let (ours, theirs) = times(job);
+        ratios.push((job.title, counts.ratio(job), theirs.map(|theirs| ours / theirs)));
+        let (title, bytes) = (titled(job), job.length());
+        let (instructions, times) = (instruction_cells(job, counts), time_cells(ours, theirs));
+        println!("| {title} | {bytes} | {instructions} | {times} |");
     }
     println!();
-    tell_growth(jobs, counts);
-    println!();
-    tell_without_memcpy(jobs, counts);
-    tell_without_reading(jobs, counts);
+    tell_ranges(jobs, &ratios);
+    tell_of_counts(jobs, counts);
     ExitCode::SUCCESS
 }
 
-fn instruction_cells(job: &Job, counts: &Counts) -> String {
-    let (Some(ours), Some(each)) = (counts.get("library", job), counts.per_byte("library", job))
-    else {
-        return "- | - | - | -".to_string();
-    };
-    match counts.get("baseline", job) {
-        Some(theirs) => {
-            let ratio = ours as f64 / theirs as f64;
-            format!("{ours} | {each:.1} | {theirs} | {ratio:.2}")
+/// The title of a row, and how many times the baseline's instructions and time it takes.
+type Ratios = (&'static str, Option<f64>, Option<f64>);
+
+/// The least and the most of each title, over its kinds.
+fn tell_ranges(jobs: &[Job], ratios: &[Ratios]) {
+    let range = |title: &str, ratio: fn(&Ratios) -> Option<f64>| {
+        let of_title = ratios.iter().filter(|row| row.0 == title).filter_map(ratio);
+        let (least, most) = of_title.fold((f64::INFINITY, 0.0_f64), |(least, most), ratio| {
+            (least.min(ratio), most.max(ratio))
+        });
+        match least > most {
+            true => "-".to_string(),
+            false => format!("{least:.2} to {most:.2}"),
         }
-        None => format!("{ours} | {each:.1} | - | -"),
+    };
+    println!("| Entry point | instructions, in the baseline's | time, in the baseline's |");
+    println!("|---|---|---|");
+    for title in jobs::titles(jobs) {
+        let (instructions, time) = (range(title, |row| row.1), range(title, |row| row.2));
+        println!("| {title} | {instructions} | {time} |");
     }
 }
 
-fn time_cells(job: &Job) -> String {
-    match times(job) {
-        (ours, Some(theirs)) => {
+fn instruction_cells(job: &Job, counts: &Counts) -> String {
+    let own = own_cells(job, counts);
+    match (counts.get("baseline", job), counts.ratio(job)) {
+        (Some(theirs), Some(ratio)) => format!("{own} | {theirs} | {ratio:.2}"),
+        _ => format!("{own} | - | -"),
+    }
+}
+
+fn print_times(rows: &[&str]) -> ExitCode {
+    for row in rows {
+        let Some(job) = jobs::one(row).filter(Job::is_answered) else {
+            eprintln!("{row}: no such row, or not answered alike");
+            return ExitCode::FAILURE;
+        };
+        println!("{row} {:.2}", times(&job).0 / 1000.0);
+    }
+    ExitCode::SUCCESS
+}
+
+/// Nanoseconds of both sides in microseconds.
+fn time_cells(ours: f64, theirs: Option<f64>) -> String {
+    match theirs {
+        Some(theirs) => {
             format!("{:.2} | {:.2} | {:.2}", ours / 1000.0, theirs / 1000.0, ours / theirs)
         }
-        (ours, None) => format!("{:.2} | - | -", ours / 1000.0),
-    }
-}
-
-fn find_job<'a>(jobs: &'a [Job], title: &str, kind: &str) -> Option<&'a Job> {
-    jobs.iter().find(|job| job.title == title && job.kind == kind)
-}
-
-/// How many times the instructions per byte of the small report the larger ones take, and in brackets
-/// how many times those of its own the baseline does.
-fn tell_growth(jobs: &[Job], counts: &Counts) {
-    let mut over = Vec::new();
-    println!(
-        "| Entry point | per byte of 1 KiB | times that: 32 KiB | 1 MiB | 1 MiB, a document |"
-    );
-    println!("|---|---|---|---|---|");
-    for title in jobs::titles(jobs) {
-        let each = |side: &str, kind: &str| counts.per_byte(side, find_job(jobs, title, kind)?);
-        let growth = |side: &str, kind: &str| Some(each(side, kind)? / each(side, SMALL)?);
-        if growth("library", LARGEST).or(growth("library", DOCUMENT)).is_none() {
-            continue;
-        }
-        let cells = [LARGE, LARGEST, DOCUMENT].map(|kind| {
-            let ours = growth("library", kind);
-            if ours.is_some_and(|ours| ours > MOST_GROWTH) {
-                over.push(format!("{title} ({kind})"));
-            }
-            growth_cell(ours, growth("baseline", kind))
-        });
-        let small = each("library", SMALL).unwrap_or_default();
-        println!("| {title} | {small:.2} | {} |", cells.join(" | "));
-    }
-    println!();
-    match over.len() {
-        0 => println!("Over {MOST_GROWTH}: none"),
-        _ => println!("Over {MOST_GROWTH}: {}", over.join("; ")),
-    }
-}
-
-fn growth_cell(ours: Option<f64>, theirs: Option<f64>) -> String {
-    let Some(ours) = ours else {
-        return "-".to_string();
-    };
-    let mark = if ours > MOST_GROWTH { "**" } else { "" };
-    match theirs {
-        Some(theirs) => format!("{mark}{ours:.3}{mark} ({theirs:.3})"),
-        None => format!("{mark}{ours:.3}{mark}"),
-    }
-}
-
-/// A frame is copied, and of a long copy one instruction of memcpy is counted once for each byte.
-fn tell_without_memcpy(jobs: &[Job], counts: &Counts) {
-    for job in jobs.iter().filter(|job| matches!(job.entry, Entry::Feed(_))) {
-        let rest =
-            |side: &str| Some(counts.get(side, job)? - counts.get(&format!("{side}-memcpy"), job)?);
-        if let (Some(ours), Some(theirs)) = (rest("library"), rest("baseline")) {
-            let (title, kind) = (job.title, job.kind);
-            println!("{title} ({kind}): {ours} instructions without those of memcpy (baseline: {theirs})");
-        }
-    }
-}
-
-/// A lookup reads the whole message first. What it takes besides should not depend on what stands
-/// behind the element.
-fn tell_without_reading(jobs: &[Job], counts: &Counts) {
-    let lookups = || jobs.iter().filter(|job| matches!(job.entry, Entry::Find(_)));
-    let rest = |side: &str, job: &Job| {
-        let read = jobs.iter().find(|read| read.entry == Entry::Read && read.bytes == job.bytes)?;
-        Some(counts.get(side, job)? as f64 - counts.get(side, read)? as f64)
-    };
-    for job in lookups() {
-        if let (Some(ours), Some(theirs)) = (rest("library", job), rest("baseline", job)) {
-            let (title, kind) = (job.title, job.kind);
-            println!(
-                "{title} ({kind}): {ours} instructions without those of read (baseline: {theirs})"
-            );
-        }
-    }
-    let growth = |side: &str, kind: &str| {
-        let rest_of = |kind: &str| rest(side, lookups().find(|job| job.kind == kind)?);
-        Some(100.0 * (rest_of(kind)? / rest_of(BRIEF)? - 1.0))
-    };
-    for (kind, place) in [(FULL, "in several segments"), (LONG, "in its own segment")] {
-        if let (Some(ours), Some(theirs)) = (growth("library", kind), growth("baseline", kind)) {
-            println!("find PV1-2 with {BEHIND} bytes behind it, {place}, in place of 10: {ours:+.2} % instructions without those of read (baseline: {theirs:+.2} %)");
-        }
+        None => format!("{:.2} | - | -", ours / 1000.0),
     }
 }
 

@@ -1,72 +1,13 @@
-//! What is measured: each entry point on some bytes, for the library and for the baseline.
+//! What is measured: each entry point on some bytes, for the library and for the baseline. How it is
+//! called stands in calls.rs.
 
-use crate::library::{self, Answer, Element, Fed, FrameState, Lookup, Number, Structure, Time};
-use crate::library::{Verdict, Writer};
 use crate::reports;
 use baseline::Address;
-use std::hint::black_box;
 
-// The baseline behind names of its own, so that a counter finds it and no call is taken out.
-
-#[no_mangle]
-#[inline(never)]
-fn baseline_read(message: &[u8]) -> baseline::Answer {
-    baseline::read(message)
-}
-
-#[no_mangle]
-#[inline(never)]
-fn baseline_find(message: &[u8], address: Address) -> baseline::Element {
-    baseline::find(message, address)
-}
-
-#[no_mangle]
-#[inline(never)]
-fn baseline_verdict(message: &[u8]) -> baseline::Verdict {
-    baseline::verdict(message)
-}
-
-#[no_mangle]
-#[inline(never)]
-fn baseline_acknowledge(
-    message: &[u8],
-    time: &[u8],
-    id: &[u8],
-    buffer: &mut [u8],
-) -> baseline::Answer {
-    baseline::acknowledge(message, time, id, buffer)
-}
-
-#[no_mangle]
-#[inline(never)]
-fn baseline_escape(delimiters: &[u8; 5], text: &[u8], buffer: &mut [u8]) -> baseline::Answer {
-    baseline::escape(delimiters, text, buffer)
-}
-
-#[no_mangle]
-#[inline(never)]
-fn baseline_unescape(delimiters: &[u8; 5], text: &[u8], buffer: &mut [u8]) -> baseline::Answer {
-    baseline::unescape(delimiters, text, buffer)
-}
-
-#[no_mangle]
-#[inline(never)]
-fn baseline_format(delimiters: &[u8; 5], text: &[u8], buffer: &mut [u8]) -> baseline::Answer {
-    baseline::format(delimiters, text, buffer)
-}
-
-#[no_mangle]
-#[inline(never)]
-fn baseline_feed(state: baseline::FrameState, piece: &[u8], buffer: &mut [u8]) -> baseline::Fed {
-    baseline::feed(state, piece, buffer)
-}
-
-const DELIMITERS: [u8; 5] = *br"|^~\&";
-const TIME: &[u8] = b"20240229093001+0000";
-const ID: &[u8] = b"ACK0001";
+pub const DELIMITERS: [u8; 5] = *br"|^~\&";
 
 /// A message has at most so many bytes, and a frame as much room.
-const LONGEST: usize = 1_048_576;
+pub const LONGEST: usize = 1_048_576;
 
 /// Every result fits: a text that is escaped has at most five bytes for each.
 pub const ROOM: usize = 5 * LONGEST;
@@ -74,13 +15,12 @@ pub const ROOM: usize = 5 * LONGEST;
 /// What a packet of Ethernet carries of a line.
 const PACKET: usize = 1_460;
 
-/// In no pieces.
-const WHOLE: usize = usize::MAX;
+/// In one piece: with what stands about it, no frame is longer.
+const WHOLE: usize = LONGEST + 3;
 
 /// The names that could stand in the place of a report's last segment are PID, ORC, OBR, OBX, NTE, CTI
 /// and DSC: the last is the dearest to be told.
-const LAST_NAME: usize = 6;
-const DSC: u32 = 0x44_53_43;
+pub const LAST_NAME: usize = 6;
 
 /// The kinds of messages and texts: reports of 1 KiB, 5 KiB, 32 KiB and 1 MiB, the last of as many
 /// segments as there may be, and one of 1 MiB that has a document in one field.
@@ -98,14 +38,13 @@ pub const LONG: &str = "long-visit";
 pub const BEHIND: usize = 10_000;
 
 /// The titles of what is refused.
-const ACKNOWLEDGE_REFUSED: &str = "acknowledge, refused";
+const BYTE_REFUSED: &str = "read, a byte refused";
+const NAME_REFUSED: &str = "read, a name refused";
+const STRUCTURE_REFUSED: &str = "structure, refused";
+const SEGMENT_REFUSED: &str = "verdict, a segment refused";
+const FIELD_REFUSED: &str = "verdict, a field refused";
+pub const ACKNOWLEDGE_REFUSED: &str = "acknowledge, refused";
 const FORMAT_REFUSED: &str = "format, refused";
-
-#[derive(Clone, Copy, PartialEq)]
-pub enum Side {
-    Library,
-    Baseline,
-}
 
 #[derive(Clone, Copy, PartialEq)]
 pub enum Entry {
@@ -150,20 +89,6 @@ impl Entry {
             Entry::Ts(_) => "ts",
         }
     }
-
-    /// What an element says, and what the structure alone comes to, is asked of the library only.
-    pub fn has_baseline(self) -> bool {
-        !matches!(
-            self,
-            Entry::Structure
-                | Entry::CouldStand
-                | Entry::Nm(_)
-                | Entry::Si(_)
-                | Entry::Dt(_)
-                | Entry::Tm(_)
-                | Entry::Ts(_)
-        )
-    }
 }
 
 /// An entry point on some bytes. Title and kind together are its name; those of a title are alike but
@@ -175,37 +100,23 @@ pub struct Job {
     pub bytes: Vec<u8>,
 }
 
-/// An answer of either side, with all that it tells.
-#[derive(PartialEq)]
-pub enum Told {
-    Answer(Answer),
-    Verdict(Verdict),
-    Structure(Structure),
-    Name(u32),
-    Fed(Fed),
-    Element(Element),
-    Number(Number),
-    Time(Time),
-}
-
 impl Job {
     /// Its name as one word.
     pub fn row(&self) -> String {
         row(self.title, self.kind)
     }
 
-    /// Whether the message has a fault, in its last result.
-    fn is_refused(&self) -> bool {
-        self.title == ACKNOWLEDGE_REFUSED
-    }
-
     /// The number that it is to be answered by. Data in Base64 are no value of any form, and one word
     /// that goes into no line. No element of a report is a time of day.
-    fn number(&self) -> u32 {
-        match (self.entry, self.kind) {
-            (Entry::Format, _) if self.title == FORMAT_REFUSED => 42,
-            (Entry::Nm(_) | Entry::Si(_) | Entry::Dt(_) | Entry::Ts(_), DOCUMENT) => 32,
-            (Entry::Tm(_), _) => 32,
+    pub fn number(&self) -> u32 {
+        match (self.title, self.entry, self.kind) {
+            (BYTE_REFUSED, ..) => 4,
+            (NAME_REFUSED, ..) => 6,
+            (STRUCTURE_REFUSED | SEGMENT_REFUSED, ..) => 21,
+            (FIELD_REFUSED, ..) => 32,
+            (FORMAT_REFUSED, ..) => 42,
+            (_, Entry::Nm(_) | Entry::Si(_) | Entry::Dt(_) | Entry::Ts(_), DOCUMENT) => 32,
+            (_, Entry::Tm(_), _) => 32,
             _ => 0,
         }
     }
@@ -229,213 +140,10 @@ impl Job {
             _ => self.length(),
         }
     }
-
-    #[inline(always)]
-    pub fn call(&self, side: Side, buffer: &mut [u8]) -> Told {
-        match side {
-            Side::Library => self.call_library(buffer),
-            Side::Baseline => self.call_baseline(buffer),
-        }
-    }
-
-    #[inline(always)]
-    fn call_library(&self, buffer: &mut [u8]) -> Told {
-        let bytes = black_box(&self.bytes[..]);
-        let (at, length) = (bytes.as_ptr(), bytes.len());
-        // Every pointer leads to as many bytes as its length says, and the buffer is our own.
-        unsafe {
-            match self.entry {
-                Entry::Read => Told::Answer(library::turrethog_read(at, length)),
-                Entry::Verdict => Told::Verdict(library::turrethog_verdict(at, length)),
-                Entry::Structure => Told::Structure(library::turrethog_structure(at, length)),
-                Entry::CouldStand => {
-                    Told::Name(library::turrethog_could_stand(at, length, LAST_NAME))
-                }
-                Entry::Acknowledge => Told::Answer(library::turrethog_acknowledge(
-                    at,
-                    length,
-                    TIME.as_ptr(),
-                    TIME.len(),
-                    ID.as_ptr(),
-                    ID.len(),
-                    buffer.as_mut_ptr(),
-                    buffer.len(),
-                )),
-                Entry::Escape => Told::Answer(write(library::turrethog_escape, bytes, buffer)),
-                Entry::Unescape => Told::Answer(write(library::turrethog_unescape, bytes, buffer)),
-                Entry::Format => Told::Answer(write(library::turrethog_format, bytes, buffer)),
-                Entry::Feed(most) => Told::Fed(serve(bytes, most, buffer, feed_library)),
-                Entry::Find(at) => Told::Element(look_up(library::turrethog_find, bytes, at)),
-                Entry::Nm(at) => Told::Number(look_up(library::turrethog_nm, bytes, at)),
-                Entry::Si(at) => Told::Number(look_up(library::turrethog_si, bytes, at)),
-                Entry::Dt(at) => Told::Time(look_up(library::turrethog_dt, bytes, at)),
-                Entry::Tm(at) => Told::Time(look_up(library::turrethog_tm, bytes, at)),
-                Entry::Ts(at) => Told::Time(look_up(library::turrethog_ts, bytes, at)),
-            }
-        }
-    }
-
-    #[inline(always)]
-    fn call_baseline(&self, buffer: &mut [u8]) -> Told {
-        let bytes = black_box(&self.bytes[..]);
-        let told = |answer: baseline::Answer| {
-            let baseline::Answer { number, place, length } = answer;
-            Told::Answer(Answer { number, place, length })
-        };
-        match self.entry {
-            Entry::Read => told(baseline_read(bytes)),
-            Entry::Verdict => {
-                let found = baseline_verdict(bytes);
-                Told::Verdict(Verdict {
-                    number: found.number,
-                    could_end: found.could_end,
-                    place: found.place,
-                    field: found.field,
-                    repetition: found.repetition,
-                    // All that is judged alone is accepted, and then no names are listed.
-                    names: 0,
-                })
-            }
-            Entry::Acknowledge => told(baseline_acknowledge(bytes, TIME, ID, buffer)),
-            Entry::Escape => told(baseline_escape(&DELIMITERS, bytes, buffer)),
-            Entry::Unescape => told(baseline_unescape(&DELIMITERS, bytes, buffer)),
-            Entry::Format => told(baseline_format(&DELIMITERS, bytes, buffer)),
-            Entry::Feed(most) => Told::Fed(serve(bytes, most, buffer, feed_baseline)),
-            Entry::Find(address) => {
-                let found = baseline_find(bytes, address);
-                let baseline::Element { number, place, start, end, .. } = found;
-                let state = match found.state {
-                    None => library::ABSENT,
-                    Some(baseline::State::Empty) => library::EMPTY,
-                    Some(baseline::State::Null) => library::NULL,
-                    Some(baseline::State::Present) => library::PRESENT,
-                };
-                Told::Element(Element { number, state, place, start, end })
-            }
-            _ => unreachable!("the baseline has no such function"),
-        }
-    }
-
-    /// Both sides answer alike, to the last byte that they write, and as it is meant.
-    pub fn is_answered(&self) -> bool {
-        if let Entry::Feed(most) = self.entry {
-            return agree_on_line(&self.bytes, most);
-        }
-        let (mut ours, mut theirs) = (vec![0xA5; ROOM], vec![0xA5; ROOM]);
-        let told = self.call(Side::Library, &mut ours);
-        if !self.is_meant(&told, &ours) {
-            return false;
-        }
-        !self.entry.has_baseline()
-            || (told == self.call(Side::Baseline, &mut theirs) && ours == theirs)
-    }
-
-    fn is_meant(&self, told: &Told, buffer: &[u8]) -> bool {
-        let (number, state) = match told {
-            Told::Answer(answer) => (answer.number, library::PRESENT),
-            Told::Verdict(verdict) => (verdict.number, library::PRESENT),
-            Told::Structure(structure) => (structure.number, library::PRESENT),
-            Told::Fed(fed) => (fed.number, library::PRESENT),
-            Told::Element(element) => (element.number, element.state),
-            Told::Number(number) => (number.number, number.state),
-            Told::Time(time) => (time.number, time.state),
-            Told::Name(name) => return *name == DSC,
-        };
-        let has_error = match told {
-            Told::Answer(answer) if self.is_refused() => {
-                buffer[..answer.length].ends_with(&error_at_last_result(&self.bytes))
-            }
-            _ => true,
-        };
-        number == self.number() && state == library::PRESENT && has_error
-    }
 }
 
 fn row(title: &str, kind: &str) -> String {
     format!("{title} {kind}").replace(", ", " ").replace(' ', "-")
-}
-
-/// The ERR of a report whose last result has a time that is none, with the CR before it.
-fn error_at_last_result(report: &[u8]) -> Vec<u8> {
-    let lines = report.split(|&byte| byte == b'\r');
-    let results = lines.filter(|line| line.starts_with(b"OBX|")).count();
-    format!("\rERR|OBX^{results}^14^102\r").into_bytes()
-}
-
-/// Each call of a line is answered alike and leaves the same buffer, and at the end there is a frame,
-/// which is the message.
-fn agree_on_line(line: &[u8], most: usize) -> bool {
-    let (mut ours, mut theirs) = (vec![0xA5; LONGEST], vec![0xA5; LONGEST]);
-    let mut fed = Fed::default();
-    for piece in line.chunks(most) {
-        let mut rest = piece;
-        while !rest.is_empty() {
-            let told = feed_baseline(fed.state, rest, &mut theirs);
-            fed = feed_library(fed.state, rest, &mut ours);
-            if fed != told || ours != theirs || fed.used == 0 {
-                return false;
-            }
-            rest = &rest[fed.used..];
-        }
-    }
-    let message = &line[1..line.len() - 2];
-    fed.length == message.len() && ours.starts_with(message)
-}
-
-#[inline(always)]
-fn look_up<Found>(lookup: Lookup<Found>, message: &[u8], address: Address) -> Found {
-    let Address { segment, field, repetition, component, subcomponent } = address;
-    let (at, length) = (message.as_ptr(), message.len());
-    // The pointer leads to as many bytes as the length says.
-    unsafe { lookup(at, length, segment, field, repetition, component, subcomponent) }
-}
-
-#[inline(always)]
-fn write(writer: Writer, text: &[u8], buffer: &mut [u8]) -> Answer {
-    let [field, component, repetition, escape, subcomponent] = DELIMITERS;
-    let (at, length) = (text.as_ptr(), text.len());
-    let (to, room) = (buffer.as_mut_ptr(), buffer.len());
-    // Both pointers lead to as many bytes as their lengths say.
-    unsafe { writer(field, component, repetition, escape, subcomponent, at, length, to, room) }
-}
-
-/// Hands a line over in pieces, as one who serves it does, and gives what came back last.
-#[inline(always)]
-fn serve(
-    line: &[u8],
-    most: usize,
-    buffer: &mut [u8],
-    feed: impl Fn(FrameState, &[u8], &mut [u8]) -> Fed,
-) -> Fed {
-    let mut fed = Fed::default();
-    for piece in line.chunks(most) {
-        let mut rest = piece;
-        while !rest.is_empty() {
-            fed = feed(fed.state, rest, &mut buffer[..LONGEST]);
-            // A call that uses nothing would go on for ever.
-            if fed.used == 0 {
-                return fed;
-            }
-            rest = &rest[fed.used..];
-        }
-    }
-    fed
-}
-
-#[inline(always)]
-fn feed_library(state: FrameState, piece: &[u8], buffer: &mut [u8]) -> Fed {
-    let (at, length) = (piece.as_ptr(), piece.len());
-    // Both pointers lead to as many bytes as their lengths say.
-    unsafe { library::turrethog_feed(state, at, length, buffer.as_mut_ptr(), buffer.len()) }
-}
-
-#[inline(always)]
-fn feed_baseline(state: FrameState, piece: &[u8], buffer: &mut [u8]) -> Fed {
-    let FrameState { mode, held, count } = state;
-    let fed = baseline_feed(baseline::FrameState { mode, held, count }, piece, buffer);
-    let baseline::Fed { number, stop, used, length, state } = fed;
-    let baseline::FrameState { mode, held, count } = state;
-    Fed { number, stop: stop as u32, used, length, state: FrameState { mode, held, count } }
 }
 
 /// All that is measured, in the order of the table.
@@ -450,12 +158,13 @@ pub fn one(row: &str) -> Option<Job> {
 
 fn measured(wanted: Option<&str>) -> Vec<Job> {
     let mut jobs = Jobs { wanted, list: Vec::new() };
-    jobs.add_report_and_more(SMALL, 9, 1_024);
-    jobs.add_refused_text(SMALL, 1_024);
+    jobs.add_report(SMALL, 9, 1_024);
     jobs.add_report(USUAL, 40, 5_120);
     jobs.add_report(LARGE, 256, 32_768);
-    jobs.add_texts(LARGE, 32_768);
-    jobs.add_report_and_more(LARGEST, 4_096, LONGEST);
+    jobs.add_report(LARGEST, 4_096, LONGEST);
+    jobs.add_more_of_report(SMALL, 9, 1_024);
+    jobs.add_more_of_report(LARGEST, 4_096, LONGEST);
+    jobs.add_refused_text(SMALL, 1_024);
     jobs.add_document(DOCUMENT, LONGEST);
     jobs.add_lookups();
     in_order(jobs.list)
@@ -498,26 +207,72 @@ impl Jobs<'_> {
         }
     }
 
-    /// What is measured of a message of any kind. The answer to a refused one tells where its fault
-    /// stands, for which segments are counted.
+    /// What is measured of a message of any kind. A fault stands as far behind as it can, so that what
+    /// is refused is passed over to the end; and where an answer tells its place, segments are counted.
     fn add_message(&mut self, kind: &'static str, message: impl Fn() -> Vec<u8>) {
+        let with_bad_byte = || reports::with_bad_byte(&message());
+        let with_bad_name = || reports::with_bad_name(&message());
+        let misplaced = || reports::misplaced(&message());
         let refused = || reports::refused(&message());
         self.add("read", kind, Entry::Read, &message);
+        self.add(BYTE_REFUSED, kind, Entry::Read, with_bad_byte);
+        self.add(NAME_REFUSED, kind, Entry::Read, with_bad_name);
+        self.add("structure", kind, Entry::Structure, &message);
+        self.add(STRUCTURE_REFUSED, kind, Entry::Structure, misplaced);
         self.add("verdict", kind, Entry::Verdict, &message);
+        self.add(SEGMENT_REFUSED, kind, Entry::Verdict, misplaced);
+        self.add(FIELD_REFUSED, kind, Entry::Verdict, refused);
         self.add("acknowledge", kind, Entry::Acknowledge, &message);
         self.add(ACKNOWLEDGE_REFUSED, kind, Entry::Acknowledge, refused);
         self.add("feed", kind, Entry::Feed(WHOLE), || framed(&message()));
         self.add("feed, by 1,460", kind, Entry::Feed(PACKET), || framed(&message()));
     }
 
+    /// The last result stands before the last segment, and is a number.
     fn add_report(&mut self, kind: &'static str, segments: usize, bytes: usize) {
-        self.add_message(kind, || reports::report(segments, bytes));
+        let report = || reports::report(segments, bytes);
+        let (last_result, last) = (segments - 2, segments - 1);
+        self.add_message(kind, report);
+        self.add("find OBX-5", kind, Entry::Find(field(last_result, 5)), report);
+        self.add("find NTE-3, far", kind, Entry::Find(field(last, 3)), report);
+        self.add("nm", kind, Entry::Nm(field(last_result, 5)), report);
+        self.add("ts", kind, Entry::Ts(field(last_result, 14)), report);
         self.add("format", kind, Entry::Format, || reports::formatted_text(bytes));
-    }
-
-    fn add_texts(&mut self, kind: &'static str, bytes: usize) {
         self.add("escape", kind, Entry::Escape, || reports::text(bytes));
         self.add("unescape", kind, Entry::Unescape, || written_text(bytes));
+    }
+
+    /// The entry points and elements that are left, for what grows with the message.
+    fn add_more_of_report(&mut self, kind: &'static str, segments: usize, bytes: usize) {
+        let report = || reports::report(segments, bytes);
+        let (patient, last_result) = (1, segments - 2);
+        self.add_parts(kind, last_result, 1, report);
+        self.add("si", kind, Entry::Si(field(last_result, 1)), report);
+        self.add("dt", kind, Entry::Dt(field(patient, 7)), report);
+        self.add("tm", kind, Entry::Tm(field(last_result, 14)), report);
+        let misplaced = || reports::misplaced(&report());
+        self.add("could_stand", kind, Entry::CouldStand, misplaced);
+    }
+
+    /// Every entry point, with the data where a text or a value is asked for.
+    fn add_document(&mut self, kind: &'static str, bytes: usize) {
+        let document = || reports::document(bytes);
+        let data = || reports::base64(bytes).into_bytes();
+        let (segment, component) = (reports::DOCUMENT_SEGMENT, reports::DOCUMENT_COMPONENT);
+        let value = Address { repetition: 1, component, ..field(segment, 5) };
+        self.add_message(kind, document);
+        self.add("find OBX-5", kind, Entry::Find(field(segment, 5)), document);
+        self.add("nm", kind, Entry::Nm(value), document);
+        self.add("ts", kind, Entry::Ts(value), document);
+        self.add("escape", kind, Entry::Escape, data);
+        self.add("unescape", kind, Entry::Unescape, data);
+        self.add_parts(kind, segment, component, document);
+        self.add("si", kind, Entry::Si(value), document);
+        self.add("dt", kind, Entry::Dt(value), document);
+        self.add("tm", kind, Entry::Tm(value), document);
+        let misplaced = || reports::misplaced(&document());
+        self.add("could_stand", kind, Entry::CouldStand, misplaced);
+        self.add_refused_text(kind, bytes);
     }
 
     /// Nobody formats data, but whoever does is told so: they are looked at to the end for every fault.
@@ -526,61 +281,18 @@ impl Jobs<'_> {
         self.add(FORMAT_REFUSED, kind, Entry::Format, data);
     }
 
-    /// Every entry point. The last result stands before the last segment, and is a number.
-    fn add_report_and_more(&mut self, kind: &'static str, segments: usize, bytes: usize) {
-        self.add_report(kind, segments, bytes);
-        self.add_texts(kind, bytes);
-        let report = || reports::report(segments, bytes);
-        self.add_structures(kind, report);
-        let (patient, last_result, last) = (1, segments - 2, segments - 1);
-        self.add("find NTE-3, far", kind, Entry::Find(field(last, 3)), report);
-        self.add_finds(kind, last_result, 1, report);
-        self.add("nm", kind, Entry::Nm(field(last_result, 5)), report);
-        self.add("si", kind, Entry::Si(field(last_result, 1)), report);
-        self.add("dt", kind, Entry::Dt(field(patient, 7)), report);
-        self.add("tm", kind, Entry::Tm(field(last_result, 14)), report);
-        self.add("ts", kind, Entry::Ts(field(last_result, 14)), report);
-    }
-
-    /// Every entry point too, with the data where a text or a value is asked for.
-    fn add_document(&mut self, kind: &'static str, bytes: usize) {
-        let document = || reports::document(bytes);
-        let data = || reports::base64(bytes).into_bytes();
-        self.add_message(kind, document);
-        self.add_refused_text(kind, bytes);
-        self.add("escape", kind, Entry::Escape, data);
-        self.add("unescape", kind, Entry::Unescape, data);
-        self.add_structures(kind, document);
-        let (segment, component) = (reports::DOCUMENT_SEGMENT, reports::DOCUMENT_COMPONENT);
-        self.add_finds(kind, segment, component, document);
-        let value = Address { repetition: 1, component, ..field(segment, 5) };
-        self.add("nm", kind, Entry::Nm(value), document);
-        self.add("si", kind, Entry::Si(value), document);
-        self.add("dt", kind, Entry::Dt(value), document);
-        self.add("tm", kind, Entry::Tm(value), document);
-        self.add("ts", kind, Entry::Ts(value), document);
-    }
-
-    fn add_structures(&mut self, kind: &'static str, message: impl Fn() -> Vec<u8>) {
-        let misplaced = || reports::misplaced(&message());
-        self.add("structure", kind, Entry::Structure, &message);
-        self.add("could_stand", kind, Entry::CouldStand, misplaced);
-    }
-
-    /// A field of the first segment, and what a result says: as a field, by its component and by the
-    /// first subcomponent of that; and a field behind it.
-    fn add_finds(
+    /// A field of the first segment, what a result says by its component and by the first subcomponent
+    /// of that, and a field behind it.
+    fn add_parts(
         &mut self,
         kind: &'static str,
         result: usize,
         component: usize,
         message: impl Fn() -> Vec<u8>,
     ) {
-        let value = field(result, 5);
-        let part = Address { repetition: 1, component, ..value };
+        let part = Address { repetition: 1, component, ..field(result, 5) };
         let lookups = [
             ("find MSH-10", field(0, 10)),
-            ("find OBX-5", value),
             ("find OBX-5, a component", part),
             ("find OBX-5, a subcomponent", Address { subcomponent: 1, ..part }),
             ("find OBX-11", field(result, 11)),

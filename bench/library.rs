@@ -86,6 +86,14 @@ pub const EMPTY: u32 = 1;
 pub const NULL: u32 = 2;
 pub const PRESENT: u32 = 3;
 
+/// A part of a time that was not sent.
+pub const NOT_SENT: u64 = u64::MAX;
+
+/// The signs of an offset.
+pub const NO_OFFSET: u64 = 0;
+pub const PLUS: u64 = 1;
+pub const MINUS: u64 = 2;
+
 /// Looks an element up by the message and its length, and by segment, field, repetition, component and
 /// subcomponent.
 pub type Lookup<Found> =

@@ -1,12 +1,13 @@
-//! Answers questions to the baseline in the form of the program `ask`, one line for each: those
-//! that read, find, judge, acknowledge, escape, unescape, format and take frames off a line.
-//! bench/check compares the answers with the model's.
+//! Answers questions to the baseline in the form of the program `ask`, one line for each. bench/check
+//! compares the answers with the model's.
 //!
 //!     ask          with the limits of the program `ask`
 //!     ask large    without them, as one asks from C
 
-use baseline::{acknowledge, escape, feed, find, read, unescape, verdict};
-use baseline::{Address, Answer, FrameState, State, Stop};
+use baseline::{acknowledge, could_stand, dt, escape, feed, find, nm, read, si, structure, tm, ts};
+use baseline::{
+    unescape, verdict, Address, Answer, FrameState, Number, State, Stop, Time, Value, NOT_SENT,
+};
 use std::io::{self, BufRead, BufWriter, Write};
 
 /// What the one who is asked has room for: a line, a buffer to be lent, and a message, in bytes.
@@ -45,16 +46,10 @@ impl Limits {
                 let Answer { number, place, .. } = read(&self.held(message)?);
                 Some(format!("{number} {place}"))
             }
-            ["find", message, segment, field, repetition, component, subcomponent] => {
-                let address = Address {
-                    segment: number(segment)? as usize,
-                    field: number(field)? as usize,
-                    repetition: number(repetition)? as usize,
-                    component: number(component)? as usize,
-                    subcomponent: number(subcomponent)? as usize,
-                };
-                Some(element_words(&self.held(message)?, address))
+            [verb @ ("find" | "nm" | "si" | "dt" | "tm" | "ts"), message, ref levels @ ..] => {
+                lookup_words(verb, &self.held(message)?, address(levels)?)
             }
+            ["structure", message] => structure_words(&self.held(message)?),
             ["verdict", message] => verdict_words(&self.held(message)?),
             ["escape", text, delimiters, room] => self.text_words(text, delimiters, room, escape),
             ["unescape", text, delimiters, room] => {
@@ -112,25 +107,74 @@ impl Limits {
     }
 }
 
-fn element_words(message: &[u8], address: Address) -> String {
-    let found = find(message, address);
-    let state = match found.state {
-        Some(State::Empty) => "empty",
-        Some(State::Null) => "null",
-        Some(State::Present) => "present",
-        None if found.number == 0 => "absent",
-        None => "-",
+fn lookup_words(verb: &str, message: &[u8], address: Address) -> Option<String> {
+    let number_words = |number: Number| format!("{} {}", number.value, number.decimals);
+    Some(match verb {
+        "find" => {
+            let found = find(message, address);
+            let state = state_word(found.number, found.state);
+            format!("{} {} {state} {} {}", found.number, found.place, found.start, found.end)
+        }
+        "nm" => value_words(nm(message, address), number_words),
+        "si" => value_words(si(message, address), |number| number.value.to_string()),
+        "dt" => value_words(dt(message, address), time_words),
+        "tm" => value_words(tm(message, address), time_words),
+        "ts" => value_words(ts(message, address), time_words),
+        _ => return None,
+    })
+}
+
+fn value_words<Said>(found: Value<Said>, said_words: impl Fn(Said) -> String) -> String {
+    let state = state_word(found.number, found.state);
+    format!("{} {} {state} {}", found.number, found.place, said_words(found.said))
+}
+
+fn state_word(number: u32, state: Option<State>) -> &'static str {
+    match (number, state) {
+        (0, None) => "absent",
+        (0, Some(State::Empty)) => "empty",
+        (0, Some(State::Null)) => "null",
+        (0, Some(State::Present)) => "present",
+        _ => "-",
+    }
+}
+
+/// The parts of a time, `-` for those that were not sent.
+fn time_words(time: Time) -> String {
+    let digits = if time.digits == 0 { NOT_SENT } else { time.digits };
+    let part_word = |part: u32| match part {
+        NOT_SENT => "-".to_string(),
+        _ => part.to_string(),
     };
-    format!("{} {} {state} {} {}", found.number, found.place, found.start, found.end)
+    let parts = time.date.into_iter().chain(time.clock).chain([digits]);
+    let mut words: Vec<String> = parts.map(part_word).collect();
+    let [hours, minutes] = time.offset;
+    words.push(match time.sign {
+        0 => "-".to_string(),
+        sign => format!("{}{hours:02}{minutes:02}", char::from(sign)),
+    });
+    words.join(" ")
+}
+
+/// The names are asked for one by one, as from C, up to the 0 behind the last of them.
+fn structure_words(message: &[u8]) -> Option<String> {
+    let found = structure(message);
+    let names = (0..).map(|index| could_stand(message, index)).take_while(|&name| name != 0);
+    let end_and_names = end_and_names(found.could_end, names);
+    Some(format!("{} {} {end_and_names}", found.number, found.place))
 }
 
 fn verdict_words(message: &[u8]) -> Option<String> {
     let found = verdict(message);
-    let names: Vec<String> = found.names.list().into_iter().map(letters).collect();
-    let names = if names.is_empty() { "-".to_string() } else { names.join(",") };
-    let end = if found.could_end { "yes" } else { "no" };
+    let end_and_names = end_and_names(found.could_end, found.names.iter());
     let (number, place, field) = (found.number, found.place, found.field);
-    Some(format!("{number} {place} {field} {} {end} {names}", found.repetition))
+    Some(format!("{number} {place} {field} {} {end_and_names}", found.repetition))
+}
+
+fn end_and_names(could_end: bool, names: impl Iterator<Item = u32>) -> String {
+    let names: Vec<String> = names.map(letters).collect();
+    let names = if names.is_empty() { "-".to_string() } else { names.join(",") };
+    format!("{} {names}", if could_end { "yes" } else { "no" })
 }
 
 /// The letters of a name that is a number.
@@ -191,6 +235,19 @@ fn hex(bytes: &[u8]) -> String {
     const DIGITS: &[u8; 16] = b"0123456789abcdef";
     let digit = |number: u8| char::from(DIGITS[usize::from(number)]);
     bytes.iter().flat_map(|byte| [digit(byte >> 4), digit(byte & 15)]).collect()
+}
+
+/// Segment, field, repetition, component and subcomponent.
+fn address(words: &[&str]) -> Option<Address> {
+    let &[segment, field, repetition, component, subcomponent] = words else { return None };
+    let level = |word| number(word).map(|number| number as usize);
+    Some(Address {
+        segment: level(segment)?,
+        field: level(field)?,
+        repetition: level(repetition)?,
+        component: level(component)?,
+        subcomponent: level(subcomponent)?,
+    })
 }
 
 /// Digits alone, since `parse` takes a sign too.

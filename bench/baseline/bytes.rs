@@ -19,9 +19,19 @@ pub fn is_printable(byte: u8) -> bool {
     byte.wrapping_sub(0x20) <= 0x7E - 0x20 || byte >= 0xA0
 }
 
-/// The place of the first byte that may not stand in a message.
+/// The place of the first byte that may not stand in a message: by large blocks, then by small ones.
+#[inline(always)]
 pub fn first_not_allowed(bytes: &[u8]) -> Option<usize> {
-    first_block_with(bytes, |byte| !(is_printable(byte) | (byte == CR)))
+    const LARGE: usize = 128;
+    let is_wrong = |byte| !(is_printable(byte) | (byte == CR));
+    let mut start = 0;
+    for block in bytes.chunks_exact(LARGE) {
+        if block.iter().fold(false, |found, &byte| found | is_wrong(byte)) {
+            break;
+        }
+        start += LARGE;
+    }
+    first_block_with(&bytes[start..], is_wrong).map(|at| start + at)
 }
 
 /// The place of the first byte for which the test holds: in a block at once, then in the block.

@@ -1,9 +1,10 @@
-//! Where an element of a message stands, and in which state: a reading fault, then 19. The message
-//! is read first; then what stands before the element is passed over, and of all the ends only its
-//! own is sought.
+//! Where an element of a message stands, in which state, and what it says: a reading fault, then 19,
+//! then 32 or 37. The message is read first; then what stands before the element is passed over, and
+//! of all the ends only its own is sought.
 
 use crate::bytes::{find_far, first_block_with, state_of, Delimiters, State, CR};
 use crate::reading::delimiters_of;
+use crate::values::{self, Number, Time};
 use crate::{read, Answer, Refusal};
 
 /// Segments count from 0, fields from 1, and so do repetitions, components and subcomponents, of
@@ -33,6 +34,15 @@ impl From<Refusal> for Element {
     }
 }
 
+/// What an element says: where it is not present, or is refused, 0 or no part of a time.
+#[derive(Clone, Copy, Default)]
+pub struct Value<Said> {
+    pub number: u32,
+    pub place: usize,
+    pub state: Option<State>,
+    pub said: Said,
+}
+
 /// A reading fault, or 19 for a bad address or no such segment.
 #[inline]
 pub fn find(message: &[u8], address: Address) -> Element {
@@ -42,9 +52,59 @@ pub fn find(message: &[u8], address: Address) -> Element {
     }
 }
 
+/// The element as a number (NM): also 32, and 37 for over 18 digits.
+#[inline]
+pub fn nm(message: &[u8], address: Address) -> Value<Number> {
+    value_of(message, address, values::nm)
+}
+
+/// As a sequence number (SI): also 32.
+#[inline]
+pub fn si(message: &[u8], address: Address) -> Value<Number> {
+    value_of(message, address, values::si)
+}
+
+/// As a date (DT): also 32.
+#[inline]
+pub fn dt(message: &[u8], address: Address) -> Value<Time> {
+    value_of(message, address, values::dt)
+}
+
+/// As a time of day (TM): also 32.
+#[inline]
+pub fn tm(message: &[u8], address: Address) -> Value<Time> {
+    value_of(message, address, values::tm)
+}
+
+/// As a time stamp (TS): also 32.
+#[inline]
+pub fn ts(message: &[u8], address: Address) -> Value<Time> {
+    value_of(message, address, values::ts)
+}
+
+#[inline(always)]
+fn value_of<Said: Default>(
+    message: &[u8],
+    address: Address,
+    read_value: impl Fn(&[u8]) -> Result<Said, u32>,
+) -> Value<Said> {
+    let (number, place, state, said) = match look_up(message, address) {
+        Err(Refusal { number, place }) => (number, place, None, Said::default()),
+        Ok(Element { state: Some(State::Present), start, end, .. }) => {
+            let (number, said) = match read_value(&message[start..end]) {
+                Ok(said) => (0, said),
+                Err(number) => (number, Said::default()),
+            };
+            (number, 0, Some(State::Present), said)
+        }
+        Ok(Element { state, .. }) => (0, 0, state, Said::default()),
+    };
+    Value { number, place, state, said }
+}
+
 #[inline(always)]
 fn look_up(message: &[u8], address: Address) -> Result<Element, Refusal> {
-    let Answer { number, place, .. } = read_apart(message);
+    let Answer { number, place, .. } = read(message);
     if number != 0 {
         return Err(Refusal { number, place });
     }
@@ -63,12 +123,6 @@ fn look_up(message: &[u8], address: Address) -> Result<Element, Refusal> {
     };
     let state = Some(state_of(&message[start..end], &delimiters));
     Ok(Element { state, start, end, ..Element::default() })
-}
-
-/// Apart from the lookup, whose numbers would take the registers that the reader's loops want.
-#[inline(never)]
-fn read_apart(message: &[u8]) -> Answer {
-    read(message)
 }
 
 /// Where a segment begins.

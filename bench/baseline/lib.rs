@@ -1,7 +1,7 @@
 //! The baseline: framing, reading, finding, judging, acknowledging, escaping, unescaping and
 //! formatting as one would write them in Rust for speed, with std alone and no unsafe code. It stands
-//! beside the proved library to be measured, and it answers as the model does: bench/check holds it
-//! to that.
+//! beside the proved library to be measured, has every entry point that the library has, and answers
+//! as the model does: bench/check holds it to that.
 
 #![forbid(unsafe_code)]
 
@@ -18,11 +18,12 @@ mod values;
 
 pub use acknowledging::acknowledge;
 pub use bytes::State;
-pub use finding::{find, Address, Element};
+pub use finding::{dt, find, nm, si, tm, ts, Address, Element, Value};
 pub use formatting::format;
 pub use frames::{feed, Fed, FrameState, Stop};
 pub use structure::Names;
 pub use text::{escape, unescape};
+pub use values::{Number, Time, NOT_SENT};
 
 use reading::Ends;
 
@@ -65,13 +66,32 @@ impl From<Refusal> for Verdict {
     }
 }
 
-/// Numbers 1 to 8.
-#[inline]
+/// Numbers 1 to 8. Apart from those who call it, whose numbers would take the registers that the
+/// reader's loops want.
+#[inline(never)]
 pub fn read(message: &[u8]) -> Answer {
     match reading::check(message, |_, _| ()) {
         Ok(()) => Answer::default(),
         Err(refusal) => refusal.into(),
     }
+}
+
+/// A reading fault, 20, 21 or 22: the verdict of one who looks into no field.
+#[inline]
+pub fn structure(message: &[u8]) -> Verdict {
+    let mut ends = Ends::new();
+    let judged = reading::check_noting(message, &mut ends).map_err(Verdict::from);
+    match judged.and_then(structure::judge) {
+        Ok(()) => Verdict::default(),
+        Err(fault) => fault,
+    }
+}
+
+/// The names that could have stood at the place of a 21 or 22, by their number from 0, in the
+/// grammar's order; 0 past the last.
+#[inline]
+pub fn could_stand(message: &[u8], index: usize) -> u32 {
+    structure(message).names.iter().nth(index).unwrap_or_default()
 }
 
 /// A reading fault, 20, 21 or 22, or the first of 31 to 37.

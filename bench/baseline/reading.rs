@@ -1,6 +1,6 @@
 //! Is this a message at all? Numbers 1 to 8, in their order.
 
-use crate::bytes::{first_block_with, first_not_allowed, wrong_delimiter, Delimiters, CR};
+use crate::bytes::{find_far, first_not_allowed, wrong_delimiter, Delimiters, CR};
 use crate::Refusal;
 
 pub const LONGEST_MESSAGE: usize = 1_048_576;
@@ -138,7 +138,7 @@ fn check_segments(message: &[u8], mut ended: impl FnMut(usize, usize)) -> Result
     let separator = message[3];
     let mut number = 0;
     let mut start = 0;
-    while let Some(length) = first_block_with(&message[start..], |byte| byte == CR) {
+    while let Some(length) = find_far::<32>(&message[start..], CR) {
         let refuse = |number| Err(Refusal { number, place: start });
         if number == MOST_SEGMENTS {
             return refuse(8);

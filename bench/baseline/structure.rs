@@ -111,14 +111,16 @@ pub struct Names {
 
 impl Names {
     /// The names in the structure's order, each once.
-    pub fn list(self) -> Vec<u32> {
-        let mut names = Vec::new();
-        for (number, place) in self.structure.iter().flat_map(|it| it.places).enumerate() {
-            if self.places >> number & 1 == 1 && !names.contains(&place.name) {
-                names.push(place.name);
-            }
-        }
-        names
+    #[inline]
+    pub fn iter(self) -> impl Iterator<Item = u32> {
+        let places = self.structure.map_or(&[][..], |structure| structure.places);
+        let stands = move |number: usize| self.places >> number & 1 == 1;
+        let names = places.iter().enumerate().filter(move |&(number, place)| {
+            let before = || places[..number].iter().enumerate();
+            stands(number)
+                && !before().any(|(other, same)| stands(other) && same.name == place.name)
+        });
+        names.map(|(_, place)| place.name)
     }
 }
 
