@@ -15,6 +15,9 @@ pub const CARRIAGE_RETURN: u8 = 13;
 // How many bytes are looked at together.
 pub const BLOCK: usize = 32;
 
+// And how many where a byte is sought that seldom stands there.
+const WIDE: usize = 128;
+
 // Printable ISO 8859/1: what may stand plainly in text.
 pub fn is_printable(b: u8) -> bool
     ensures { λ r. ⌜ r ≡ printable b ⌝ }
@@ -153,6 +156,20 @@ fn is_all_allowed(bytes: &[u8]) -> bool
     (32 <= least) & (most <= 222)
 }
 
+// A place at or before the first byte that may not stand in a message: blocks without one are passed over whole.
+fn before_not_allowed(bytes: &[u8]) -> usize
+    ensures { λ r. ⌜ r ≤ first notAllowed (now (bytes .entry)) ⌝ }
+{
+    let mut i = 0;
+    while WIDE <= bytes.len() - i {
+        if !is_all_allowed(&bytes[i..i + WIDE]) {
+            return i;
+        }
+        i += WIDE;
+    }
+    i
+}
+
 // The place of the first byte that may not stand in a message, or the length where there is none, which is the usual
 // case and told first.
 pub fn first_not_allowed(bytes: &[u8]) -> usize
@@ -161,7 +178,7 @@ pub fn first_not_allowed(bytes: &[u8]) -> usize
     if is_all_allowed(bytes) {
         return bytes.len();
     }
-    let mut i = 0;
+    let mut i = before_not_allowed(bytes);
     while i < bytes.len() {
         if !is_allowed(bytes[i]) {
             return i;

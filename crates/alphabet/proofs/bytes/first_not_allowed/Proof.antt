@@ -27,21 +27,28 @@ returns c =
     let k = first-le notAllowed s in
     omega arith
 
+begins : tie.Need-loop-holds Inv-loop μ-loop
+begins c =
+    let s = now (c .before .before .before .before .args .bytes) in
+    let k = first-le notAllowed s in
+    let b = c .before-not-allowed .ensures in
+    (omega arith, b)
+
 returns-2 : tie.Need-returns-2 Inv-loop μ-loop
 returns-2 c =
     let l = c .before .before .before .before in
-    let s = now (l .before .before .before .before .args .bytes) in
+    let s = now (l .before .before .before .before .before .args .bytes) in
     sym (first-reached notAllowed s (l .loop .i) (omega arith) (l .loop .inv .1) (ap not (sym (c .before .is-allowed .ensures)) ∙ c .if2 .taken))
 
 loop-again : tie.Need-loop-again Inv-loop μ-loop
 loop-again c =
     let l = c .before .before .before .before in
-    let s = now (l .before .before .before .before .args .bytes) in
+    let s = now (l .before .before .before .before .before .args .bytes) in
     (omega arith, first-next notAllowed s (l .loop .i) (omega arith) (l .loop .inv .1) (ap not (sym (c .before .is-allowed .ensures)) ∙ c .if2 .left))
 
 returns-3 : tie.Need-returns-3 Inv-loop μ-loop
 returns-3 c =
-    let s = now (c .before .before .before .before .before .args .bytes) in
+    let s = now (c .before .before .before .before .before .before .args .bytes) in
     let i = c .before .loop .inv .1 in
     let k = first-le notAllowed s in
     omega arith
@@ -54,7 +61,8 @@ first-not-allowed-spec =
     μ-loop
     (λ c κs. search needs)
     returns
-    (λ c. (omega arith, omega arith))
+    (λ c κs. search needs)
+    begins
     (λ c. omega arith)
     (λ c κs. search needs)
     returns-2
