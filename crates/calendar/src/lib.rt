@@ -3,6 +3,7 @@ mod dates;
 mod figures;
 
 pub use dates::is_date;
+pub use dates::is_offset;
 pub use dates::is_time;
 pub use figures::Clock;
 pub use figures::Date;

@@ -3,7 +3,7 @@ use mathlib.Core.Path.{_≡_, refl, ap, _∙_}
 use mathlib.Core.List.{List, [], _∷_}
 use mathlib.Core.Bool.{Bool, true, false, _&&_, _||_}
 use mathlib.Core.Logic.{_⊎_, inl, inr}
-use Prim.Native.Nat.{ℕ, _-_, _≤_, min}
+use Prim.Native.Nat.{ℕ, _-_, _≤_}
 use native.Mathlib.Omega.{arith}
 use lib.Dec.{eqb}
 use lib.ListN.{length, take, drop}
@@ -11,33 +11,15 @@ use lib.Seq.{length-take-le}
 use borrow.Author.Tests.{eqb-true, eq-eqb, ne-eqb}
 use Rattle.alphabet.specs.Bytes.{fromTo}
 use Rattle.alphabet.specs.Digits.{allDigits}
-use Rattle.alphabet.specs.Lists.{find}
 use Rattle.alphabet.proofs.BoolLaws.{and-both, from-to}
-use Rattle.alphabet.proofs.ListLaws.{first-le, rest-of}
-use Rattle.numbers.specs.Numbers.{beforePoint}
+use Rattle.alphabet.proofs.ListLaws.{rest-of}
 use Rattle.forms.specs.declared.layouts.Form.{Form}
-use Rattle.forms.specs.Forms.{oneOf, dtLength, dtForm, layoutOf, bodyOf, frontOf, tailOf, zoneOf, frontLength, fractionForm, zoneForm, partsForm, timeForm}
+use Rattle.forms.specs.Forms.{oneOf, dtLength, dtForm, layoutOf, frontOf, tailOf, zoneOf, frontLength, fractionForm, zoneForm, partsForm, timeForm}
 
--- ---- the parts: what is left behind the body is the zone, and what is left of the body behind the front is the tail
+-- ---- what is left of a list behind its first bytes, by how many these are
 
--- what is left of a list behind its first bytes, by how many these are
-behind : (n : ℕ) (l : List ℕ) → n ≤ length l → (length (take n l) ≤ length l) × (take (length l - length (take n l)) (drop (length (take n l)) l) ≡ drop n l)
+pub behind : (n : ℕ) (l : List ℕ) → n ≤ length l → (length (take n l) ≤ length l) × (take (length l - length (take n l)) (drop (length (take n l)) l) ≡ drop n l)
 behind n l h = let k = length-take-le n l h in (omega arith, rest-of l (length (take n l)) ∙ ap (λ (i : ℕ). drop i l) k)
-
-sign-within : (l : List ℕ) → min (find 43 l) (find 45 l) ≤ length l
-sign-within l = let p = first-le (eqb 43) l in let m = first-le (eqb 45) l in omega arith
-
-pub body-within : (l : List ℕ) → length (bodyOf l) ≤ length l
-body-within l = behind (min (find 43 l) (find 45 l)) l (sign-within l) .0
-
-pub zone-behind : (l : List ℕ) → take (length l - length (bodyOf l)) (drop (length (bodyOf l)) l) ≡ zoneOf l
-zone-behind l = behind (min (find 43 l) (find 45 l)) l (sign-within l) .1
-
-pub front-within : (body : List ℕ) → length (beforePoint body) ≤ length body
-front-within body = behind (find 46 body) body (first-le (eqb 46) body) .0
-
-pub tail-behind : (l : List ℕ) → take (length (bodyOf l) - length (frontOf l)) (drop (length (frontOf l)) (bodyOf l)) ≡ tailOf l
-tail-behind l = behind (find 46 (bodyOf l)) (bodyOf l) (first-le (eqb 46) (bodyOf l)) .1
 
 -- ---- one of a list
 
@@ -104,6 +86,12 @@ zone-none zone h = rw (eq-eqb (length zone) 0 h)
 pub zone-some : (zone : List ℕ) → (length zone ≡ 0 → ⊥) → zoneForm zone ≡ (eqb (length zone) 5 && allDigits (drop 1 zone))
 unfolding zoneForm
 zone-some zone h = rw (ne-eqb (length zone) 0 h)
+
+pub zone-other : (zone : List ℕ) → (length zone ≡ 0 → ⊥) → (length zone ≡ 5 → ⊥) → zoneForm zone ≡ false
+zone-other zone h k = zone-some zone h ∙ ap (λ (t : Bool). t && allDigits (drop 1 zone)) (ne-eqb (length zone) 5 k)
+
+pub zone-five : (zone : List ℕ) → length zone ≡ 5 → zoneForm zone ≡ allDigits (drop 1 zone)
+zone-five zone h = zone-some zone (λ e. absurd (omega arith)) ∙ ap (λ (t : Bool). t && allDigits (drop 1 zone)) (eq-eqb (length zone) 5 h)
 
 pub zone-holds : (zone : List ℕ) → zoneForm zone ≡ true → (allDigits (drop 1 zone) ≡ true) × ((length zone ≡ 0 → ⊥) → length zone ≡ 5)
 unfolding zoneForm

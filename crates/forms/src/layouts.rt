@@ -1,6 +1,6 @@
 // The layouts of DT, TM and TS: behind how many digits each may stop, and what may stand behind them.
 ghost use mathlib.Core.Path.{_≡_};
-ghost use Rattle.forms.specs.Forms.{dtForm, layoutOf, frontLength, fractionForm, zoneForm, partsForm};
+ghost use Rattle.forms.specs.Forms.{dtLength, dtForm, layoutOf, frontLength, fractionForm, zoneForm, partsForm};
 
 // The two that have a clock and a zone: TM, a clock alone, and TS, a date and a clock.
 pub enum Form {
@@ -8,16 +8,22 @@ pub enum Form {
     Ts,
 }
 
+// How many digits a DT may have.
+pub fn is_dt_length(n: usize) -> bool
+    ensures { λ r. ⌜ r ≡ dtLength n ⌝ }
+{
+    (n == 4) | ((n == 6) | (n == 8))
+}
+
 // YYYY[MM[DD]]
 pub fn is_dt_form(bytes: &[u8]) -> bool
     ensures { λ r. ⌜ r ≡ dtForm (now (bytes .entry)) ⌝ }
 {
-    let n = bytes.len();
-    numbers::is_digits(bytes) & ((n == 4) | ((n == 6) | (n == 8)))
+    numbers::is_digits(bytes) & is_dt_length(bytes.len())
 }
 
 // How many digits may stand in front.
-fn is_front_length(form: Form, n: usize) -> bool
+pub fn is_front_length(form: Form, n: usize) -> bool
     ensures { λ r. ⌜ r ≡ frontLength form n ⌝ }
 {
     match form {
@@ -27,7 +33,7 @@ fn is_front_length(form: Form, n: usize) -> bool
 }
 
 // How many digits there are down to the seconds.
-fn to_seconds(form: Form) -> usize
+pub fn to_seconds(form: Form) -> usize
     ensures { λ r. ⌜ r ≡ layoutOf form .seconds ⌝ }
 {
     match form {
@@ -37,7 +43,7 @@ fn to_seconds(form: Form) -> usize
 }
 
 // No fraction, or, behind seconds, a point and one to four digits.
-fn is_fraction(seconds: bool, tail: &[u8]) -> bool
+pub fn is_fraction(seconds: bool, tail: &[u8]) -> bool
     ensures { λ r. ⌜ r ≡ fractionForm seconds (now (tail .entry)) ⌝ }
 {
     let n = tail.len();
@@ -48,14 +54,17 @@ fn is_fraction(seconds: bool, tail: &[u8]) -> bool
 }
 
 // No zone, or a sign and four digits.
-fn is_zone(zone: &[u8]) -> bool
+pub fn is_zone(zone: &[u8]) -> bool
     ensures { λ r. ⌜ r ≡ zoneForm (now (zone .entry)) ⌝ }
 {
     let n = zone.len();
     if n == 0 {
         return true;
     }
-    (n == 5) & numbers::is_digits(&zone[1..])
+    if n != 5 {
+        return false;
+    }
+    numbers::is_digits(&zone[1..])
 }
 
 // HH[MM[SS[.S to .SSSS]]][+/-ZZZZ] or YYYY[MM[DD[HHMM[SS[.S to .SSSS]]]]][+/-ZZZZ], by its front, its tail and its

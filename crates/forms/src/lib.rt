@@ -5,5 +5,10 @@ mod parts;
 
 pub use layouts::Form;
 pub use layouts::is_dt_form;
+pub use layouts::is_dt_length;
+pub use layouts::is_fraction;
+pub use layouts::is_front_length;
 pub use layouts::is_time_form;
+pub use layouts::is_zone;
 pub use parts::body_of;
+pub use parts::front_of;

@@ -1,10 +1,8 @@
 -- Laws of times: a time is of its form and there is such a time; and what is read, case by case. Assumes nothing.
-use mathlib.Core.Path.{_≡_, refl, sym, ap, _∙_}
+use mathlib.Core.Path.{_≡_, ap, _∙_}
 use mathlib.Core.List.{List}
-use mathlib.Core.Bool.{Bool, true, false}
+use mathlib.Core.Bool.{true, false}
 use Prim.Native.Nat.{ℕ}
-use lib.Dec.{eqb}
-use Rattle.alphabet.specs.Answers.{numberOf}
 use Rattle.alphabet.specs.Digits.{allDigits}
 use Rattle.alphabet.proofs.BoolLaws.{and-both}
 use Rattle.calendar.specs.declared.figures.Time.{Time}
@@ -43,17 +41,3 @@ time-broken form l e = rw e
 pub time-read : (form : Form) (l : List ℕ) (time : Time) → timeForm form l ≡ true → time ≡ timeOf form l → timeIf (validTime time) time ≡ timeRead form l
 unfolding timeRead isTime
 time-read form l time e q = ap (λ (t : Time). timeIf (validTime t) t) q ∙ rw e
-
--- ---- and whether: nothing is refused exactly where there is such a time
-
-told : (t : Bool) (time : Time) → eqb (numberOf (timeIf t time .kind)) 0 ≡ t
-told true time = refl
-told false time = refl
-
-pub dt-told : (l : List ℕ) → eqb (numberOf (dtRead l .kind)) 0 ≡ isDt l
-unfolding dtRead
-dt-told l = told (isDt l) (dtTime l)
-
-pub time-told : (form : Form) (l : List ℕ) → eqb (numberOf (timeRead form l .kind)) 0 ≡ isTime form l
-unfolding timeRead
-time-told form l = told (isTime form l) (timeOf form l)

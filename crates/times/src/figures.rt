@@ -6,10 +6,27 @@ use calendar::Offset;
 use calendar::Sign;
 ghost use mathlib.Core.Path.{_≡_};
 ghost use mathlib.Core.Bool.{true};
-ghost use Prim.Native.Nat.{_≤_};
+ghost use Prim.Native.Nat.{_+_, _≤_};
 ghost use lib.ListN.{length, take, drop};
 ghost use Rattle.alphabet.specs.Digits.{allDigits, decimal};
 ghost use Rattle.times.specs.Times.{figureAt, dateOf, fractionOf, clockOf, offsetOf};
+
+// A byte as a wider number. By a call of its own the cast asks no proof that the byte fits.
+fn wide(byte: u8) -> u64
+    ensures { λ r. ⌜ r ≡ byte ⌝ }
+{
+    byte as u64
+}
+
+// The number of the two digits at a place: 528 is what both say by being digits.
+pub fn two_digits(bytes: &[u8], place: usize) -> u64
+    requires { ⌜ (allDigits (take 2 (drop place (now bytes))) ≡ true) × (place + 2 ≤ length (now bytes)) ⌝ }
+    ensures { λ r. ⌜ r ≡ decimal (take 2 (drop place (now (bytes .entry)))) ⌝ }
+{
+    let tens = wide(bytes[place]);
+    let ones = wide(bytes[place + 1]);
+    tens * 10 + ones - 528
+}
 
 // The figure of so many digits from a place on, if they were sent.
 fn figure_at(digits: &[u8], start: usize, width: usize) -> Figure
@@ -76,8 +93,7 @@ fn pair_at(zone: &[u8], place: usize) -> u64
     requires { ⌜ (1 ≤ place) × (place ≤ 3) ⌝ }
     ensures { λ r. ⌜ r ≡ decimal (take 2 (drop place (now (zone .entry)))) ⌝ }
 {
-    let end = place + 2;
-    numbers::si_value(&zone[place..end])
+    two_digits(zone, place)
 }
 
 // The offset that a zone says: none, or a sign and four digits.

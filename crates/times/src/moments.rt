@@ -9,7 +9,7 @@ ghost use mathlib.Core.Path.{_≡_};
 ghost use mathlib.Core.Bool.{true};
 ghost use Rattle.forms.specs.declared.layouts.Form.the-variants.{Tm, Ts};
 ghost use Rattle.forms.specs.Forms.{partsForm};
-ghost use Rattle.times.specs.Times.{partsTime, timeIf, dtRead, timeRead, isDt, isTm, isTs};
+ghost use Rattle.times.specs.Times.{partsTime, timeIf, dtRead, timeRead};
 
 // What bytes say as a time: the refusal, or the time.
 pub struct ReadTime {
@@ -84,7 +84,7 @@ fn read_time(form: Form, bytes: &[u8]) -> ReadTime
     ensures { λ r. ⌜ r ≡ timeRead form (now (bytes .entry)) ⌝ }
 {
     let body = forms::body_of(bytes);
-    let front = numbers::before_point(body);
+    let front = forms::front_of(form, body);
     let point = front.len();
     let sign = body.len();
     let tail = &body[point..];
@@ -106,31 +106,4 @@ pub fn read_ts(bytes: &[u8]) -> ReadTime
     ensures { λ r. ⌜ r ≡ timeRead Ts (now (bytes .entry)) ⌝ }
 {
     read_time(Form::Ts, bytes)
-}
-
-// YYYY[MM[DD]]
-pub fn is_dt(bytes: &[u8]) -> bool
-    ensures { λ r. ⌜ r ≡ isDt (now (bytes .entry)) ⌝ }
-{
-    let read = read_dt(bytes);
-    let kind = read.kind;
-    alphabet::number(kind) == 0
-}
-
-// HH[MM[SS[.S to .SSSS]]][+/-ZZZZ]
-pub fn is_tm(bytes: &[u8]) -> bool
-    ensures { λ r. ⌜ r ≡ isTm (now (bytes .entry)) ⌝ }
-{
-    let read = read_tm(bytes);
-    let kind = read.kind;
-    alphabet::number(kind) == 0
-}
-
-// YYYY[MM[DD[HHMM[SS[.S to .SSSS]]]]][+/-ZZZZ]
-pub fn is_ts(bytes: &[u8]) -> bool
-    ensures { λ r. ⌜ r ≡ isTs (now (bytes .entry)) ⌝ }
-{
-    let read = read_ts(bytes);
-    let kind = read.kind;
-    alphabet::number(kind) == 0
 }

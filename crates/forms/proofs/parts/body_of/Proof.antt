@@ -1,22 +1,16 @@
--- Rests on what `first_sign` gives.
+-- Rests on what `sign_place` gives.
 use borrow.Author.Needs.{needs}
 use Prim.Native.Nat.{ℕ, _≤_}
-use mathlib.Core.Path.{sym, ap}
-use lib.Dec.{eqb}
+use mathlib.Core.Path.{sym, ap, subst}
 use lib.ListN.{length, take}
 use lib.Seq.{length-take-le}
-use Rattle.alphabet.proofs.ListLaws.{first-le}
-use native.Mathlib.Omega.{arith}
 use denote.Ref.{now}
+use Rattle.forms.proofs.PlaceLaws.{sign-within}
 use Rattle.forms.proofs.parts.body_of.Statement.{statement}
 use Rattle.forms.proofs.parts.body_of.Tie as tie
 
-within : (c : tie.After-first-sign) → c .first-sign .result ≤ length (now (c .before .before .args .bytes))
-within c =
-    let l = now (c .before .before .args .bytes) in
-    let p = first-le (eqb 43) l in
-    let m = first-le (eqb 45) l in
-    omega (arith, c .first-sign .ensures)
+within : (c : tie.After-sign-place) → c .sign-place .result ≤ length (now (c .before .before .args .bytes))
+within c = let l = now (c .before .before .args .bytes) in subst (λ (n : ℕ). n ≤ length l) (sym (c .sign-place .ensures)) (sign-within l)
 
 pub body-of-spec : {M : Type 1} → statement M
 body-of-spec =
@@ -24,4 +18,4 @@ body-of-spec =
     (tie.spec
     (λ c κs. search needs)
     (λ c. sym (length-take-le _ _ (within (c .before))))
-    (λ c. ap (λ (n : ℕ). take n (now (c .before .before .before .args .bytes))) (c .before .first-sign .ensures)))
+    (λ c. ap (λ (n : ℕ). take n (now (c .before .before .before .args .bytes))) (c .before .sign-place .ensures)))
