@@ -26,6 +26,7 @@ use Rattle.element.specs.declared.states.State.the-variants.{Empty, Null, Prese
 use Rattle.reading.specs.Message.{Message}
 use Rattle.laws.specs.Means.{Separator, component, subcomponent, repetition, OnlySeparators, Means, null, empty, present}
 use Rattle.laws.proofs.HeaderLaws.{first-segment}
+use Rattle.element.proofs.RawLaws.{part-means}
 use Rattle.element.proofs.LevelLaws.{Within, between-length, in-absent, within-segment, within-field, within-below}
 use Rattle.element.proofs.StateLaws.{state-null, state-empty, state-present}
 
