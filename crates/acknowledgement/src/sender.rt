@@ -14,7 +14,7 @@ ghost use Rattle.acknowledgement.specs.Fields.{lineIn, nextEnd, endsIn, 
 pub fn line_of(message: &[u8]) -> &[u8]
     ensures { λ r. ⌜ now r ≡ lineIn (now (message .entry)) ⌝ }
 {
-    let end = search::find_far(message, alphabet::CARRIAGE_RETURN);
+    let end = search::find_return(message);
     &message[..end]
 }
 

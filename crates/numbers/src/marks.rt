@@ -13,5 +13,5 @@ pub fn find_mark(bytes: &[u8], b: u8) -> usize
     if bytes.len() < MANY {
         return alphabet::find(bytes, b);
     }
-    search::find_far(bytes, b)
+    search::find_one(bytes, b)
 }

@@ -7,7 +7,7 @@ use alphabet::Refusal;
 ghost use mathlib.Core.Path.{_≡_};
 ghost use mathlib.Core.List.{[], _∷_};
 ghost use Rattle.alphabet.specs.Answers.{inOrder};
-ghost use Rattle.reading.specs.Segments.{isHeader, named};
+ghost use Rattle.reading.specs.Segments.{capitalOrDigit, isHeader, named};
 ghost use Rattle.reading.specs.Reading.{lengthCheck, headed, headerCheck, delimiterCheck, byteCheck, opening, endCheck, segmentCheck, segmentsCheck};
 
 // The first three bytes are `MSH`.
@@ -20,18 +20,37 @@ fn is_header(segment: &[u8]) -> bool
     (m == 77) & ((s == 83) & (h == 72))
 }
 
-// A good name, followed by the field separator or by the segment's end.
+// What may follow the first letter of a name.
+fn may_follow(b: u8) -> bool
+    ensures { λ r. ⌜ r ≡ capitalOrDigit b ⌝ }
+{
+    if alphabet::is_capital(b) {
+        return true;
+    }
+    alphabet::is_digit(b)
+}
+
+// A good name, followed by the field separator or by the segment's end. It branches, since nearly every name is good and
+// has no digit.
 fn is_named(segment: &[u8], separator: u8) -> bool
     ensures { λ r. ⌜ r ≡ named separator (now (segment .entry)) ⌝ }
 {
-    let first = alphabet::byte_at(segment, 0);
-    let second = alphabet::byte_at(segment, 1);
-    let third = alphabet::byte_at(segment, 2);
-    let next = alphabet::byte_at(segment, 3);
-    let capital = alphabet::is_capital(first);
-    let second_fits = alphabet::is_capital(second) | alphabet::is_digit(second);
-    let third_fits = alphabet::is_capital(third) | alphabet::is_digit(third);
-    (capital & (second_fits & third_fits)) & ((segment.len() == 3) | (next == separator))
+    if segment.len() < 3 {
+        return false;
+    }
+    if !alphabet::is_capital(segment[0]) {
+        return false;
+    }
+    if !may_follow(segment[1]) {
+        return false;
+    }
+    if !may_follow(segment[2]) {
+        return false;
+    }
+    if segment.len() == 3 {
+        return true;
+    }
+    segment[3] == separator
 }
 
 // Nine bytes, `MSH`, and byte 8 the field separator or CR.
@@ -109,11 +128,20 @@ fn check_segment(segment: &[u8], separator: u8, number: usize, start: usize) -> 
     ensures { λ r. ⌜ r ≡ segmentCheck separator number start (now (segment .entry)) ⌝ }
 {
     let most = alphabet::segment_limit();
-    let many = alphabet::fails_if(number == most, Refusal::TooManySegments, start);
-    let name = alphabet::fails_if(!is_named(segment, separator), Refusal::SegmentName, start);
+    if number == most {
+        return Check::Fails {
+            kind: Refusal::TooManySegments,
+            place: start,
+        };
+    }
+    if !is_named(segment, separator) {
+        return Check::Fails {
+            kind: Refusal::SegmentName,
+            place: start,
+        };
+    }
     let again = (0 < number) & is_header(segment);
-    let second = alphabet::fails_if(again, Refusal::SecondHeader, start);
-    alphabet::or_else(many, alphabet::or_else(name, second))
+    alphabet::fails_if(again, Refusal::SecondHeader, start)
 }
 
 // Every segment, from the left, up to the first fault.

@@ -33,7 +33,7 @@ pub fn segment_end(message: &[u8], start: usize) -> usize
     if message.len() <= start {
         return start;
     }
-    start + search::find_far(&message[start..], alphabet::CARRIAGE_RETURN)
+    start + search::find_return(&message[start..])
 }
 
 // Where the part of the given index, from 0, of the bytes split at CR begins; each CR is sought as what stands far off.

@@ -9,7 +9,7 @@ mod words;
 
 use alphabet::BLOCK;
 pub use both::find_two;
-pub use far::find_far;
+pub use far::find_return;
 pub use one::find_one;
 pub use two::find_either;
 pub use words::find_by_words;

@@ -12,8 +12,8 @@ use Rattle.alphabet.proofs.ListLaws.{first-le}
 use Rattle.acknowledgement.proofs.sender.line_of.Statement.{statement}
 use Rattle.acknowledgement.proofs.sender.line_of.Tie as tie
 
-inside : (c : tie.After-find-far) → c .find-far .result ≤ length (now (c .before .before .args .message))
-inside c = omega (arith, c .find-far .ensures, first-le (eqb carriageReturn) (now (c .before .before .args .message)))
+inside : (c : tie.After-find-return) → c .find-return .result ≤ length (now (c .before .before .args .message))
+inside c = omega (arith, c .find-return .ensures, first-le (eqb carriageReturn) (now (c .before .before .args .message)))
 
 pub line-of-spec : {M : Type 1} → statement M
 line-of-spec =
@@ -21,4 +21,4 @@ line-of-spec =
     (tie.spec
     (λ c κs. search needs)
     (λ c. sym (length-take-le _ _ (inside (c .before))))
-    (λ c. ap (λ n. take n (now (c .before .before .before .args .message))) (c .before .find-far .ensures)))
+    (λ c. ap (λ n. take n (now (c .before .before .before .args .message))) (c .before .find-return .ensures)))

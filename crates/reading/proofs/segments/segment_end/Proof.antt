@@ -18,10 +18,10 @@ returns c =
     let z = first-end (eqb carriageReturn) (now (a .message)) (a .start) (c .if1 .taken) in
     omega arith
 
-found : (c : tie.After-find-far) → c .find-far .result ≡ find carriageReturn (drop (c .before .before .before .before .args .start) (now (c .before .before .before .before .args .message)))
+found : (c : tie.After-find-return) → c .find-return .result ≡ find carriageReturn (drop (c .before .before .before .before .args .start) (now (c .before .before .before .before .args .message)))
 found c =
     let a = c .before .before .before .before .args in
-    c .find-far .ensures ∙ ap (find carriageReturn) (rest-of (now (a .message)) (a .start))
+    c .find-return .ensures ∙ ap (find carriageReturn) (rest-of (now (a .message)) (a .start))
 
 add-result : tie.Need-add-result
 add-result c =
