@@ -1,6 +1,6 @@
 -- For private functions alone: what is still to come of a message's leaves, from inside a leaf on, and the marks of the
 -- bytes that end leaves.
-use Prim.Native.Nat.{ℕ, _+_, _-_, _*_, _≤_, _<_}
+use Prim.Native.Nat.{ℕ, _+_, _-_, _*_, _%_, _^_, _≤_, _<_}
 use mathlib.Core.Path.{_≡_}
 use mathlib.Core.List.{List, [], _∷_, _++_}
 use mathlib.Core.Bool.{Bool, cond}
@@ -115,3 +115,19 @@ Writes m d a start at d′ a′ start′ at′ = (W d₀ : List ℕ) → Written
 
 abbrev pub WritesAll : List ℕ → List ℕ → Address → ℕ → ℕ → List ℕ → ℕ → Type 0
 WritesAll m d a start at d′ at′ = (W d₀ : List ℕ) → Written W d₀ (restRows m a start) d at → Written W d₀ [] d′ at′
+
+-- ---- marks of a block: of each byte up to n, its weight among its eight where it passes the test
+
+abbrev pub Weighs : (ℕ → Bool) → List ℕ → ℕ → List ℕ → Type 0
+Weighs test l n ws = (j : ℕ) → j < n → getD ws j 0 ≡ cond (test (getD l j 0)) (2 ^ (j % 8)) 0
+
+-- eight weights, each at most its own
+abbrev pub Light : List ℕ → ℕ → Type 0
+Light ws at =
+    (at + 8 ≤ 32) × (getD ws at 0 ≤ 1) × (getD ws (at + 1) 0 ≤ 2) × (getD ws (at + 2) 0 ≤ 4) × (getD ws (at + 3) 0 ≤ 8) × (getD ws (at + 4) 0 ≤ 16)
+    × (getD ws (at + 5) 0 ≤ 32) × (getD ws (at + 6) 0 ≤ 64) × (getD ws (at + 7) 0 ≤ 128)
+
+abbrev pub sumOf : List ℕ → ℕ → ℕ
+sumOf ws at =
+    getD ws at 0 + getD ws (at + 1) 0 + (getD ws (at + 2) 0 + getD ws (at + 3) 0)
+    + (getD ws (at + 4) 0 + getD ws (at + 5) 0 + (getD ws (at + 6) 0 + getD ws (at + 7) 0))
