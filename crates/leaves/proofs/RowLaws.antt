@@ -151,3 +151,10 @@ written-end W d₀ d o w =
     let f : Filling W d₀ [] d o = record { front = w .front; whole = w .all; size = w .size; holds = w .holds } in
     let r = fill-room f in
     (omega arith, fill-end f refl)
+
+pub state-long : (m : List ℕ) (start end : ℕ) → start ≤ end → end ≤ length m → (start ≡ end → ⊥) → (end - start ≡ 2 → ⊥) → 3 ≡ plainState (between m start end)
+state-long m start end h k n w =
+    let l = between-length m start end h k in
+    let z : eqb (length (between m start end)) 2 ≡ false = ne-eqb (length (between m start end)) 2 (λ q. w (omega arith)) in
+    let e : isNull (between m start end) ≡ false = rw z in
+    state-between m start end h k e n

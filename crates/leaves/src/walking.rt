@@ -30,6 +30,10 @@ fn state_number(message: &[u8], start: usize, end: usize) -> u64
     if start == end {
         return 1;
     }
+    // Only two bytes can be null: the others are not looked at.
+    if end - start != 2 {
+        return 3;
+    }
     if alphabet::is_null(&message[start..end]) {
         return 2;
     }
