@@ -296,11 +296,65 @@ static void write_text(text verb, const uint8_t *m, size_t n, const text *words)
         say_written(turrethog_unescape(d[0], d[1], d[2], d[3], d[4], m, n, buffer, room), room);
 }
 
+/* Messages of up to so many bytes have all their leaves listed. */
+#define LONGEST_LISTED 4096
+#define UNWRITTEN_NUMBER UINT64_C(0xa5a5a5a5a5a5a5a5)
+
+static uint64_t numbers[8 * LONGEST_LISTED + 8];
+
+static void lend_numbers(void)
+{
+    for (size_t i = 0; i < sizeof numbers / sizeof *numbers; i++)
+        numbers[i] = UNWRITTEN_NUMBER;
+}
+
+static bool unwritten_numbers(size_t from)
+{
+    for (size_t i = from; i < sizeof numbers / sizeof *numbers; i++)
+        if (numbers[i] != UNWRITTEN_NUMBER)
+            return false;
+    return true;
+}
+
+/* A message has a leaf for each separator, but for those of MSH-1 and MSH-2, which are six bytes and two leaves. */
+static size_t leaves_in(const uint8_t *m, size_t n)
+{
+    size_t count = 2;
+    for (size_t i = 8; i < n; i++)
+        count += m[i] == m[3] || m[i] == m[4] || m[i] == m[5] || m[i] == m[7];
+    return count;
+}
+
+/* Every row of turrethog_leaves beside turrethog_find; how many there are, and that nothing else is written; the refusals. Empty where it is so. */
+static const char *fault_in_leaves(const uint8_t *m, size_t n, turrethog_answer read)
+{
+    lend_numbers();
+    turrethog_answer l = turrethog_leaves(m, n, numbers, 8 * n);
+    if (l.number != read.number || l.place != read.place)
+        return " and its leaves are answered otherwise";
+    if (l.number != 0)
+        return l.length == 0 && unwritten_numbers(0) ? "" : " and its leaves are written";
+    if (l.length != leaves_in(m, n) || !unwritten_numbers(8 * l.length))
+        return " and its leaves are others";
+    for (size_t i = 0; i < l.length; i++) {
+        const uint64_t *row = numbers + 8 * i;
+        turrethog_element e = turrethog_find(m, n, row[0], row[1], row[2], row[3], row[4]);
+        bool in_order = i == 0 || row[-1] <= row[6];
+        if (e.number != 0 || e.state != row[5] || e.start != row[6] || e.end != row[7] || !in_order)
+            return " and a leaf is found otherwise";
+    }
+    lend_numbers();
+    l = turrethog_leaves(m, n, numbers, 8 * n - 1);
+    return l.number == TURRETHOG_NO_ROOM && l.place == 0 && l.length == 0 && unwritten_numbers(0) ? "" : " and its leaves have room";
+}
+
 static void judge(text verb, const uint8_t *m, size_t n)
 {
     if (is(verb, "read")) {
         turrethog_answer r = turrethog_read(m, n);
         SAY("%u %zu", (unsigned)r.number, r.place);
+        if (n <= LONGEST_LISTED)
+            SAY("%s", fault_in_leaves(m, n, r));
     } else if (is(verb, "structure")) {
         turrethog_structure_answer s = turrethog_structure(m, n);
         SAY("%u %zu %s", (unsigned)s.number, s.place, s.could_end ? "yes" : "no");

@@ -2,7 +2,7 @@
  * and lays out formatted text in lines.
  *
  * Any bytes may be handed in. Every function ends, answers or refuses by a number of the table below, keeps no state, and may be called from
- * any thread. Nothing is written but the buffer that is lent to the five functions that write, and after a refusal that buffer holds the
+ * any thread. Nothing is written but the buffer that is lent to the six functions that write, and after a refusal that buffer holds the
  * bytes that it held before; but for 40 and 41 of turrethog_feed, after which each place of it holds the byte last gathered there, or what it
  * held at first.
  *
@@ -201,6 +201,13 @@ turrethog_answer turrethog_read(const uint8_t *message, size_t length);
 /* An element, by segment (from 0), field, repetition, component and subcomponent (from 1; 0 is the whole): 0, a reading fault, or 19. */
 turrethog_element turrethog_find(const uint8_t *message, size_t length, size_t segment, size_t field, size_t repetition, size_t component,
                                  size_t subcomponent);
+
+/* Every leaf of a message in one call: each subcomponent of each component of each repetition of each field, in the message's order, as
+ * turrethog_find has it at that address. Each is a row of eight numbers at the front of the buffer: segment, field, repetition, component,
+ * subcomponent, state, start and end. MSH-1 and MSH-2, which are not split, are one leaf each (0, 1, 1, 1, 1 and 0, 2, 1, 1, 1); a name is no
+ * leaf. The length that comes back is the number of leaves, so that so many times eight numbers were written. `room` is in numbers: eight for
+ * each byte of the message are asked for and are always enough. 0, a reading fault, or 14 where the buffer has fewer. */
+turrethog_answer turrethog_leaves(const uint8_t *message, size_t length, uint64_t *buffer, size_t room);
 
 /* The same, and what the element says where it is present: a number (NM), a sequence number (SI), a date (DT), a time of day (TM) or a time
  * stamp (TS). Also 32, and 37 for a number of over 18 digits. */

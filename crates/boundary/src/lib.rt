@@ -5,6 +5,7 @@ mod answers;
 mod elements;
 mod framing;
 mod judges;
+mod lists;
 mod texts;
 
 pub use answers::CAnswer;

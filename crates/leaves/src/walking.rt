@@ -1,0 +1,233 @@
+// The walk along a message from leaf to leaf: the bytes that end leaves are marked, block by block, and each mark ends
+// one leaf and says what the next one's address is.
+use crate::marks::mark;
+use alphabet::BLOCK;
+use element::Address;
+ghost use mathlib.Core.Path.{_≡_};
+ghost use mathlib.Core.List.{List, [], _∷_, _++_};
+ghost use Prim.Native.Nat.{_+_, _*_, _≤_, _<_};
+ghost use lib.ListN.{length, take};
+ghost use Rattle.alphabet.specs.Filling.{over, pasted};
+ghost use Rattle.alphabet.specs.declared.answers.Check.the-variants.{Passes};
+ghost use Rattle.reading.specs.Segments.{delimitersOf};
+ghost use Rattle.reading.specs.Reading.{reading};
+ghost use Rattle.element.specs.Levels.{between};
+ghost use Rattle.leaves.specs.Leaves.{addressed, rows, leavesOf};
+ghost use Rattle.leaves.specs.Walks.{endsOf, hereIn, Plain, passed, AtMost, plainState, Marks, Stands, Writes, WritesAll};
+
+// Where a walk stands: the address of the leaf that it is in, where that begins, and where its row will stand.
+struct Walk {
+    address: Address,
+    start: usize,
+    at: usize,
+}
+
+// The state of a leaf, as its number: it has no separators, so it is empty where it has no bytes.
+fn state_number(message: &[u8], start: usize, end: usize) -> u64
+    requires { ⌜ (start ≤ end) × (end ≤ length (now message)) ⌝ }
+    ensures { λ r. ⌜ r ≡ plainState (between (now (message .entry)) start end) ⌝ }
+{
+    if start == end {
+        return 1;
+    }
+    // Only two bytes can be null: the others are not looked at.
+    if end - start != 2 {
+        return 3;
+    }
+    if alphabet::is_null(&message[start..end]) {
+        return 2;
+    }
+    3
+}
+
+// Writes a row into the buffer from `at` on.
+fn put_row(buffer: &mut [u64], at: usize, address: Address, state: u64, start: usize, end: usize)
+    requires { ⌜ at + 8 ≤ length (now buffer) ⌝ }
+    ensures { λ _. ⌜ now (buffer .exit) ≡ pasted (now (buffer .entry)) at
+        (address .segment ∷ address .field ∷ address .repetition ∷ address .component ∷ address .subcomponent
+        ∷ state ∷ start ∷ end ∷ []) ⌝ }
+{
+    buffer[at] = address.segment as u64;
+    buffer[at + 1] = address.field as u64;
+    buffer[at + 2] = address.repetition as u64;
+    buffer[at + 3] = address.component as u64;
+    buffer[at + 4] = address.subcomponent as u64;
+    buffer[at + 5] = state;
+    buffer[at + 6] = start as u64;
+    buffer[at + 7] = end as u64;
+}
+
+// Writes the row of a leaf into the buffer from `at` on, and returns the place behind it. A segment's name is no leaf,
+// and has none.
+fn put_leaf(
+    message: &[u8],
+    buffer: &mut [u64],
+    at: usize,
+    address: Address,
+    start: usize,
+    end: usize,
+) -> usize
+    requires { ⌜ (start ≤ end) × (end ≤ length (now message)) × Plain (now message) start end
+        × (at + length (rows (hereIn (now message) address start end)) ≤ length (now buffer)) ⌝ }
+    ensures { λ r. ⌜ r ≡ at + length (rows (hereIn (now (message .entry)) address start end)) ⌝ }
+    ensures { λ _. ⌜ now (buffer .exit) ≡ pasted (now (buffer .entry)) at
+        (rows (hereIn (now (message .entry)) address start end)) ⌝ }
+{
+    if address.field == 0 {
+        return at;
+    }
+    let state = state_number(message, start, end);
+    put_row(buffer, at, address, state, start, end);
+    at + 8
+}
+
+fn address_of(
+    segment: usize,
+    field: usize,
+    repetition: usize,
+    component: usize,
+    subcomponent: usize,
+) -> Address
+    ensures { λ r. ⌜ r ≡ addressed segment field repetition component subcomponent ⌝ }
+{
+    Address {
+        segment: segment,
+        field: field,
+        repetition: repetition,
+        component: component,
+        subcomponent: subcomponent,
+    }
+}
+
+// The address behind a byte that ends the leaf at an address.
+fn pass(ends: [u8; 5], b: u8, address: Address) -> Address
+    requires { ⌜ AtMost 1048576 address ⌝ }
+    ensures { λ r. ⌜ r ≡ passed ends b address ⌝ }
+{
+    let segment = address.segment;
+    let field = address.field;
+    let repetition = address.repetition;
+    let component = address.component;
+    if b == ends[1] {
+        return address_of(segment, field + 1, 1, 1, 1);
+    }
+    if b == ends[2] {
+        return address_of(segment, field, repetition, component + 1, 1);
+    }
+    if b == ends[0] {
+        return address_of(segment + 1, 0, 1, 1, 1);
+    }
+    if b == ends[3] {
+        return address_of(segment, field, repetition + 1, 1, 1);
+    }
+    address_of(
+        segment,
+        field,
+        repetition,
+        component,
+        address.subcomponent + 1,
+    )
+}
+
+// The leaves that end in a block, which goes from `place` up to `to` and has these marks: their rows are written, and
+// the walk stands in the leaf that does not end there.
+fn list_block(
+    message: &[u8],
+    buffer: &mut [u64],
+    ends: [u8; 5],
+    marks: u64,
+    place: usize,
+    to: usize,
+    walk: Walk,
+) -> Walk
+    requires { ⌜ Marks (now message) place to marks
+        × Stands (now message) (now buffer) (walk .address) (walk .start) (walk .at) place
+        × (ends ≡ endsOf (now message)) × (reading (now message) ≡ Passes) ⌝ }
+    ensures { λ r. ⌜ Stands (now (message .entry)) (now (buffer .exit)) (r .address) (r .start) (r .at) to ⌝ }
+    ensures { λ r. ⌜ Writes (now (message .entry)) (now (buffer .entry)) (walk .address) (walk .start) (walk .at)
+        (now (buffer .exit)) (r .address) (r .start) (r .at) ⌝ }
+{
+    let mut bits = marks;
+    let mut i = place;
+    let mut here = walk;
+    while bits != 0 {
+        let n = u64::trailing_zeros(bits);
+        let end = i + n as usize;
+        let at = put_leaf(message, buffer, here.at, here.address, here.start, end);
+        let b = message[end];
+        here = Walk {
+            address: pass(ends, b, here.address),
+            start: end + 1,
+            at: at,
+        };
+        bits = (bits >> n) >> 1;
+        i = end + 1;
+    }
+    here
+}
+
+// The bytes that end a leaf: CR, and the separators of fields, components, repetitions and subcomponents.
+fn ends_of(message: &[u8]) -> [u8; 5]
+    ensures { λ r. ⌜ r ≡ endsOf (now (message .entry)) ⌝ }
+{
+    let field = alphabet::byte_at(message, 3);
+    let component = alphabet::byte_at(message, 4);
+    let repetition = alphabet::byte_at(message, 5);
+    let subcomponent = alphabet::byte_at(message, 7);
+    [
+        alphabet::CARRIAGE_RETURN,
+        field,
+        component,
+        repetition,
+        subcomponent,
+    ]
+}
+
+// The end of the block that begins at `place`.
+fn block_end(length: usize, place: usize) -> usize
+    requires { ⌜ place < length ⌝ }
+    ensures { λ r. ⌜ (place < r) × (r ≤ length) × (r ≤ place + 32) ⌝ }
+{
+    if length - place < BLOCK {
+        return length;
+    }
+    place + BLOCK
+}
+
+// The rows of all leaves from the one on in which a walk stands, block by block; the place behind them.
+fn list_rest(message: &[u8], buffer: &mut [u64], walk: Walk, from: usize) -> usize
+    requires { ⌜ (from ≤ length (now message))
+        × Stands (now message) (now buffer) (walk .address) (walk .start) (walk .at) from
+        × (reading (now message) ≡ Passes) ⌝ }
+    ensures { λ r. ⌜ WritesAll (now (message .entry)) (now (buffer .entry)) (walk .address) (walk .start) (walk .at)
+        (now (buffer .exit)) r ⌝ }
+{
+    let ends = ends_of(message);
+    let mut place = from;
+    let mut here = walk;
+    while place < message.len() {
+        let to = block_end(message.len(), place);
+        let marks = mark(&message[place..to], ends);
+        here = list_block(message, buffer, ends, marks, place, to, here);
+        place = to;
+    }
+    here.at
+}
+
+// The rows of all leaves of a message, at the front of the buffer, and how many numbers they have. The two fields of MSH
+// that are not split come first; behind byte 8 the walk begins.
+pub fn list_all(message: &[u8], buffer: &mut [u64]) -> usize
+    requires { ⌜ (length (rows (leavesOf (now message))) ≤ length (now buffer)) × (reading (now message) ≡ Passes) ⌝ }
+    ensures { λ r. ⌜ r ≡ length (rows (leavesOf (now (message .entry)))) ⌝ }
+    ensures { λ _. ⌜ now (buffer .exit) ≡ over (rows (leavesOf (now (message .entry)))) (now (buffer .entry)) ⌝ }
+{
+    let encoding = address_of(0, 2, 1, 1, 1);
+    put_row(buffer, 0, address_of(0, 1, 1, 1, 1), 3, 3, 4);
+    put_row(buffer, 8, encoding, 3, 4, 8);
+    let walk = Walk {
+        address: pass(ends_of(message), message[8], encoding),
+        start: 9,
+        at: 16,
+    };
+    list_rest(message, buffer, walk, 9)
+}
