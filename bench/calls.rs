@@ -116,10 +116,9 @@ pub enum Side {
 }
 
 impl Entry {
-    /// Whether the baseline has it too. All that there is today has one; an entry point that is new in
-    /// the library is measured alone until it has.
+    /// Whether the baseline has it too; what it does not have is measured alone.
     pub fn has_baseline(self) -> bool {
-        true
+        self != Entry::Leaves
     }
 }
 
@@ -155,6 +154,11 @@ impl Job {
                 Entry::Read => Told::Answer(library::turrethog_read(at, length)),
                 Entry::Verdict => Told::Verdict(library::turrethog_verdict(at, length)),
                 Entry::Structure => Told::Structure(library::turrethog_structure(at, length)),
+                Entry::Leaves => {
+                    let mut rows = self.rows.borrow_mut();
+                    let (to, room) = (rows.as_mut_ptr(), rows.len());
+                    Told::Answer(library::turrethog_leaves(at, length, to, room))
+                }
                 Entry::CouldStand => {
                     Told::Name(library::turrethog_could_stand(at, length, LAST_NAME))
                 }
@@ -203,6 +207,7 @@ impl Job {
                 let names = names.iter().count();
                 Told::Structure(Structure { number, could_end, place, names })
             }
+            Entry::Leaves => unreachable!("the baseline lists no leaves"),
             Entry::CouldStand => Told::Name(baseline_could_stand(bytes, LAST_NAME)),
             Entry::Acknowledge => told(baseline_acknowledge(bytes, TIME, ID, buffer)),
             Entry::Escape => told(baseline_escape(&DELIMITERS, bytes, buffer)),

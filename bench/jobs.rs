@@ -3,6 +3,7 @@
 
 use crate::reports;
 use baseline::Address;
+use std::cell::RefCell;
 
 pub const DELIMITERS: [u8; 5] = *br"|^~\&";
 
@@ -51,6 +52,8 @@ pub enum Entry {
     Read,
     Verdict,
     Structure,
+    /// Every leaf, in a row of numbers.
+    Leaves,
     /// The last name that could stand where a segment is misplaced.
     CouldStand,
     Acknowledge,
@@ -75,6 +78,7 @@ impl Entry {
             Entry::Read => "read",
             Entry::Verdict => "verdict",
             Entry::Structure => "structure",
+            Entry::Leaves => "leaves",
             Entry::CouldStand => "could_stand",
             Entry::Acknowledge => "acknowledge",
             Entry::Escape => "escape",
@@ -98,6 +102,8 @@ pub struct Job {
     pub kind: &'static str,
     pub entry: Entry,
     pub bytes: Vec<u8>,
+    /// Where leaves are listed: as many numbers as are always enough.
+    pub rows: RefCell<Vec<u64>>,
 }
 
 impl Job {
@@ -203,7 +209,9 @@ impl Jobs<'_> {
         bytes: impl FnOnce() -> Vec<u8>,
     ) {
         if self.wanted.is_none_or(|wanted| wanted == row(title, kind)) {
-            self.list.push(Job { title, kind, entry, bytes: bytes() });
+            let bytes = bytes();
+            let numbers = if entry == Entry::Leaves { 8 * bytes.len() } else { 0 };
+            self.list.push(Job { title, kind, entry, bytes, rows: RefCell::new(vec![0; numbers]) });
         }
     }
 
@@ -217,6 +225,7 @@ impl Jobs<'_> {
         self.add("read", kind, Entry::Read, &message);
         self.add(BYTE_REFUSED, kind, Entry::Read, with_bad_byte);
         self.add(NAME_REFUSED, kind, Entry::Read, with_bad_name);
+        self.add("leaves", kind, Entry::Leaves, &message);
         self.add("structure", kind, Entry::Structure, &message);
         self.add(STRUCTURE_REFUSED, kind, Entry::Structure, misplaced);
         self.add("verdict", kind, Entry::Verdict, &message);

@@ -112,6 +112,12 @@ unsafe extern "C" {
         room: usize,
     ) -> Fed;
     pub fn turrethog_read(message: *const u8, length: usize) -> Answer;
+    pub fn turrethog_leaves(
+        message: *const u8,
+        length: usize,
+        buffer: *mut u64,
+        room: usize,
+    ) -> Answer;
     pub fn turrethog_find(
         message: *const u8,
         length: usize,

@@ -43,6 +43,9 @@ static uint32_t serve(void)
 #define ADDRESS bytes, length, numbers[0], numbers[1], numbers[2], numbers[3], numbers[4]
 #define TEXT DELIMITERS, bytes, length, buffer, sizeof buffer
 
+static uint64_t rows[8 * LONGEST];
+
+static uint32_t leaves_once(void) { return turrethog_leaves(bytes, length, rows, sizeof rows / sizeof rows[0]).number; }
 static uint32_t read_once(void) { return turrethog_read(bytes, length).number; }
 static uint32_t find_once(void) { return turrethog_find(ADDRESS).number; }
 static uint32_t nm_once(void) { return turrethog_nm(ADDRESS).number; }
@@ -78,6 +81,7 @@ static const struct {
     {"escape", (any_function *)turrethog_escape, escape_once},
     {"unescape", (any_function *)turrethog_unescape, unescape_once},
     {"format", (any_function *)turrethog_format, format_once},
+    {"leaves", (any_function *)turrethog_leaves, leaves_once},
     {"structure", (any_function *)turrethog_structure, structure_once},
     {"verdict", (any_function *)turrethog_verdict, verdict_once},
     {"could_stand", (any_function *)turrethog_could_stand, could_stand_once},
