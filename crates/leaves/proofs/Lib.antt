@@ -6,3 +6,4 @@ pub mod TurnLaws
 pub mod HeaderLaws
 pub mod CountLaws
 pub mod ListLaws
+pub mod SoundLaws
