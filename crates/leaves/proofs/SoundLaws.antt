@@ -13,9 +13,15 @@ use Rattle.alphabet.specs.declared.parts.Part.the-variants.{At, Absent}
 use Rattle.alphabet.proofs.ListLaws.{piece-of-piece, drop-next}
 use Rattle.alphabet.proofs.PartLaws.{part-bytes}
 use Rattle.reading.specs.Segments.{segments, segmentAt, delimitersOf}
+use Rattle.reading.specs.Reading.{reading}
+use Rattle.reading.proofs.Accepted.{accepted}
+use Rattle.alphabet.specs.Answers.{answered}
+use Rattle.alphabet.specs.declared.answers.Check.{Check}
+use Rattle.alphabet.specs.declared.answers.Check.the-variants.{Passes}
+use Rattle.element.specs.declared.Found.{Found}
 use Rattle.reading.proofs.SegmentLaws.{segment-bytes}
 use Rattle.element.specs.Levels.{between, moved, partIn, fieldIn, below, repetitionAt, componentAt, subcomponentAt, fieldAt, fixed, unsplit, elementAt}
-use Rattle.element.specs.Finding.{elementIn, elementOf, found, lookupCheck, isAbsent}
+use Rattle.element.specs.Finding.{elementIn, elementOf, elementIf, found, lookupCheck, isAbsent}
 use Rattle.element.specs.declared.Element.{Element}
 use Rattle.element.specs.declared.states.State.{State}
 use Rattle.element.specs.States.{stateOf}
@@ -205,3 +211,63 @@ module _ (m : List ℕ) where
       let n : j ≡ 0 + j = omega arith in
       subst (λ (x : ℕ). Every (FoundAt m) (inSegment ds x s (getD (segments m) j []))) n
       (subst (λ (p : List ℕ). Every (FoundAt m) (inSegment ds j s p)) (b .3) (segment-found long j s e w (b .1) (omega arith))))
+
+-- ---- no address of a leaf is refused
+
+module _ (m : List ℕ) (ok : reading m ≡ Passes) where
+  abbrev Asked : Leaf → Type 0
+  Asked l = lookupCheck m (l .address) ≡ Passes
+
+  module _ (g : ℕ) (there : isAbsent (segmentAt m g) ≡ false) where
+    asked : (f r c u : ℕ) → 1 ≤ f → 1 ≤ r → 1 ≤ c → 1 ≤ u → lookupCheck m (addressed g f r c u) ≡ Passes
+    unfolding lookupCheck
+    asked f r c u hf hr hc hu = rw (ok, le-leb 1 f hf, le-leb 1 r hr, le-leb 1 c hc, there)
+
+    asked-component : (f r c at : ℕ) (l : List ℕ) → 1 ≤ f → 1 ≤ r → 1 ≤ c → Every Asked (inComponent (delimitersOf m) g f r c at l)
+    unfolding inComponent
+    asked-component f r c at l hf hr hc = every-each Asked (subcomponentLeaf (delimitersOf m) g f r c) 1 at (split (getD (delimitersOf m) 4 0) l) (λ j s e q. (asked f r c (1 + j) hf hr hc (omega arith), tt))
+
+    asked-repetition : (f r at : ℕ) (l : List ℕ) → 1 ≤ f → 1 ≤ r → Every Asked (inRepetition (delimitersOf m) g f r at l)
+    unfolding inRepetition
+    asked-repetition f r at l hf hr = every-each Asked (inComponent (delimitersOf m) g f r) 1 at (split (getD (delimitersOf m) 1 0) l) (λ j s e q. asked-component f r (1 + j) s _ hf hr (omega arith))
+
+    asked-field : (f at : ℕ) (l : List ℕ) → 1 ≤ f → Every Asked (inField (delimitersOf m) g f at l)
+    unfolding inField
+    asked-field f at l hf = every-each Asked (inRepetition (delimitersOf m) g f) 1 at (split (getD (delimitersOf m) 2 0) l) (λ j s e q. asked-repetition f (1 + j) s _ hf (omega arith))
+
+  asked-part : (g f at : ℕ) (l : List ℕ) → isAbsent (segmentAt m g) ≡ false → (g ≡ 0 → 1 ≤ f) → Every Asked (inPart (delimitersOf m) g f at l)
+  unfolding inPart
+  asked-part zero f at l t h = by (eqb f 1) (eqb f 2)
+    where
+      by : (u v : Bool) → Every Asked (cond u (leafAt (delimitersOf m) (addressed 0 1 1 1 1) 3 (getD (delimitersOf m) 0 0 ∷ []) ∷ []) (cond v (leafAt (delimitersOf m) (addressed 0 2 1 1 1) at l ∷ []) (inField (delimitersOf m) 0 f at l)))
+      by true v = (asked 0 t 1 1 1 1 (omega arith) (omega arith) (omega arith) (omega arith), tt)
+      by false true = (asked 0 t 2 1 1 1 (omega arith) (omega arith) (omega arith) (omega arith), tt)
+      by false false = asked-field 0 t f at l (h refl)
+  asked-part (suc g) zero at l t h = rw (ne-eqb (suc g) 0 (λ z. omega arith)) tt
+  asked-part (suc g) (suc f) at l t h = rw (ne-eqb (suc g) 0 (λ z. omega arith), ne-eqb (suc f) 0 (λ z. omega arith)) (asked-field (suc g) t (suc f) at l (omega arith))
+
+  asked-segment : (g at : ℕ) (l : List ℕ) → isAbsent (segmentAt m g) ≡ false → Every Asked (inSegment (delimitersOf m) g at l)
+  unfolding inSegment
+  asked-segment zero at l t = every-each Asked (inPart (delimitersOf m) 0) 1 at (split (getD (delimitersOf m) 0 0) l) (λ j s e q. asked-part 0 (1 + j) s _ t (λ z. omega arith))
+  asked-segment (suc g) at l t =
+      rw (ne-eqb (suc g) 0 (λ z. omega arith))
+      (every-each Asked (inPart (delimitersOf m) (suc g)) 0 at (split (getD (delimitersOf m) 0 0) l) (λ j s e q. asked-part (suc g) (0 + j) s _ t (λ z. absurd (omega arith))))
+
+  pub leaves-asked : Every Asked (leavesOf m)
+  unfolding leavesOf segmentAt
+  leaves-asked =
+      every-each Asked (inSegment (delimitersOf m)) 0 0 (segments m)
+      (λ j s e w. let n : j ≡ 0 + j = omega arith in subst (λ (x : ℕ). Every Asked (inSegment (delimitersOf m) x s (getD (segments m) j []))) n (asked-segment j s _ (ap isAbsent w)))
+
+  every-both : (P Q R : Leaf → Type 0) → ((l : Leaf) → P l → Q l → R l) → (ls : List Leaf) → Every P ls → Every Q ls → Every R ls
+  every-both P Q R f [] a b = tt
+  every-both P Q R f (l ∷ ls) a b = (f l (a .0) (b .0), every-both P Q R f ls (a .1) (b .1))
+
+  -- what `find` answers at the address of a leaf: nothing is refused, and the element is the leaf's
+  pub find-says : Every (λ (l : Leaf). found m (l .address) ≡ record { answer = answered Passes; element = l .element }) (leavesOf m)
+  unfolding found
+  find-says =
+      let n = accepted m ok .opened .nine-bytes in
+      every-both (FoundAt m) Asked (λ (l : Leaf). found m (l .address) ≡ record { answer = answered Passes; element = l .element })
+      (λ l p q. ap (λ (c : Check). record { answer = answered c; element = elementIf c (elementOf m (l .address)) }) q ∙ ap (λ (x : Element). record { answer = answered Passes; element = x }) p)
+      (leavesOf m) (leaves-found m (omega arith)) leaves-asked
