@@ -7,6 +7,7 @@ pub mod LevelStarts
 pub mod LevelBytes
 pub mod Asking
 pub mod FoundLaws
+pub mod LeafLaws
 pub mod HeaderElements
 pub mod ValueLaws
 pub mod ValueBytes
