@@ -73,27 +73,26 @@ standing-moved by at (p ∷ ps) (suc k) =
     ap (λ (i : ℕ). standing i ps k) n ∙ standing-moved by (at + length p + 1) ps k
 
 -- a part of the message stands at s and has these bytes
-record Stands (m : List ℕ) (p : Part) (s : ℕ) (bytes : List ℕ) : Type 0 where
-  place : p ≡ At s (s + length bytes)
-  within : Within m p
-  holds : partBytes m p ≡ bytes
+pub record Stands (m : List ℕ) (p : Part) (s : ℕ) (bytes : List ℕ) : Type 0 where
+  pub place : p ≡ At s (s + length bytes)
+  pub within : Within m p
+  pub holds : partBytes m p ≡ bytes
 
 module _ (m : List ℕ) where
   -- a part of it stands where the split says
+  pub part-standing : (sep : ℕ) {p : Part} {s : ℕ} {bytes : List ℕ} → Stands m p s bytes → (j : ℕ) → partIn sep m p j ≡ standing s (split sep bytes) j
+  unfolding partIn partAt
+  part-standing sep {p} {s} {bytes} h j =
+      let inside : between m s (s + length bytes) ≡ bytes = ap (partBytes m) (sym (h .place)) ∙ h .holds in
+      ap (λ (q : Part). partIn sep m q j) (h .place) ∙ ap (λ (b : List ℕ). moved s (standing 0 (split sep b) j)) inside ∙ sym (standing-moved s 0 (split sep bytes) j)
+      ∙ ap (λ (i : ℕ). standing i (split sep bytes) j) (add-zero s)
+
   stands-in : (sep : ℕ) {p : Part} {s : ℕ} {bytes : List ℕ} → Stands m p s bytes → (j t : ℕ) → standing s (split sep bytes) j ≡ At t (t + length (getD (split sep bytes) j []))
       → Stands m (partIn sep m p j) t (getD (split sep bytes) j [])
-  unfolding partIn partAt
   stands-in sep {p} {s} {bytes} h j t e = record {
-    place = ap (λ (q : Part). partIn sep m q j) (h .place) ∙ parted ∙ e;
-    within = within-in sep m p j (h .within);
-    holds = part-in-bytes sep m p j (h .within) ∙ ap (λ (b : List ℕ). getD (split sep b) j []) (h .holds);
-  }
-    where
-      inside : between m s (s + length bytes) ≡ bytes
-      inside = ap (partBytes m) (sym (h .place)) ∙ h .holds
-
-      parted : partIn sep m (At s (s + length bytes)) j ≡ standing s (split sep bytes) j
-      parted = ap (λ (b : List ℕ). moved s (standing 0 (split sep b) j)) inside ∙ sym (standing-moved s 0 (split sep bytes) j) ∙ ap (λ (i : ℕ). standing i (split sep bytes) j) (add-zero s)
+      place = part-standing sep h j ∙ e;
+      within = within-in sep m p j (h .within);
+      holds = part-in-bytes sep m p j (h .within) ∙ ap (λ (b : List ℕ). getD (split sep b) j []) (h .holds) }
 
   -- the same by its number, from 1
   stands-below : (sep : ℕ) (p : Part) {t : ℕ} {q : List ℕ} (j : ℕ) → Stands m (partIn sep m p j) t q → Stands m (below sep m p (1 + j)) t q
@@ -109,13 +108,13 @@ module _ (m : List ℕ) where
 
 module _ (m : List ℕ) (ok : reading m ≡ Passes) where
   -- what a lookup says at its address
-  abbrev Right : Leaf → Type 0
+  abbrev pub Right : Leaf → Type 0
   Right l = found m (l .address) ≡ record { answer = answered Passes; element = l .element }
 
   abbrev ds : List ℕ
   ds = delimitersOf m
 
-  leaf-right : (a : Address) (at : ℕ) (bytes : List ℕ) → Asks a → a .segment < length (segments m) → Stands m (elementAt m a) at bytes → Right (leafAt (delimitersOf m) a at bytes)
+  pub leaf-right : (a : Address) (at : ℕ) (bytes : List ℕ) → Asks a → a .segment < length (segments m) → Stands m (elementAt m a) at bytes → Right (leafAt (delimitersOf m) a at bytes)
   unfolding elementOf
   leaf-right a at bytes asks stood h =
       sym (found-passes m a Passes (sym (lookup-passes m a (answered-exactly m a .1 (ok, asks, stood)))) refl)
@@ -167,10 +166,10 @@ module _ (m : List ℕ) (ok : reading m ≡ Passes) where
           let d = eqb-false f 0 e in
           field-right s f stood (omega arith) (rw (ne-eqb s 0 ne)) at bytes (subst (λ (p : Part). Stands m p at bytes) (sym (field-other m s (segmentAt m s) f ne)) h)
 
-  four : 4 ≤ length m
+  pub four : 4 ≤ length m
   four = let n = accepted m ok .opened .nine-bytes in omega arith
 
-  separator-stands : Stands m (elementAt m (addressed 0 1 1 1 1)) 3 (getD m 3 0 ∷ [])
+  pub separator-stands : Stands m (elementAt m (addressed 0 1 1 1 1)) 3 (getD m 3 0 ∷ [])
   unfolding elementAt unsplit fieldIn
   separator-stands = record { place = refl; within = (omega arith, four); holds = one-byte m four }
 
