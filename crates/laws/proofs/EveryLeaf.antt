@@ -1,14 +1,14 @@
 -- Every element that is asked for by a full address, and that is there, is one of the message's leaves: `leaf-found` the other way. Assumes nothing.
-use mathlib.Core.Path.{_≡_, refl, sym, ap, ap₂, subst, subst₂, _∙_}
-use mathlib.Core.Bool.{Bool, true, false, cond, _&&_}
+use mathlib.Core.Path.{_≡_, refl, sym, ap, subst, subst₂, _∙_}
+use mathlib.Core.Bool.{Bool, true, false, _&&_}
 use mathlib.Core.List.{List, [], _∷_, _++_}
-use Prim.Native.Nat.{ℕ, zero, suc, _+_, _-_, _≤_, _<_}
+use mathlib.Core.Logic.{_↔_}
+use Prim.Native.Nat.{ℕ, zero, suc, _+_, _-_, _≤_}
 use native.Mathlib.Nat.{add-zero}
 use native.Mathlib.Omega.{arith}
 use lib.Dec.{eqb, leb}
 use lib.ListN.{length, getD}
-use borrow.Author.Tests.{eqb-true, eqb-false, eq-eqb, ne-eqb, leb-true, leb-false, le-leb}
-use Rattle.alphabet.specs.Answers.{answered}
+use borrow.Author.Tests.{eqb-true, ne-eqb, leb-true, leb-false, le-leb}
 use Rattle.alphabet.specs.Parts.{split, standing}
 use Rattle.alphabet.specs.declared.answers.Check.the-variants.{Passes}
 use Rattle.alphabet.specs.declared.answers.Refusal.the-variants.{None}
@@ -25,12 +25,12 @@ use Rattle.element.specs.declared.Found.{Found}
 use Rattle.element.specs.declared.address.Address.{Address}
 use Rattle.element.specs.declared.states.State.the-variants.{Absent as no-part}
 use Rattle.element.proofs.LevelLaws.{Within, between-length, within-in, within-below, within-segment, within-field, within-element, in-absent, below-split, field-header, field-other, element-split, element-unsplit, unsplit-more}
-use Rattle.leaves.specs.Leaves.{Leaf, addressed, leafAt, each, subcomponentLeaf, inComponent, inRepetition, inField, headerPart, inPart, inSegment, leavesOf}
+use Rattle.leaves.specs.Leaves.{Leaf, addressed, leafAt, each, subcomponentLeaf, inComponent, inRepetition, inField, inPart, inSegment, leavesOf}
 use Rattle.laws.specs.Elements.{Asks, whole-field, whole-repetition, whole-component, subcomponent}
-use Rattle.laws.specs.Listing.{In, here, there}
+use Rattle.laws.specs.Listing.{In, here, there, FoundAt}
 use Rattle.laws.proofs.Asking.{answered-exactly}
 use Rattle.laws.proofs.FoundLaws.{absent-nowhere, segment-stands}
-use Rattle.laws.proofs.LeafLaws.{Stands, part-standing, leaf-right, four, separator-stands}
+use Rattle.laws.proofs.LeafLaws.{Stands, part-standing, leaf-right, leaf-found-at, four}
 use Rattle.laws.proofs.HeaderFields.{one-byte}
 use Rattle.laws.proofs.RawLaws.{part-in-bytes, segment-part-bytes}
 
@@ -169,8 +169,8 @@ module _ (m : List ℕ) (ok : reading m ≡ Passes) where
       let n : f ≡ 0 + f = omega arith in
       let k : In l (inPart ds s f (begin (fieldIn m s (segmentAt m s) f)) (partBytes m (fieldIn m s (segmentAt m s) f))) = rw (ne-eqb s 0 ne, ne-eqb f 0 (λ z. omega arith)) i in
       let part : In l (each (inPart ds s) 0 (begin (segmentAt m s)) (split (fieldSeparator m) (partBytes m (segmentAt m s))))
-          = part-listed m (fieldSeparator m) (segmentAt m s) (within-segment m s) (above-in m (fieldSeparator m) (segmentAt m s) f (λ e. g (q ∙ e))) f (λ e. g (q ∙ e)) l (inPart ds s) 0
-            (subst₂ (λ (x : ℕ) (y : Part). In l (inPart ds s x (begin y) (partBytes m y))) n q k) in
+      = part-listed m (fieldSeparator m) (segmentAt m s) (within-segment m s) (above-in m (fieldSeparator m) (segmentAt m s) f (λ e. g (q ∙ e))) f (λ e. g (q ∙ e)) l (inPart ds s) 0
+      (subst₂ (λ (x : ℕ) (y : Part). In l (inPart ds s x (begin y) (partBytes m y))) n q k) in
       rw (ne-eqb s 0 ne) part
 
   -- a part of MSH
@@ -271,6 +271,16 @@ found-listed m a done n here-is =
     let x = answered-exactly m a .0 done in
     let ok = x .0 in
     let g : elementAt m a ≡ Absent → ⊥ = (λ q. here-is (absent-nowhere m a done .1 q)) in
-    let right = leaf-right m ok a _ _ (x .1) (x .2) (stands-there m (elementAt m a) (within-element m a (four m ok)) g) in
-    subst (λ (e : Element). In (record { address = a; element = e }) (leavesOf m)) (sym (ap (λ (y : Found). y .element) right))
+    let right = leaf-right m ok a _ _ (x .1) n (x .2) (stands-there m (elementAt m a) (within-element m a (four m ok)) g) in
+    subst (λ (e : Element). In (record { address = a; element = e }) (leavesOf m)) (sym (ap (λ (y : Found). y .element) (right .looked-up)))
     (asked-listed m ok (x .1) n (segment-stands m a done) g)
+
+-- the leaves of a message are exactly the elements that full addresses find
+pub leaf-exactly : (m : List ℕ) → reading m ≡ Passes → (l : Leaf) → In l (leavesOf m) ↔ FoundAt m l
+leaf-exactly m ok l = (leaf-found-at m ok l, back)
+  where
+    back : FoundAt m l → In l (leavesOf m)
+    back h =
+        let same : found m (l .address) .element ≡ l .element = ap (λ (y : Found). y .element) (h .looked-up) in
+        subst (λ (e : Element). In (record { address = l .address; element = e }) (leavesOf m)) same
+        (found-listed m (l .address) (ap (λ (y : Found). y .answer .kind) (h .looked-up)) (h .full) (λ q. h .not-absent (ap (λ (e : Element). e .state) (sym same) ∙ q)))
