@@ -30,7 +30,7 @@ use Rattle.laws.proofs.LevelBytes.{level-bytes, element-begins, past-ex
 use Rattle.laws.proofs.LevelStarts.{Begins}
 
 -- bytes that are there are not absent
-means-there : (ds bytes : List ℕ) (s : State) → Means ds bytes s → s ≡ no-part → ⊥
+pub means-there : (ds bytes : List ℕ) (s : State) → Means ds bytes s → s ≡ no-part → ⊥
 means-there ds bytes s (null p) e = let z : _≡_ {A = ℕ} 0 1 = cc in omega arith
 means-there ds bytes s (empty p q) e = let z : _≡_ {A = ℕ} 0 1 = cc in omega arith
 means-there ds bytes s (present p q) e = let z : _≡_ {A = ℕ} 0 1 = cc in omega arith

@@ -6,6 +6,8 @@ pub mod LevelStarts
 pub mod LevelBytes
 pub mod Asking
 pub mod FoundLaws
+pub mod LeafLaws
+pub mod EveryLeaf
 pub mod HeaderElements
 pub mod ValueLaws
 pub mod ValueBytes

@@ -1,5 +1,6 @@
 pub mod Means
 pub mod Elements
+pub mod Listing
 pub mod Held
 pub mod Entries
 pub mod Types

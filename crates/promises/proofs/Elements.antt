@@ -16,12 +16,15 @@ use Rattle.element.specs.Levels.{between, elementAt}
 use Rattle.element.specs.States.{stateOf}
 use Rattle.element.specs.declared.address.Address.{Address}
 use Rattle.element.specs.declared.states.State.the-variants.{Absent as IsAbsent, Present as IsPresent}
+use Rattle.leaves.specs.Leaves.{Leaf, leavesOf}
 use Rattle.laws.specs.Elements.{Asks, levels, startOf, Past, SplitFurther, NoneBeyondOne}
 use Rattle.laws.specs.Held.{JudgedByElements}
+use Rattle.laws.specs.Listing.{In, FoundAt}
 use Rattle.laws.specs.Means.{Means}
 use Rattle.laws.proofs.Agreement.{judged-by-elements}
 use Rattle.laws.proofs.Asking.{answered-exactly, refused-exactly}
 use Rattle.laws.proofs.ElementLaws.{state-means}
+use Rattle.laws.proofs.EveryLeaf.{leaf-exactly}
 use Rattle.laws.proofs.FoundLaws.{element-is, stands-within, shown-is, bytes-by-levels, absent-by-levels, state-by-levels, place-by-levels}
 use Rattle.laws.proofs.HeaderElements.{separator-found, encoding-found, separator-place, encoding-place, more-absent}
 use Rattle.promises.specs.Elements.{StateIs, absent, stands}
@@ -86,6 +89,11 @@ module _ (m : List ℕ) (a : Address) (done : found m a .answer .kind ≡ None) 
   -- "more is absent)"
   pub no-more-parts : a .segment ≡ 0 → a .field ≤ 2 → (NoneBeyondOne a → ⊥) → found m a .element .state ≡ IsAbsent
   no-more-parts = more-absent m a done
+
+-- ---- the list of all leaves has no answers of its own: its rows are exactly what a lookup finds at full addresses, where nothing is refused or absent
+
+pub leaves-exactly : (m : List ℕ) → reading m ≡ Passes → (l : Leaf) → In l (leavesOf m) ↔ FoundAt m l
+leaves-exactly = leaf-exactly
 
 -- ---- the field judge reads the same: what it looks at in each segment are the elements that a lookup finds there
 
