@@ -6,4 +6,3 @@ pub mod TurnLaws
 pub mod HeaderLaws
 pub mod CountLaws
 pub mod ListLaws
-pub mod SoundLaws
