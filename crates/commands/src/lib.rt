@@ -23,6 +23,9 @@ pub const REFUSED: u8 = 1;
 // The command was not understood, a file could not be read, or what was to be printed could not be written.
 pub const TROUBLE: u8 = 2;
 
+// As many numbers as the leaves of the longest message (`wording::LONGEST_MESSAGE`) may need: eight for each byte.
+const ROWS_ROOM: usize = 524_288;
+
 // The output as it is behind a command, and the status that the command comes to.
 pub struct Outcome {
     pub out: Output,
@@ -72,6 +75,12 @@ fn check(out: Output, name: &[u8], message: &[u8]) -> Outcome {
     }
 }
 
+// Room for the rows of the leaves of a message: eight numbers for each of its bytes. By a call of its own it is no list
+// of so many numbers in the caller's proof.
+fn room_for_rows() -> [u64; ROWS_ROOM] {
+    [0; ROWS_ROOM]
+}
+
 // `show`: every segment of a message. `room` is lent for the text of each part.
 fn show(out: Output, name: &[u8], message: &[u8], room: &mut [u8]) -> Outcome {
     let answer = reading::read(message);
@@ -79,7 +88,7 @@ fn show(out: Output, name: &[u8], message: &[u8], room: &mut [u8]) -> Outcome {
     if alphabet::number(kind) != 0 {
         return refuse_message(out, name, message);
     }
-    let shown = showing::show(out, message, room);
+    let shown = showing::show(out, message, room, &mut room_for_rows());
     Outcome {
         out: shown,
         status: DONE,

@@ -1,18 +1,34 @@
-// `show`: every segment of a message and its parts, down to those that are split no further, each with its address, its
-// state and its text. The message is walked once: each level hands its parts on to the level below. A result of
-// formatted text is laid out in lines below its address. `lines` lays out one element.
+// `show`: every segment of a message and its leaves, the parts that are split no further, each with its address, its
+// state and its text. The leaves come as rows of numbers, of which nothing is assumed, and an address tells the levels
+// that are split. A result of formatted text is laid out in lines below its address. `lines` lays out one element.
 use alphabet::Delimiters;
 use alphabet::Part;
 use alphabet::Refusal;
 use element::Address;
 use element::Element;
 use element::State;
+use places::Segment;
 use terminal::Output;
-ghost use Prim.Native.Nat.{_≤_, _+_};
-ghost use lib.ListN.{length};
 
 // The column in which the state of each part stands.
 const COLUMN: usize = 16;
+
+// How many numbers a leaf's row has.
+const ROW: usize = 8;
+
+// Which parts around a leaf are split: its field into repetitions, its repetition into components, and its component
+// into subcomponents.
+struct Split {
+    repetitions: bool,
+    components: bool,
+    subcomponents: bool,
+}
+
+// The output as it is behind the leaves of a segment, and where the rows of the next one begin.
+struct Shown {
+    out: Output,
+    at: usize,
+}
 
 // What came of laying out an element: the output, and the refusal and its place where it has no lines.
 pub struct Laid {
@@ -32,50 +48,105 @@ fn field_address(number: usize) -> Address {
     }
 }
 
-// The address of a repetition of a field. One that stands alone has 0, which is left out, and so it is on each level.
-fn repetition_address(above: Address, is_split: bool, number: usize) -> Address {
-    Address {
-        segment: above.segment,
-        field: above.field,
-        repetition: if is_split { number } else { 0 },
-        component: 0,
-        subcomponent: 0,
+// One of the eight numbers of the row that begins at a place, and 0 where there is no such row.
+fn number_at(rows: &[u64], at: usize, column: usize) -> usize {
+    if rows.len() <= at {
+        return 0;
     }
+    if rows.len() - at <= column {
+        return 0;
+    }
+    rows[at + column] as usize
 }
 
-// The address of a component of a repetition.
-fn component_address(above: Address, is_split: bool, number: usize) -> Address {
-    Address {
-        segment: above.segment,
-        field: above.field,
-        repetition: above.repetition,
-        component: if is_split { number } else { 0 },
-        subcomponent: 0,
+// The level of the largest part that begins with a row: 1 for a field, 2 for a repetition, 3 for a component, and 4 for
+// a subcomponent, which always does.
+fn level_at(rows: &[u64], at: usize) -> usize {
+    if number_at(rows, at, 4) != 1 {
+        return 4;
     }
+    if number_at(rows, at, 3) != 1 {
+        return 3;
+    }
+    if number_at(rows, at, 2) != 1 {
+        return 2;
+    }
+    1
 }
 
-// The address of a subcomponent of a component, which is told where its subcomponents are: PID-5.1.2, also where it
-// stands alone.
-fn subcomponent_address(above: Address, is_split: bool, number: usize) -> Address {
-    if !is_split {
-        return above;
+// Whether the part of a level that begins with the row at a place has several parts of the level below it: the next row
+// that begins one of that level, or of one above, is in the same part where it begins no more than that.
+fn is_split(rows: &[u64], at: usize, below: usize) -> bool {
+    if rows.len() <= at {
+        return false;
     }
-    Address {
-        segment: above.segment,
-        field: above.field,
-        repetition: above.repetition,
-        component: if above.component == 0 {
-            1
+    let mut next = at + ROW;
+    while next < rows.len() && below < level_at(rows, next) {
+        next += ROW;
+    }
+    (next < rows.len()) & (level_at(rows, next) == below)
+}
+
+// Which parts of a row's leaf are split. What is known of a part is known for all of its rows, so that no row is looked
+// at more than once for each level.
+fn split_at(rows: &[u64], at: usize, before: Split) -> Split {
+    let level = level_at(rows, at);
+    Split {
+        repetitions: if level <= 1 {
+            is_split(rows, at, 2)
         } else {
-            above.component
+            before.repetitions
         },
-        subcomponent: number,
+        components: if level <= 2 {
+            is_split(rows, at, 3)
+        } else {
+            before.components
+        },
+        subcomponents: if level <= 3 {
+            is_split(rows, at, 4)
+        } else {
+            before.subcomponents
+        },
     }
 }
 
-// Whether a separator stands in bytes.
-fn holds(bytes: &[u8], separator: u8) -> bool {
-    alphabet::find(bytes, separator) < bytes.len()
+// The address of a row's leaf. A repetition or component that stands alone has 0, which is left out; but a component is
+// told where its subcomponents are: PID-5.1.2, also where it stands alone.
+fn address_at(rows: &[u64], at: usize, split: Split) -> Address {
+    Address {
+        segment: 0,
+        field: number_at(rows, at, 1),
+        repetition: if split.repetitions {
+            number_at(rows, at, 2)
+        } else {
+            0
+        },
+        component: if split.components | split.subcomponents {
+            number_at(rows, at, 3)
+        } else {
+            0
+        },
+        subcomponent: if split.subcomponents {
+            number_at(rows, at, 4)
+        } else {
+            0
+        },
+    }
+}
+
+// The state of a row's leaf.
+fn state_at(rows: &[u64], at: usize) -> State {
+    let state = number_at(rows, at, 5);
+    if state == 0 {
+        return State::Absent;
+    }
+    if state == 1 {
+        return State::Empty;
+    }
+    if state == 2 {
+        return State::Null;
+    }
+    State::Present
 }
 
 // Prints bytes as they were sent, and why they say no text.
@@ -134,10 +205,10 @@ fn show_leaf(
     delimiters: Delimiters,
     segment: &[u8],
     address: Address,
+    state: State,
     bytes: &[u8],
     room: &mut [u8],
 ) -> Output {
-    let state = element::state_of(delimiters, bytes);
     let out = print_front(out, segment, address, state);
     let State::Present = state else {
         return terminal::end_line(wording::print_behind(out, bytes));
@@ -148,112 +219,46 @@ fn show_leaf(
     terminal::end_line(print_text(out, delimiters, bytes, room))
 }
 
-// Shows a component by its subcomponents.
-fn show_component(
+// Shows the leaf of a row, of a segment with these bytes.
+fn show_row(
     out: Output,
-    delimiters: Delimiters,
+    message: &[u8],
     segment: &[u8],
-    address: Address,
-    bytes: &[u8],
+    rows: &[u64],
+    at: usize,
+    split: Split,
     room: &mut [u8],
 ) -> Output {
-    let separators = delimiters.bytes;
-    let separator = separators[4];
-    let is_split = holds(bytes, separator);
-    let mut shown = out;
-    let mut number = 1;
-    let mut start = 0;
-    while start <= bytes.len() {
-        let end = places::part_end(bytes, separator, start);
-        let part = subcomponent_address(address, is_split, number);
-        shown = show_leaf(shown, delimiters, segment, part, &bytes[start..end], room);
-        start = end + 1;
-        number += 1;
-    }
-    shown
+    let delimiters = reading::delimiters_of(message);
+    let address = address_at(rows, at, split);
+    let state = state_at(rows, at);
+    let bytes = places::piece(message, number_at(rows, at, 6), number_at(rows, at, 7));
+    show_leaf(out, delimiters, segment, address, state, bytes, room)
 }
 
-// Shows a repetition by its components.
-fn show_repetition(
+// Shows the leaves of a segment, whose rows begin at a place.
+fn show_leaves(
     out: Output,
-    delimiters: Delimiters,
-    segment: &[u8],
-    address: Address,
-    bytes: &[u8],
+    message: &[u8],
+    segment: Segment,
+    rows: &[u64],
+    from: usize,
     room: &mut [u8],
-) -> Output {
-    let separators = delimiters.bytes;
-    let separator = separators[1];
-    let is_split = holds(bytes, separator);
+) -> Shown {
+    let bytes = places::piece(message, segment.start, segment.end);
     let mut shown = out;
-    let mut number = 1;
-    let mut start = 0;
-    while start <= bytes.len() {
-        let end = places::part_end(bytes, separator, start);
-        let part = component_address(address, is_split, number);
-        shown = show_component(shown, delimiters, segment, part, &bytes[start..end], room);
-        start = end + 1;
-        number += 1;
+    let mut split = Split {
+        repetitions: false,
+        components: false,
+        subcomponents: false,
+    };
+    let mut at = from;
+    while at < rows.len() && number_at(rows, at, 0) == segment.number {
+        split = split_at(rows, at, split);
+        shown = show_row(shown, message, bytes, rows, at, split, room);
+        at += ROW;
     }
-    shown
-}
-
-// Shows a field by its repetitions.
-fn show_field(
-    out: Output,
-    delimiters: Delimiters,
-    segment: &[u8],
-    address: Address,
-    bytes: &[u8],
-    room: &mut [u8],
-) -> Output {
-    let separators = delimiters.bytes;
-    let separator = separators[2];
-    let is_split = holds(bytes, separator);
-    let mut shown = out;
-    let mut number = 1;
-    let mut start = 0;
-    while start <= bytes.len() {
-        let end = places::part_end(bytes, separator, start);
-        let part = repetition_address(address, is_split, number);
-        shown = show_repetition(shown, delimiters, segment, part, &bytes[start..end], room);
-        start = end + 1;
-        number += 1;
-    }
-    shown
-}
-
-// Shows the fields of a segment that stand from a place on, of which the first has a number.
-fn show_fields(
-    out: Output,
-    delimiters: Delimiters,
-    segment: &[u8],
-    place: usize,
-    first: usize,
-    room: &mut [u8],
-) -> Output
-    requires { ⌜ first ≤ place ⌝ }
-{
-    let separators = delimiters.bytes;
-    let separator = separators[0];
-    let mut shown = out;
-    let mut number = first;
-    let mut start = place;
-    while start <= segment.len() {
-        let end = places::part_end(segment, separator, start);
-        let address = field_address(number);
-        shown = show_field(
-            shown,
-            delimiters,
-            segment,
-            address,
-            &segment[start..end],
-            room,
-        );
-        start = end + 1;
-        number += 1;
-    }
-    shown
+    Shown { out: shown, at: at }
 }
 
 // Shows a field of the header that is never split: the field separator, or the four delimiters behind it.
@@ -263,38 +268,67 @@ fn show_delimiters(out: Output, segment: &[u8], number: usize, start: usize, end
     terminal::end_line(out)
 }
 
-// Shows a segment. The fields of MSH, the first, are counted from the separator itself, so that its third begins at
-// byte 9.
+// Shows a segment, whose rows begin at a place. The first two of all are the delimiters that MSH holds, which are shown
+// as they are.
 fn show_segment(
     out: Output,
-    delimiters: Delimiters,
-    number: usize,
-    segment: &[u8],
+    message: &[u8],
+    segment: Segment,
+    rows: &[u64],
+    at: usize,
     room: &mut [u8],
-) -> Output {
-    let out = terminal::print_counted(out, b"", number, b" ");
-    let out = terminal::print_line(out, places::piece(segment, 0, 3));
-    if number == 0 {
-        let out = show_delimiters(out, segment, 1, 3, 4);
-        let out = show_delimiters(out, segment, 2, 4, 8);
-        return show_fields(out, delimiters, segment, 9, 3, room);
+) -> Shown {
+    let bytes = places::piece(message, segment.start, segment.end);
+    let out = terminal::print_counted(out, b"", segment.number, b" ");
+    let out = terminal::print_line(out, places::piece(bytes, 0, 3));
+    if segment.number == 0 {
+        let out = show_delimiters(out, bytes, 1, 3, 4);
+        let out = show_delimiters(out, bytes, 2, 4, 8);
+        return show_leaves(out, message, segment, rows, 2 * ROW, room);
     }
-    show_fields(out, delimiters, segment, 4, 1, room)
+    show_leaves(out, message, segment, rows, at, room)
 }
 
-// Shows the segments of a message that was read. `room` is lent for the text of each part.
-pub fn show(out: Output, message: &[u8], room: &mut [u8]) -> Output {
-    let delimiters = reading::delimiters_of(message);
+// Shows the segments of a message by the rows of its leaves. Segments are counted here and not by the rows, since one
+// that is a name alone has none.
+fn show_segments(out: Output, message: &[u8], rows: &[u64], room: &mut [u8]) -> Output {
     let mut shown = out;
+    let mut at = 0;
     let mut number = 0;
     let mut start = 0;
     while start < message.len() {
         let end = places::part_end(message, alphabet::CARRIAGE_RETURN, start);
-        shown = show_segment(shown, delimiters, number, &message[start..end], room);
+        let segment = Segment {
+            number: number,
+            start: start,
+            end: end,
+        };
+        let done = show_segment(shown, message, segment, rows, at, room);
+        shown = done.out;
+        at = done.at;
         start = end + 1;
         number += 1;
     }
     shown
+}
+
+// The rows at the front of a buffer, where it has room for as many.
+fn first_rows(buffer: &[u64], count: usize) -> &[u64] {
+    if buffer.len() / ROW < count {
+        return &buffer[..0];
+    }
+    &buffer[..count * ROW]
+}
+
+// Shows the segments of a message that was read. `room` is lent for the text of each part, and `buffer` for the rows of
+// the leaves: eight numbers for each byte of the message. Without that room nothing is shown.
+pub fn show(out: Output, message: &[u8], room: &mut [u8], buffer: &mut [u64]) -> Output {
+    let answer = leaves::list(message, buffer);
+    let kind = answer.kind;
+    if alphabet::number(kind) != 0 {
+        return out;
+    }
+    show_segments(out, message, first_rows(buffer, answer.length), room)
 }
 
 // Shows one element of a message that was read: its address, its state, and its bytes as they were sent.
