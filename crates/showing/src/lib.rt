@@ -199,28 +199,8 @@ fn print_front(out: Output, segment: &[u8], address: Address, state: State) -> O
     wording::print_state(out, state)
 }
 
-// Shows a part that is split no further: its text where it is present, and else its bytes.
+// Shows the leaf of a row, of a segment with these bytes: its text where it is present, and else its bytes.
 fn show_leaf(
-    out: Output,
-    delimiters: Delimiters,
-    segment: &[u8],
-    address: Address,
-    state: State,
-    bytes: &[u8],
-    room: &mut [u8],
-) -> Output {
-    let out = print_front(out, segment, address, state);
-    let State::Present = state else {
-        return terminal::end_line(wording::print_behind(out, bytes));
-    };
-    if is_formatted(delimiters, segment, address.field) {
-        return print_lines_below(out, delimiters, bytes, room);
-    }
-    terminal::end_line(print_text(out, delimiters, bytes, room))
-}
-
-// Shows the leaf of a row, of a segment with these bytes.
-fn show_row(
     out: Output,
     message: &[u8],
     segment: &[u8],
@@ -230,10 +210,16 @@ fn show_row(
     room: &mut [u8],
 ) -> Output {
     let delimiters = reading::delimiters_of(message);
-    let address = address_at(rows, at, split);
-    let state = state_at(rows, at);
     let bytes = places::piece(message, number_at(rows, at, 6), number_at(rows, at, 7));
-    show_leaf(out, delimiters, segment, address, state, bytes, room)
+    let state = state_at(rows, at);
+    let out = print_front(out, segment, address_at(rows, at, split), state);
+    let State::Present = state else {
+        return terminal::end_line(wording::print_behind(out, bytes));
+    };
+    if is_formatted(delimiters, segment, number_at(rows, at, 1)) {
+        return print_lines_below(out, delimiters, bytes, room);
+    }
+    terminal::end_line(print_text(out, delimiters, bytes, room))
 }
 
 // Shows the leaves of a segment, whose rows begin at a place.
@@ -255,7 +241,7 @@ fn show_leaves(
     let mut at = from;
     while at < rows.len() && number_at(rows, at, 0) == segment.number {
         split = split_at(rows, at, split);
-        shown = show_row(shown, message, bytes, rows, at, split, room);
+        shown = show_leaf(shown, message, bytes, rows, at, split, room);
         at += ROW;
     }
     Shown { out: shown, at: at }
