@@ -32,7 +32,7 @@ use Rattle.laws.proofs.Asking.{answered-exactly}
 use Rattle.laws.proofs.FoundLaws.{absent-nowhere, segment-stands}
 use Rattle.laws.proofs.LeafLaws.{Stands, part-standing, leaf-right, leaf-found-at, four}
 use Rattle.laws.proofs.HeaderFields.{one-byte}
-use Rattle.laws.proofs.RawLaws.{part-in-bytes, segment-part-bytes}
+use Rattle.element.proofs.RawLaws.{part-in-bytes, segment-part-bytes}
 
 -- ---- one of several
 

@@ -31,7 +31,7 @@ use Rattle.laws.proofs.Asking.{answered-exactly, lookup-passes}
 use Rattle.laws.proofs.ElementLaws.{state-means}
 use Rattle.laws.proofs.FoundLaws.{means-there}
 use Rattle.laws.proofs.HeaderFields.{one-byte}
-use Rattle.laws.proofs.RawLaws.{part-in-bytes}
+use Rattle.element.proofs.RawLaws.{part-in-bytes}
 
 -- ---- what holds of each leaf of a list
 
