@@ -1,7 +1,8 @@
--- The leaves of a message stand in the order in which they begin, and none twice: those of a part begin between its first byte and the byte behind it. Assumes nothing.
-use mathlib.Core.Path.{_≡_, refl, sym, ap, subst, _∙_}
+-- The leaves of a message stand in the order in which they begin, and none twice: those of a part begin between its first byte and the byte behind it. So no other list has the same leaves in this order. Assumes nothing.
+use mathlib.Core.Path.{_≡_, refl, sym, ap, ap₂, subst, _∙_}
 use mathlib.Core.Bool.{Bool, true, false, cond}
 use mathlib.Core.List.{List, [], _∷_, _++_}
+use mathlib.Core.Logic.{_⊎_, inl, inr, ⊎-elim, _↔_}
 use Prim.Native.Nat.{ℕ, zero, suc, _+_, _≤_, _<_}
 use native.Mathlib.Nat.{add-zero}
 use native.Mathlib.Omega.{arith}
@@ -10,18 +11,18 @@ use lib.ListN.{length, getD}
 use borrow.Author.Tests.{eqb-true, ne-eqb}
 use Rattle.alphabet.specs.Parts.{grown, split, standing}
 use Rattle.alphabet.specs.declared.answers.Check.the-variants.{Passes}
-use Rattle.alphabet.specs.declared.parts.Part.the-variants.{At, Absent}
+use Rattle.alphabet.specs.declared.parts.Part.the-variants.{At}
 use Rattle.alphabet.proofs.PartLaws.{split-some}
 use Rattle.reading.specs.Reading.{reading}
 use Rattle.reading.specs.Segments.{delimitersOf, fieldSeparator, segments, segmentAt}
 use Rattle.reading.proofs.Accepted.{accepted}
 use Rattle.reading.proofs.SegmentLaws.{segment-bytes}
 use Rattle.element.specs.Finding.{partBytes}
-use Rattle.element.specs.Levels.{partIn, fieldIn}
 use Rattle.element.proofs.LevelLaws.{within-segment, field-header}
 use Rattle.leaves.specs.Leaves.{Leaf, addressed, leafAt, each, subcomponentLeaf, inComponent, inRepetition, inField, inPart, inSegment, leavesOf}
 use Rattle.laws.specs.Elements.{spanned}
-use Rattle.laws.specs.Listing.{Rising}
+use Rattle.laws.specs.Listing.{In, here, there, FoundAt, Rising}
+use Rattle.laws.proofs.EveryLeaf.{leaf-exactly}
 use Rattle.laws.proofs.HeaderFields.{second-field}
 use Rattle.laws.proofs.HeaderLaws.{first-segment}
 use Rattle.laws.proofs.LeafLaws.{Stands, part-standing}
@@ -112,7 +113,7 @@ other-spans ds s f at bytes ne = rw (ne-eqb s 0 ne) (go (eqb f 0))
     go true = spans-none at (at + length bytes + 1) (omega arith)
     go false = field-spans ds s f at bytes
 
--- MSH-1 begins in the part before it, as its last byte but one
+-- MSH-1 stands where the name is the part, and is the byte behind it
 header-spans : (ds : List ℕ) (f at : ℕ) (bytes : List ℕ) → (f ≡ 1 → (at ≤ 3) × (3 ≤ at + length bytes)) → Spans at (at + length bytes + 1) (inPart ds 0 f at bytes)
 unfolding inPart
 header-spans ds f at bytes h = go (eqb f 1) (eqb f 2) refl
@@ -171,3 +172,54 @@ leaves-rising m ok =
     let b = segment-bytes m j t (t + length (getD (segments m) j [])) e in
     subst (λ (i : ℕ). Spans t (t + length (getD (segments m) j []) + 1) (inSegment (delimitersOf m) i t (getD (segments m) j []))) n
     (segment-spans m ok j t (getD (segments m) j []) (record { place = e; within = within-segment m j; holds = ap (partBytes m) e ∙ b .3 }))))
+
+-- ---- no second list
+
+in-cases : {x k : Leaf} {ks : List Leaf} → In x (k ∷ ks) → (x ≡ k) ⊎ In x ks
+in-cases here = inl refl
+in-cases (there i) = inr i
+
+in-none : {x : Leaf} (ls : List Leaf) → In x ls → ls ≡ [] → ⊥
+in-none (k ∷ ks) i e = let z : _≡_ {A = ℕ} 0 1 = cc in omega arith
+
+in-later : {x : Leaf} (from : ℕ) (ls : List Leaf) → Rising from ls → In x ls → from ≤ x .element .start
+in-later from (l ∷ ls) h here = h .0
+in-later from (l ∷ ls) h (there i) =
+    let n = in-later (l .element .start + 1) ls (h .1) i in
+    let k = h .0 in
+    omega arith
+
+begins-same : {x k : Leaf} → x ≡ k → x .element .start ≡ k .element .start
+begins-same e = ap (λ (l : Leaf). l .element .start) e
+
+-- one of the rest, if it is not the first
+in-rest : {x l : Leaf} (ls : List Leaf) → In x (l ∷ ls) → l .element .start + 1 ≤ x .element .start → In x ls
+in-rest ls i h = ⊎-elim (λ e. absurd (let n = begins-same e in omega arith)) (λ j. j) (in-cases i)
+
+first-same : (k l : Leaf) (ks ls : List Leaf) (from : ℕ) → Rising from (k ∷ ks) → Rising from (l ∷ ls) → In k (l ∷ ls) → In l (k ∷ ks) → k ≡ l
+first-same k l ks ls from h g i j =
+    ⊎-elim (λ e. e)
+    (λ a. ⊎-elim sym
+    (λ b. absurd (let n = in-later (l .element .start + 1) ls (g .1) a in let o = in-later (k .element .start + 1) ks (h .1) b in omega arith)) (in-cases j)) (in-cases i)
+
+same-leaves : (from : ℕ) (ks ls : List Leaf) → Rising from ks → Rising from ls → ((x : Leaf) → In x ks ↔ In x ls) → ks ≡ ls
+same-leaves from [] [] h g same = refl
+same-leaves from [] (l ∷ ls) h g same = absurd (in-none [] (same l .1 here) refl)
+same-leaves from (k ∷ ks) [] h g same = absurd (in-none [] (same k .0 here) refl)
+same-leaves from (k ∷ ks) (l ∷ ls) h g same =
+    let e : k ≡ l = first-same k l ks ls from h g (same k .0 here) (same l .1 here) in
+    let n = begins-same e in
+    let g′ : Rising (k .element .start + 1) ls = subst (λ (x : Leaf). Rising (x .element .start + 1) ls) (sym e) (g .1) in
+    let rest : ks ≡ ls
+    = same-leaves (k .element .start + 1) ks ls (h .1) g′
+    (λ x. (
+      (λ i. in-rest ls (same x .0 (there i)) (let o = in-later (k .element .start + 1) ks (h .1) i in omega arith)),
+      (λ i. in-rest ks (same x .1 (there i)) (in-later (k .element .start + 1) ls g′ i)),
+    )) in
+    ap₂ (λ (x : Leaf) (xs : List Leaf). x ∷ xs) e rest
+
+-- a list in this order, of exactly what lookups find at full addresses, is the list of the message's leaves
+pub leaves-only : (m : List ℕ) → reading m ≡ Passes → (ls : List Leaf) → Rising 0 ls → ((l : Leaf) → In l ls ↔ FoundAt m l) → ls ≡ leavesOf m
+leaves-only m ok ls rising exactly =
+    same-leaves 0 ls (leavesOf m) rising (leaves-rising m ok)
+    (λ l. ((λ i. leaf-exactly m ok l .1 (exactly l .0 i)), (λ i. exactly l .1 (leaf-exactly m ok l .0 i))))
