@@ -8,6 +8,7 @@ pub mod Asking
 pub mod FoundLaws
 pub mod LeafLaws
 pub mod EveryLeaf
+pub mod LeafOrder
 pub mod HeaderElements
 pub mod ValueLaws
 pub mod ValueBytes

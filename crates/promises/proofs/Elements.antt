@@ -19,12 +19,13 @@ use Rattle.element.specs.declared.states.State.the-variants.{Absent as IsAbsent
 use Rattle.leaves.specs.Leaves.{Leaf, leavesOf}
 use Rattle.laws.specs.Elements.{Asks, levels, startOf, Past, SplitFurther, NoneBeyondOne}
 use Rattle.laws.specs.Held.{JudgedByElements}
-use Rattle.laws.specs.Listing.{In, FoundAt}
+use Rattle.laws.specs.Listing.{In, FoundAt, Rising}
 use Rattle.laws.specs.Means.{Means}
 use Rattle.laws.proofs.Agreement.{judged-by-elements}
 use Rattle.laws.proofs.Asking.{answered-exactly, refused-exactly}
 use Rattle.laws.proofs.ElementLaws.{state-means}
 use Rattle.laws.proofs.EveryLeaf.{leaf-exactly}
+use Rattle.laws.proofs.LeafOrder.{leaves-rising, leaves-only}
 use Rattle.laws.proofs.FoundLaws.{element-is, stands-within, shown-is, bytes-by-levels, absent-by-levels, state-by-levels, place-by-levels}
 use Rattle.laws.proofs.HeaderElements.{separator-found, encoding-found, separator-place, encoding-place, more-absent}
 use Rattle.promises.specs.Elements.{StateIs, absent, stands}
@@ -94,6 +95,14 @@ module _ (m : List ℕ) (a : Address) (done : found m a .answer .kind ≡ None) 
 
 pub leaves-exactly : (m : List ℕ) → reading m ≡ Passes → (l : Leaf) → In l (leavesOf m) ↔ FoundAt m l
 leaves-exactly = leaf-exactly
+
+-- in the order in which they begin, each once
+pub leaves-in-order : (m : List ℕ) → reading m ≡ Passes → Rising 0 (leavesOf m)
+leaves-in-order = leaves-rising
+
+-- and no other list is so
+pub leaves-one-list : (m : List ℕ) → reading m ≡ Passes → (ls : List Leaf) → Rising 0 ls → ((l : Leaf) → In l ls ↔ FoundAt m l) → ls ≡ leavesOf m
+leaves-one-list = leaves-only
 
 -- ---- the field judge reads the same: what it looks at in each segment are the elements that a lookup finds there
 
