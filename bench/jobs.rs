@@ -102,7 +102,8 @@ pub struct Job {
     pub kind: &'static str,
     pub entry: Entry,
     pub bytes: Vec<u8>,
-    /// Where leaves are listed: as many numbers as are always enough.
+    /// Where leaves are listed: as many numbers as are always enough. Who makes no call has no use for it.
+    #[allow(dead_code)]
     pub rows: RefCell<Vec<u64>>,
 }
 
