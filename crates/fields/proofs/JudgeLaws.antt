@@ -2,8 +2,9 @@
 use mathlib.Core.Path.{_≡_, refl, sym, ap, _∙_}
 use mathlib.Core.List.{List, [], _∷_, map}
 use mathlib.Core.Bool.{Bool, false, cond}
-use Prim.Native.Nat.{ℕ, suc, _+_, _-_, _≤_, _<_}
+use Prim.Native.Nat.{ℕ, zero, suc, _+_, _-_, _≤_, _<_}
 use native.Mathlib.Numerals.{add-one}
+use native.Mathlib.Decide.{decLt}
 use native.Mathlib.Omega.{arith}
 use lib.ListN.{length, getD, take, drop, length-drop, drop-of-length-le}
 use lib.Seq.{drop-cons, length-take-le}
@@ -21,7 +22,7 @@ use Rattle.reading.proofs.SegmentLaws.{segments-walk, segments-over}
 use Rattle.field_table.specs.Table.{noRow}
 use Rattle.rules.specs.Rules.{rowCheck}
 use Rattle.fields.specs.Judging.{Fault, Sound, Faulty, nameAt, saidIn, repetitionsOf, located, orFault, firstFault, rowFault, segmentFault, segmentFaults, judging}
-use Rattle.fields.specs.Walk.{fieldBytes, saidBytes}
+use Rattle.fields.specs.Walk.{fieldBytes, saidBytes, NoneBefore, NoneFrom}
 use Rattle.field_table.specs.declared.Row.{Row}
 use Rattle.fields.proofs.FieldLaws.{row-agrees}
 
@@ -101,6 +102,54 @@ module _ (rows : List Row) (m : List ℕ) (number start : ℕ) (s : List ℕ) (i
             ∙ row-agrees m start end ordered inside number row
             ∙ ap (λ (b : List ℕ). rowCheck (delimitersOf m) row (saidBytes (delimitersOf m) b number (row .kind)) (split (getD (delimitersOf m) 2 0) (fieldBytes (delimitersOf m) b number (row .field)))) (sym bytes)
             ∙ ap (λ (d : List ℕ). rowCheck d row (saidBytes d s number (row .kind)) (split (getD d 2 0) (fieldBytes d s number (row .field)))) (sym delimiters)
+
+module _ (rows : List Row) (m : List ℕ) (number start : ℕ) (s : List ℕ) where
+  go-before : (first : ℕ) → first ≤ length rows → ((index : ℕ) → index < first → getD rows index noRow .segment ≡ nameAt number s → ⊥) → rowsLeft rows m number start s 0 ≡ rowsLeft rows m number start s first
+  go-before zero h others = refl
+  go-before (suc k) h others =
+      go-before k (omega arith) (λ index g. others index (omega arith))
+      ∙ row-other rows m number start s k (omega arith) (getD rows k noRow) refl (others k (omega arith))
+      ∙ ap (rowsLeft rows m number start s) (add-one k)
+
+  -- the rows before one before which none is of this segment
+  pub rows-before : {first : ℕ} → NoneBefore rows (nameAt number s) first → rowsLeft rows m number start s 0 ≡ rowsLeft rows m number start s first
+  rows-before {first} n = go-before first (n .inside) (n .others)
+
+  -- the rows from one on from which none is of this segment
+  module _ {last : ℕ} (n : NoneFrom rows (nameAt number s) last) where
+    go-from : (count index : ℕ) → last ≤ index → length rows ≤ index + count → rowsLeft rows m number start s index ≡ Sound
+    go-from zero index g h = rows-over rows m number start s index (omega arith)
+    go-from (suc count) index g h = at (go-from count (index + 1) (omega arith) (omega arith)) (decLt index (length rows))
+      where
+        at : rowsLeft rows m number start s (index + 1) ≡ Sound → Dec (index < length rows) → rowsLeft rows m number start s index ≡ Sound
+        at later (yes l) = row-other rows m number start s index l (getD rows index noRow) refl (n .others index g l) ∙ later
+        at later (no l) = rows-over rows m number start s index (omega arith)
+
+    pub rows-from : (index : ℕ) → last ≤ index → rowsLeft rows m number start s index ≡ Sound
+    rows-from index g = go-from (length rows) index g (omega arith)
+
+module _ (rows : List Row) (name : ℕ) where
+  pub none-yet : NoneBefore rows name 0
+  none-yet = record { inside = omega arith; others = λ index h. absurd (omega arith) }
+
+  -- one row of another name on
+  pub none-next : (first : ℕ) → first < length rows → NoneBefore rows name first → (getD rows first noRow .segment ≡ name → ⊥) → NoneBefore rows name (first + 1)
+  none-next first h n other = record { inside = omega arith; others = λ index g. at index g (decLt index first) }
+    where
+      at : (index : ℕ) → index < first + 1 → Dec (index < first) → getD rows index noRow .segment ≡ name → ⊥
+      at index g (yes l) q = n .others index l q
+      at index g (no l) q = let e : first ≡ index = omega arith in other (ap (λ (k : ℕ). getD rows k noRow .segment) e ∙ q)
+
+  pub none-behind : NoneFrom rows name (length rows)
+  none-behind = record { inside = omega arith; others = λ index g h. absurd (omega arith) }
+
+  -- one row of another name back
+  pub none-back : (last : ℕ) → 0 < last → NoneFrom rows name last → (getD rows (last - 1) noRow .segment ≡ name → ⊥) → NoneFrom rows name (last - 1)
+  none-back last h n other = let i = n .inside in record { inside = omega arith; others = λ index g l. at index g l (decLt index last) }
+    where
+      at : (index : ℕ) → last - 1 ≤ index → index < length rows → Dec (index < last) → getD rows index noRow .segment ≡ name → ⊥
+      at index g l (no b) q = n .others index (omega arith) l q
+      at index g l (yes b) q = let e : last - 1 ≡ index = omega arith in other (ap (λ (k : ℕ). getD rows k noRow .segment) e ∙ q)
 
 -- ---- the segments
 

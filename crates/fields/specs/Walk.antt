@@ -12,6 +12,7 @@ use Rattle.alphabet.specs.Parts.{split}
 use Rattle.alphabet.specs.declared.answers.Check.{Check}
 use Rattle.alphabet.specs.declared.answers.Check.the-variants.{Passes}
 use Rattle.rules.specs.Rules.{isSaid, saidField, repetitionChecks, rowCheck}
+use Rattle.field_table.specs.Table.{noRow}
 use Rattle.field_table.specs.declared.Kind.{Kind}
 use Rattle.field_table.specs.declared.Row.{Row}
 use Rattle.fields.specs.declared.walk.Cursor.{Cursor}
@@ -89,3 +90,13 @@ pub record Steps (ds s : List ℕ) (t r : Turn) : Type 0 where
   pub most : r .start ≤ r .end + 1
   pub counted : r .repetition ≤ r .start + 1
   pub asks : leftOf ds s t ≡ orElse (r .found) (leftOf ds s r)
+
+-- rows of which none before `first` is of a name
+pub record NoneBefore (rows : List Row) (name first : ℕ) : Type 0 where
+  pub inside : first ≤ length rows
+  pub others : (index : ℕ) → index < first → getD rows index noRow .segment ≡ name → ⊥
+
+-- rows of which none from `last` on is of a name
+pub record NoneFrom (rows : List Row) (name last : ℕ) : Type 0 where
+  pub inside : last ≤ length rows
+  pub others : (index : ℕ) → last ≤ index → index < length rows → getD rows index noRow .segment ≡ name → ⊥

@@ -13,6 +13,7 @@ use walk::next_repetition;
 ghost use mathlib.Core.Path.{_≡_};
 ghost use Rattle.field_table.specs.Table.{rows};
 ghost use Rattle.fields.specs.Judging.{nameAt, located, faultAnswer, judging};
+ghost use Rattle.fields.specs.Walk.{NoneBefore, NoneFrom};
 
 // What a check of a row found, with its segment and field, as a record.
 fn fault_at(check: Check, segment: usize, field: usize) -> FaultRecord
@@ -34,6 +35,37 @@ fn name_of(number: usize, segment: &[u8]) -> u32
     reading::name_of(segment)
 }
 
+// Where the rows of a name begin: none before is of it. The compiler knows the table, and makes of this search a choice
+// among its names.
+fn first_row(rows: [Row; COUNT], name: u32) -> usize
+    ensures { λ r. ⌜ NoneBefore rows name r ⌝ }
+{
+    let mut index = 0;
+    while index < COUNT {
+        let row = rows[index];
+        if row.segment == name {
+            break;
+        }
+        index += 1;
+    }
+    index
+}
+
+// Where the rows of a name end: none from there on is of it.
+fn end_of_rows(rows: [Row; COUNT], name: u32) -> usize
+    ensures { λ r. ⌜ NoneFrom rows name r ⌝ }
+{
+    let mut index = COUNT;
+    while 0 < index {
+        let row = rows[index - 1];
+        if row.segment == name {
+            break;
+        }
+        index -= 1;
+    }
+    index
+}
+
 // The first fault of the fields, by any rows. Segments are taken as they were sent, rows as they are handed in,
 // repetitions in turn, and the first fault leaves all three loops.
 pub fn judge_by(message: &[u8], rows: [Row; COUNT]) -> FaultRecord
@@ -49,8 +81,9 @@ pub fn judge_by(message: &[u8], rows: [Row; COUNT]) -> FaultRecord
         let segment = &message[start..end];
         let name = name_of(number, segment);
         let mut cursor = Cursor { index: 0, place: 0 };
-        let mut index = 0;
-        while index < COUNT {
+        let rows_end = end_of_rows(rows, name);
+        let mut index = first_row(rows, name);
+        while index < rows_end {
             let row = rows[index];
             index += 1;
             if row.segment != name {

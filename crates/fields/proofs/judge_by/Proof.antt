@@ -1,7 +1,7 @@
 -- Rests on the laws of the order of judging: what is left, at each turn of each loop, is the fault of the whole.
 use borrow.Author.Needs.{needs}
 use Prim.Native.Nat.{ℕ, _≤_, _<_, _-_, _+_, _^_}
-use mathlib.Core.Path.{_≡_, refl, sym, ap, ap₂, _∙_}
+use mathlib.Core.Path.{_≡_, refl, sym, ap, ap₂, subst, _∙_}
 use mathlib.Core.List.{List}
 use mathlib.Core.Bool.{Bool, cond}
 use mathlib.Core.Logic.{_⊎_, ⊎-elim}
@@ -22,31 +22,31 @@ use Rattle.alphabet.proofs.ListLaws.{first-le}
 use Rattle.field_table.specs.Table.{noRow}
 use Rattle.rules.specs.Rules.{repetitionChecks}
 use Rattle.fields.specs.Judging.{Fault, located, orFault, faultAnswer, judging}
-use Rattle.fields.specs.Walk.{leftOf, Stands}
+use Rattle.fields.specs.Walk.{leftOf, Stands, NoneBefore, NoneFrom}
 use Rattle.field_table.specs.declared.Row.{Row}
 use Rattle.fields.specs.declared.walk.Turn.{Turn}
 use Rattle.fields.proofs.CursorLaws.{stands-start}
-use Rattle.fields.proofs.JudgeLaws.{rowsLeft, segmentsLeft, fault-stops, fault-passes, rows-over, row-other, row-own, segments-start, segments-none, segments-next, or-assoc}
+use Rattle.fields.proofs.JudgeLaws.{rowsLeft, segmentsLeft, fault-stops, fault-passes, rows-from, row-other, row-own, rows-before, segments-start, segments-none, segments-next, or-assoc}
 use Rattle.fields.proofs.judge_by.Statement.{statement}
 use Rattle.fields.proofs.judge_by.Tie as tie
 
 abbrev Inv-loop2 : tie.InvT-loop2
-Inv-loop2 message rows delimiters field number start end segment name cursor index turn₀ turn =
+Inv-loop2 message rows delimiters field number start end segment name cursor last index turn₀ turn =
     (turn .start ≤ turn .end + 1) × (turn .end ≤ length segment) × (turn .repetition ≤ turn .start + 1)
     × (judging rows message
     ≡ orFault (located number field (orElse (turn .found) (leftOf (delimiters .bytes) segment turn)))
     (orFault (rowsLeft rows message number start segment index) (segmentsLeft rows message (number + 1) (end + 1))))
 
 abbrev μ-loop2 : tie.MeasureT-loop2
-μ-loop2 message rows delimiters field number start end segment name cursor index turn₀ turn = turn .end + 1 - turn .start
+μ-loop2 message rows delimiters field number start end segment name cursor last index turn₀ turn = turn .end + 1 - turn .start
 
 abbrev Inv-loop : tie.InvT-loop
-Inv-loop message rows delimiters found₀ field₀ number start end segment name cursor₀ index₀ found field cursor index =
+Inv-loop message rows delimiters found₀ field₀ number start end segment name cursor₀ last index₀ found field cursor index =
     Stands (getD (delimiters .bytes) 0 0) segment cursor × (index ≤ length rows) × (found ≡ Passes)
     × (judging rows message ≡ orFault (rowsLeft rows message number start segment index) (segmentsLeft rows message (number + 1) (end + 1)))
 
 abbrev μ-loop : tie.MeasureT-loop
-μ-loop message rows delimiters found₀ field₀ number start end segment name cursor₀ index₀ found field cursor index = length rows - index
+μ-loop message rows delimiters found₀ field₀ number start end segment name cursor₀ last index₀ found field cursor index = length rows - index
 
 abbrev Inv-judging : tie.InvT-judging
 Inv-judging message rows delimiters found₀ field₀ number₀ start₀ end₀ found field number start end =
@@ -88,7 +88,7 @@ module _ (j : tie.At-judging Inv-loop2 μ-loop2 Inv-loop μ-loop Inv-judging μ-
 
 module _ (l : tie.At-loop Inv-loop2 μ-loop2 Inv-loop μ-loop Inv-judging μ-judging) where
   abbrev outer : tie.At-judging Inv-loop2 μ-loop2 Inv-loop μ-loop Inv-judging μ-judging
-  outer = l .before .before .before .before
+  outer = l .before .before .before .before .before .before
 
   abbrev number : ℕ
   number = outer .judging .number
@@ -110,7 +110,7 @@ module _ (l : tie.At-loop Inv-loop2 μ-loop2 Inv-loop μ-loop Inv-judging μ-jud
 
   -- a CR stands behind it
   before-end : end < length (message outer)
-  before-end = l .before .before .before .judging-test .taken
+  before-end = l .before .before .before .before .before .judging-test .taken
 
   segment-length : length segment ≡ end - start
   segment-length =
@@ -121,8 +121,11 @@ module _ (l : tie.At-loop Inv-loop2 μ-loop2 Inv-loop μ-loop Inv-judging μ-jud
 
 -- ---- a row
 
+among : (c : tie.In-loop Inv-loop2 μ-loop2 Inv-loop μ-loop Inv-judging μ-judging) → c .before .loop .index < length (rows (outer (c .before)))
+among c = let i = c .before .before .before .end-of-rows .ensures .inside in omega (arith, c .loop-test .taken)
+
 row-in : (c : tie.After-row Inv-loop2 μ-loop2 Inv-loop μ-loop Inv-judging μ-judging) → c .before .before .loop .index < length (rows (outer (c .before .before)))
-row-in c = let e = counted (outer (c .before .before)) in omega (arith, c .before .loop-test .taken)
+row-in c = among (c .before)
 
 abbrev row : tie.After-row Inv-loop2 μ-loop2 Inv-loop μ-loop Inv-judging μ-judging → Row
 row c = getD (rows (outer (c .before .before))) (c .before .before .loop .index) noRow
@@ -148,7 +151,7 @@ module _ (c : tie.After-begin-row Inv-loop2 μ-loop2 Inv-loop μ-loop Inv-judgin
       l .loop .inv .3
       ∙ ap (λ (f : Fault). orFault f (behind l))
       (row-own (rows (outer l)) m (number l) (start l) (segment l) index (row-in (c .before .before .before)) (row (c .before .before .before)) refl (end l) (i .0) (i .1) refl (ds (outer l)) (outer l .before .before .delimiters-of .ensures)
-      (c .before .if1 .left ∙ l .before .name-of .ensures))
+      (c .before .if1 .left ∙ l .before .before .before .name-of .ensures))
       ∙ ap (λ (k : Check). orFault (orFault (located (number l) field k) rest) (behind l)) (c .begin-row .ensures .asks)
       ∙ or-assoc (located (number l) field (orElse (c .begin-row .result .found) (leftOf (ds (outer l)) (segment l) (c .begin-row .result)))) rest (behind l)
 
@@ -182,11 +185,15 @@ judging-holds c = let a = c .before .before .before .args in (omega arith, omega
 
 loop-holds : tie.Need-loop-holds Inv-loop2 μ-loop2 Inv-loop μ-loop Inv-judging μ-judging
 loop-holds c =
-    let j = c .before .before .before in (
+    let j = c .before .before .before .before .before in
+    let n = subst (λ (name : ℕ). NoneBefore (rows j) name (c .first-row .result)) (c .before .before .name-of .ensures) (c .first-row .ensures) in
+    let after = segmentsLeft (rows j) (message j) (j .judging .number + 1) (j .judging .end + 1) in
+    let segment = take (j .judging .end - j .judging .start) (drop (j .judging .start) (message j)) in (
       stands-start (getD (ds j) 0 0) _,
-      omega arith,
+      c .first-row .ensures .inside,
       j .judging .inv .3,
-      j .judging .inv .4 ∙ segments-next (rows j) (message j) (j .judging .number) (j .judging .start) (j .judging .end) (j .judging .inv .2) (c .before .before .judging-test .taken),
+      j .judging .inv .4 ∙ segments-next (rows j) (message j) (j .judging .number) (j .judging .start) (j .judging .end) (j .judging .inv .2) (c .before .before .before .before .judging-test .taken)
+          ∙ ap (λ (f : Fault). orFault f after) (rows-before (rows j) (message j) (j .judging .number) (j .judging .start) segment n),
     )
 
 loop-again : tie.Need-loop-again Inv-loop2 μ-loop2 Inv-loop μ-loop Inv-judging μ-judging
@@ -197,7 +204,7 @@ loop-again c =
       l .loop .inv .0,
       omega arith,
       l .loop .inv .2,
-      l .loop .inv .3 ∙ ap (λ (f : Fault). orFault f (behind l)) (row-other (rows (outer l)) (message (outer l)) (number l) (start l) (segment l) (l .loop .index) i (row r) refl (λ q. c .if1 .taken (q ∙ sym (l .before .name-of .ensures)))),
+      l .loop .inv .3 ∙ ap (λ (f : Fault). orFault f (behind l)) (row-other (rows (outer l)) (message (outer l)) (number l) (start l) (segment l) (l .loop .index) i (row r) refl (λ q. c .if1 .taken (q ∙ sym (l .before .before .before .name-of .ensures)))),
     )
 
 begin-row-requires : tie.Need-begin-row-requires Inv-loop2 μ-loop2 Inv-loop μ-loop Inv-judging μ-judging
@@ -255,12 +262,12 @@ judging-again c =
     let g = before-end l in
     let i = inside (outer l) .0 in
     let h = outer l .judging .inv .1 in
-    let e = counted (outer l) in (
+    let n = subst (λ (name : ℕ). NoneFrom (rows (outer l)) name (l .before .before .end-of-rows .result)) (l .before .before .before .name-of .ensures) (l .before .before .end-of-rows .ensures) in (
       omega arith,
       omega arith,
       c .segment-end2 .ensures,
       l .loop .inv .2,
-      l .loop .inv .3 ∙ ap (λ (f : Fault). orFault f (behind l)) (rows-over (rows (outer l)) (message (outer l)) (number l) (start l) (segment l) (l .loop .index) (omega (arith, c .before .loop-test .left))),
+      l .loop .inv .3 ∙ ap (λ (f : Fault). orFault f (behind l)) (rows-from (rows (outer l)) (message (outer l)) (number l) (start l) (segment l) n (l .loop .index) (c .before .loop-test .left)),
     )
 
 -- the first fault was found in this row
@@ -286,22 +293,22 @@ returns c =
             before = record {
               before = record {
                 before = record {
-                  before = record { before = record { before = record { before = record { before = j; judging-test = w .0 }; segment = w .1 }; name-of = w .2 }; loop = w .3 };
-                  loop-test = w .4;
+                  before = record { before = record { before = record { before = record { before = record { before = record { before = j; judging-test = w .0 }; segment = w .1 }; name-of = w .2 }; end-of-rows = w .3 }; first-row = w .4 }; loop = w .5 };
+                  loop-test = w .6;
                 };
-                row = w .5;
+                row = w .7;
               };
-              struct-known = w .6;
+              struct-known = w .8;
             };
-            if1 = w .7;
+            if1 = w .9;
           };
-          begin-row = w .8;
+          begin-row = w .10;
         };
-        cursor = w .9;
+        cursor = w .11;
       };
-      loop2 = w .10;
+      loop2 = w .12;
     } in
-    left-with k (w .12 .given .1) (c .before .judging-test .found) (c .before .judging-test .field) (w .13) (w .14))
+    left-with k (w .14 .given .1) (c .before .judging-test .found) (c .before .judging-test .field) (w .15) (w .16))
     (c .before .judging-test .came)
 
 pub judge-by-spec : {M : Type 1} → statement M
@@ -321,9 +328,11 @@ judge-by-spec =
     (λ c. let i = inside (c .before) .0 in let k = inside (c .before) .1 in search needs)
     (λ c. let i = inside (c .before) .0 in let k = inside (c .before) .1 in search needs)
     (λ c κs. search needs)
+    (λ c κs. search needs)
+    (λ c κs. search needs)
     loop-holds
-    (λ c. search needs)
-    (λ c. search needs)
+    (λ c. let a = among c in let e = counted (outer (c .before)) in search needs)
+    (λ c. let a = among c in let e = counted (outer (c .before)) in search needs)
     (λ c. let r = row-in c in let e = counted (outer (c .before .before)) in omega arith)
     (λ c. let r = row-in (c .before .before) in omega arith)
     loop-again
@@ -336,10 +345,10 @@ judge-by-spec =
     next-repetition-requires
     (λ c. let s = c .next-repetition .ensures in let e = s .same-end in let f = s .forward in let m = s .most in omega arith)
     loop2-again
-    (λ c. let g = before-end (c .before) in let m = fits (c .before .before .before .before .before) in omega arith)
+    (λ c. let g = before-end (c .before) in let m = fits (outer (c .before)) in omega arith)
     (λ c κs. search needs)
-    (λ c. let g = before-end (c .before .before) in let m = fits (c .before .before .before .before .before .before) in let i = inside (c .before .before .before .before .before .before) .0 in let h = c .before .before .before .before .before .before .judging .inv .1 in omega arith)
-    (λ c. let g = before-end (c .before .before) in let i = inside (c .before .before .before .before .before .before) .0 in omega arith)
+    (λ c. let g = before-end (c .before .before) in let m = fits (outer (c .before .before)) in let i = inside (outer (c .before .before)) .0 in let h = outer (c .before .before) .judging .inv .1 in omega arith)
+    (λ c. let g = before-end (c .before .before) in let i = inside (outer (c .before .before)) .0 in omega arith)
     judging-again
     (λ c κs. search needs)
     returns)
