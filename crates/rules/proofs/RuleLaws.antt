@@ -4,21 +4,25 @@ use mathlib.Core.List.{List, [], _∷_}
 use mathlib.Core.Bool.{Bool, true, false, not, _&&_}
 use Prim.Native.Nat.{ℕ, zero, suc, _-_, _≤_}
 use native.Mathlib.Omega.{arith}
-use borrow.Author.Tests.{not-true, not-false}
+use borrow.Author.Tests.{not-true, not-false, ltb-true, ltb-false, le-leb, lt-leb}
+use lib.Dec.{leb, ltb}
 use lib.ListN.{length, getD, take}
 use Rattle.alphabet.specs.Bytes.{ascii}
 use Rattle.alphabet.specs.Lists.{find, same}
 use Rattle.alphabet.specs.Answers.{failsIf}
 use Rattle.alphabet.specs.Parts.{split}
-use Rattle.alphabet.specs.declared.answers.Check.the-variants.{Passes}
+use Rattle.alphabet.specs.declared.answers.Check.{Check}
+use Rattle.alphabet.specs.declared.answers.Check.the-variants.{Passes, Fails}
+use Rattle.alphabet.specs.declared.answers.Refusal.{Refusal}
 use Rattle.alphabet.specs.declared.answers.Refusal.the-variants.{ValueWithoutType}
 use Rattle.element.specs.States.{stateOf, isPresent}
 use Rattle.element.specs.declared.states.State.{State}
 use Rattle.element.specs.declared.states.State.the-variants.{Absent, Empty, Null, Present}
-use Rattle.rules.specs.Rules.{formCheck, judgedPart, placed, repetitionCheck, somePresent, isSaid, saidCheck, kindSaid, kindOf, componentOf}
+use Rattle.rules.specs.Rules.{formCheck, passing, judgedPart, placed, repetitionCheck, somePresent, isSaid, saidCheck, kindSaid, kindOf, componentOf}
 use Rattle.field_table.specs.declared.Kind.{Kind}
 use Rattle.field_table.specs.declared.Kind.the-variants.{Any, Ts, Nm, Dt, Tm}
 use Rattle.field_table.specs.declared.Row.{Row}
+use Rattle.alphabet.proofs.BoolLaws.{false-true}
 use Rattle.alphabet.proofs.PartLaws.{first-part}
 
 -- ---- the part that is judged
@@ -40,6 +44,26 @@ module _ (ds : List ℕ) (r : List ℕ) where
       let z : component - 1 ≡ 0 = omega arith in
       ap (λ (i : ℕ). take i r) f ∙ sym (first-part (getD ds 1 0) r) ∙ ap (λ (i : ℕ). getD (split (getD ds 1 0) r) i []) (sym z)
       ∙ part-component component (λ q. omega arith)
+
+-- ---- whether a check passes
+
+-- a check that fails where a test does not hold
+pub passing-not : (t : Bool) (kind : Refusal) (place : ℕ) → passing (failsIf (not t) kind place) ≡ t
+passing-not true kind place = refl
+passing-not false kind place = refl
+
+-- a check that fails where more bytes stand than so many
+pub passing-most : (most n : ℕ) (kind : Refusal) (place : ℕ) → passing (failsIf (ltb most n) kind place) ≡ leb n most
+passing-most most n kind place = at (ltb most n) refl
+  where
+    at : (t : Bool) → ltb most n ≡ t → passing (failsIf t kind place) ≡ leb n most
+    at true e = sym (lt-leb n most (ltb-true most n e))
+    at false e = sym (le-leb n most (ltb-false most n e))
+
+-- and where it passes there is no fault to be placed
+pub passing-placed : (number : ℕ) (c : Check) → passing c ≡ true → placed number c ≡ Passes
+passing-placed number Passes e = refl
+passing-placed number (Fails kind place) e = absurd (false-true e)
 
 -- ---- one repetition
 

@@ -38,6 +38,11 @@ formCheck Tm bytes = failsIf (not (isTm bytes)) BreaksForm 0
 formCheck (OneOf values) bytes = failsIf (not (member bytes (valuesOf values))) NotListed 0
 formCheck (AsField f) bytes = Passes
 
+-- whether a check passes
+abbrev pub passing : Check → Bool
+passing Passes = true
+passing (Fails kind place) = false
+
 -- ---- one repetition
 
 -- "part judged": the repetition, or one of its components, from 1; one that is absent has no bytes

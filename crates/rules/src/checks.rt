@@ -12,7 +12,7 @@ ghost use mathlib.Core.Path.{_≡_};
 ghost use lib.ListN.{getD};
 ghost use Rattle.alphabet.specs.Parts.{split};
 ghost use Rattle.element.specs.States.{stateOf, isPresent};
-ghost use Rattle.rules.specs.Rules.{formCheck, openingCheck, judgedPart, placed, repetitionCheck, requiredCheck, sentCheck, ownCheck, somePresent, isSaid, saidField, saidCheck, kindSaid, kindOf, componentOf, isAny};
+ghost use Rattle.rules.specs.Rules.{formCheck, passing, openingCheck, judgedPart, placed, repetitionCheck, requiredCheck, sentCheck, ownCheck, somePresent, isSaid, saidField, saidCheck, kindSaid, kindOf, componentOf, isAny};
 
 // The bytes of a part that is present, against a type.
 fn check_form(kind: Kind, bytes: &[u8]) -> Check
@@ -31,6 +31,36 @@ fn check_form(kind: Kind, bytes: &[u8]) -> Check
         Kind::Tm => alphabet::fails_if(!times::is_tm(bytes), Refusal::BreaksForm, 0),
         Kind::OneOf(values) => alphabet::fails_if(!is_listed(bytes, values), Refusal::NotListed, 0),
         Kind::AsField(_) => Check::Passes,
+    }
+}
+
+// Whether a check passes.
+fn is_passed(check: Check) -> bool
+    ensures { λ r. ⌜ r ≡ passing check ⌝ }
+{
+    let Check::Passes = check else {
+        return false;
+    };
+    true
+}
+
+// Whether such a check passes, told with no fault made of it: nearly every part has the form of its type.
+fn has_form(kind: Kind, bytes: &[u8]) -> bool
+    ensures { λ r. ⌜ r ≡ passing (formCheck kind (now (bytes .entry))) ⌝ }
+{
+    match kind {
+        Kind::Any => true,
+        Kind::Identifier => {
+            let most = alphabet::id_limit();
+            bytes.len() <= most
+        }
+        Kind::Ts => times::is_ts(bytes),
+        Kind::Si => numbers::is_si(bytes),
+        Kind::Nm => is_passed(numbers::check_nm(bytes)),
+        Kind::Dt => times::is_dt(bytes),
+        Kind::Tm => times::is_tm(bytes),
+        Kind::OneOf(values) => is_listed(bytes, values),
+        Kind::AsField(_) => true,
     }
 }
 
@@ -90,6 +120,9 @@ pub fn check_repetition(
     if !is_present(delimiters, part) {
         return Check::Passes;
     }
+    if has_form(kind, part) {
+        return Check::Passes;
+    }
     placed(number, check_form(kind, part))
 }
 
@@ -129,6 +162,9 @@ pub fn check_own(delimiters: Delimiters, row: Row, first: &[u8], many: bool) -> 
         return Check::Passes;
     }
     let kind = row.kind;
+    if has_form(kind, part) {
+        return Check::Passes;
+    }
     placed(1, check_form(kind, part))
 }
 

@@ -4,10 +4,12 @@ use mathlib.Core.Path.{_≡_, sym, ap, _∙_}
 use borrow.Author.Tests.{not-true, not-false}
 use denote.Ref.{now}
 use Rattle.alphabet.proofs.CheckLaws.{stops, goes-on}
+use Rattle.alphabet.specs.declared.answers.Check.{Check}
+use Rattle.alphabet.specs.declared.answers.Check.the-variants.{Passes}
 use Rattle.element.specs.States.{stateOf, isPresent}
 use Rattle.element.specs.declared.states.State.{State}
-use Rattle.rules.specs.Rules.{judgedPart, placed, sentCheck, ownCheck}
-use Rattle.rules.proofs.RuleLaws.{repetition-other, repetition-present}
+use Rattle.rules.specs.Rules.{formCheck, judgedPart, placed, sentCheck, ownCheck}
+use Rattle.rules.proofs.RuleLaws.{passing-placed, repetition-other, repetition-present}
 use Rattle.rules.proofs.checks.check_own.Statement.{statement}
 use Rattle.rules.proofs.checks.check_own.Tie as tie
 
@@ -36,17 +38,29 @@ returns-2 c =
     (sym (repetition-other (a .delimiters .bytes) (a .row .component) (a .row .kind) 1 (now (a .first)) (now (s .before .before .judged-part .result)) (s .before .before .judged-part .ensures)
     (sym (p .is-present .ensures ∙ ap isPresent (s .before .state-of .ensures)) ∙ not-true _ (c .if1 .taken))))
 
-returns-3 : tie.Need-returns-3
+-- the part is present: the form decides
+present : (c : tie.After-has-form)
+    → let s = c .before .before .before .before .before in
+    let a = s .before .before .before .before .args in
+    (x : Check) → x ≡ placed 1 (formCheck (a .row .kind) (now (s .before .before .judged-part .result)))
+    → x ≡ ownCheck (a .delimiters .bytes) (a .row) (now (a .first)) (a .many)
 unfolding ownCheck
-returns-3 c =
-    let f = c .before in
-    let p = f .before .before in
+present c x e =
+    let p = c .before .before in
     let s = p .before .before .before in
     let a = s .before .before .before .before .args in
     goes-on (sent s) (p .before .enum-told .given .1)
-    (c .placed .ensures ∙ ap (placed 1) (f .check-form .ensures)
+    (e
     ∙ sym (repetition-present (a .delimiters .bytes) (a .row .component) (a .row .kind) 1 (now (a .first)) (now (s .before .before .judged-part .result)) (s .before .before .judged-part .ensures)
-    (sym (p .is-present .ensures ∙ ap isPresent (s .before .state-of .ensures)) ∙ not-false _ (f .before .if1 .left))))
+    (sym (p .is-present .ensures ∙ ap isPresent (s .before .state-of .ensures)) ∙ not-false _ (c .before .if1 .left))))
+
+returns-3 : tie.Need-returns-3
+returns-3 c =
+    let s = c .before .before .before .before .before .before in
+    present (c .before) Passes (sym (passing-placed 1 (formCheck (s .before .before .before .before .args .row .kind) (now (s .before .before .judged-part .result))) (sym (c .before .has-form .ensures) ∙ c .if2 .taken)))
+
+returns-4 : tie.Need-returns-4
+returns-4 c = present (c .before .before .before) _ (c .placed .ensures ∙ ap (placed 1) (c .before .check-form .ensures))
 
 pub check-own-spec : {M : Type 1} → statement M
 check-own-spec =
@@ -61,5 +75,7 @@ check-own-spec =
     (λ c κs. search needs)
     returns-2
     (λ c κs. search needs)
+    returns-3
     (λ c κs. search needs)
-    returns-3)
+    (λ c κs. search needs)
+    returns-4)
