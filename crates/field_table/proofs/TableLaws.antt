@@ -12,7 +12,7 @@ use Rattle.alphabet.specs.Lists.{first, find, same}
 use Rattle.alphabet.proofs.BoolLaws.{and-both}
 use Rattle.alphabet.proofs.ListLaws.{same-unlike}
 use Rattle.alphabet.specs.Parts.{split}
-use Rattle.field_table.specs.Table.{valuesOf, member}
+use Rattle.field_table.specs.Table.{valuesOf, member, rows}
 use Rattle.field_table.specs.declared.Values.the-variants.{Processing, Sex, Statuses}
 use Rattle.field_table.specs.Codes.{singles, CodeOf}
 
@@ -121,3 +121,9 @@ pub code-not : (l : List ℕ) → (length l ≡ 2 → ⊥) → CodeOf 0 l
 code-not l h x y p q =
     let m = leb-true 1 x p in
     ne-eqb 0 (x * 256 + y) (λ e. absurd (omega arith)) ∙ sym (same-unlike l (x ∷ y ∷ []) h)
+
+-- ---- the rows
+
+pub rows-count : length rows ≡ 16
+unfolding rows
+rows-count = refl

@@ -1,8 +1,9 @@
-// The table of document 01, 'Fields judged', as data: its rows, and the lists of values that they name. The judge is
-// handed the rows, once for a message, as a value, and knows nothing of what stands in them.
+// The table of document 01, 'Fields judged', as data: its rows, and the lists of values that they name. The judge takes
+// the rows one by one, and knows nothing of what stands in them.
 ghost use mathlib.Core.Path.{_≡_};
 ghost use Prim.Native.Nat.{_<_};
-ghost use Rattle.field_table.specs.Table.{valuesOf, member, rows};
+ghost use lib.ListN.{getD};
+ghost use Rattle.field_table.specs.Table.{valuesOf, member, rows, noRow};
 ghost use Rattle.field_table.specs.declared.Values.the-variants.{ValueTypes, Codes};
 ghost use Rattle.field_table.specs.Codes.{singles, CodeOf};
 
@@ -57,142 +58,142 @@ const WHOLE: usize = 0;
 // How many rows there are.
 pub const COUNT: usize = 16;
 
-const ROWS: [Row; COUNT] = [
-    Row {
-        segment: MSH,
-        field: 7,
-        component: 1,
-        kind: Kind::Ts,
-        required: true,
-        repeats: false,
-    },
-    Row {
-        segment: MSH,
-        field: 10,
-        component: WHOLE,
-        kind: Kind::Identifier,
-        required: true,
-        repeats: false,
-    },
-    Row {
-        segment: MSH,
-        field: 11,
-        component: 1,
-        kind: Kind::OneOf(Values::Processing),
-        required: true,
-        repeats: false,
-    },
-    Row {
-        segment: MSH,
-        field: 12,
-        component: 1,
-        kind: Kind::OneOf(Values::Version),
-        required: true,
-        repeats: false,
-    },
-    Row {
-        segment: PID,
-        field: 3,
-        component: WHOLE,
-        kind: Kind::Any,
-        required: true,
-        repeats: true,
-    },
-    Row {
-        segment: PID,
-        field: 5,
-        component: WHOLE,
-        kind: Kind::Any,
-        required: true,
-        repeats: true,
-    },
-    Row {
-        segment: PID,
-        field: 7,
-        component: 1,
-        kind: Kind::Ts,
-        required: false,
-        repeats: false,
-    },
-    Row {
-        segment: PID,
-        field: 8,
-        component: WHOLE,
-        kind: Kind::OneOf(Values::Sex),
-        required: false,
-        repeats: false,
-    },
-    Row {
-        segment: OBR,
-        field: 1,
-        component: WHOLE,
-        kind: Kind::Si,
-        required: false,
-        repeats: false,
-    },
-    Row {
-        segment: OBX,
-        field: 1,
-        component: WHOLE,
-        kind: Kind::Si,
-        required: false,
-        repeats: false,
-    },
-    Row {
-        segment: OBX,
-        field: 2,
-        component: WHOLE,
-        kind: Kind::OneOf(Values::ValueTypes),
-        required: false,
-        repeats: false,
-    },
-    Row {
-        segment: OBX,
-        field: 3,
-        component: WHOLE,
-        kind: Kind::Any,
-        required: true,
-        repeats: false,
-    },
-    Row {
-        segment: OBX,
-        field: 5,
-        component: WHOLE,
-        kind: Kind::AsField(2),
-        required: false,
-        repeats: true,
-    },
-    Row {
-        segment: OBX,
-        field: 11,
-        component: WHOLE,
-        kind: Kind::OneOf(Values::Statuses),
-        required: true,
-        repeats: false,
-    },
-    Row {
-        segment: OBX,
-        field: 14,
-        component: 1,
-        kind: Kind::Ts,
-        required: false,
-        repeats: false,
-    },
-    Row {
-        segment: MSA,
-        field: 1,
-        component: WHOLE,
-        kind: Kind::OneOf(Values::Codes),
-        required: true,
-        repeats: false,
-    },
-];
-
-// The rows, for the judge to go through.
-pub fn all_rows() -> [Row; COUNT]
-    ensures { λ r. ⌜ r ≡ rows ⌝ }
+// The row of an index, from 0. By a choice, and not out of an array, since an array would be written down for each segment
+// that is judged; the compiler makes a table of it that stands in the program.
+pub fn row_at(index: usize) -> Row
+    requires { ⌜ index < 16 ⌝ }
+    ensures { λ r. ⌜ r ≡ getD rows index noRow ⌝ }
 {
-    ROWS
+    match index {
+        0 => Row {
+            segment: MSH,
+            field: 7,
+            component: 1,
+            kind: Kind::Ts,
+            required: true,
+            repeats: false,
+        },
+        1 => Row {
+            segment: MSH,
+            field: 10,
+            component: WHOLE,
+            kind: Kind::Identifier,
+            required: true,
+            repeats: false,
+        },
+        2 => Row {
+            segment: MSH,
+            field: 11,
+            component: 1,
+            kind: Kind::OneOf(Values::Processing),
+            required: true,
+            repeats: false,
+        },
+        3 => Row {
+            segment: MSH,
+            field: 12,
+            component: 1,
+            kind: Kind::OneOf(Values::Version),
+            required: true,
+            repeats: false,
+        },
+        4 => Row {
+            segment: PID,
+            field: 3,
+            component: WHOLE,
+            kind: Kind::Any,
+            required: true,
+            repeats: true,
+        },
+        5 => Row {
+            segment: PID,
+            field: 5,
+            component: WHOLE,
+            kind: Kind::Any,
+            required: true,
+            repeats: true,
+        },
+        6 => Row {
+            segment: PID,
+            field: 7,
+            component: 1,
+            kind: Kind::Ts,
+            required: false,
+            repeats: false,
+        },
+        7 => Row {
+            segment: PID,
+            field: 8,
+            component: WHOLE,
+            kind: Kind::OneOf(Values::Sex),
+            required: false,
+            repeats: false,
+        },
+        8 => Row {
+            segment: OBR,
+            field: 1,
+            component: WHOLE,
+            kind: Kind::Si,
+            required: false,
+            repeats: false,
+        },
+        9 => Row {
+            segment: OBX,
+            field: 1,
+            component: WHOLE,
+            kind: Kind::Si,
+            required: false,
+            repeats: false,
+        },
+        10 => Row {
+            segment: OBX,
+            field: 2,
+            component: WHOLE,
+            kind: Kind::OneOf(Values::ValueTypes),
+            required: false,
+            repeats: false,
+        },
+        11 => Row {
+            segment: OBX,
+            field: 3,
+            component: WHOLE,
+            kind: Kind::Any,
+            required: true,
+            repeats: false,
+        },
+        12 => Row {
+            segment: OBX,
+            field: 5,
+            component: WHOLE,
+            kind: Kind::AsField(2),
+            required: false,
+            repeats: true,
+        },
+        13 => Row {
+            segment: OBX,
+            field: 11,
+            component: WHOLE,
+            kind: Kind::OneOf(Values::Statuses),
+            required: true,
+            repeats: false,
+        },
+        14 => Row {
+            segment: OBX,
+            field: 14,
+            component: 1,
+            kind: Kind::Ts,
+            required: false,
+            repeats: false,
+        },
+        _ => Row {
+            segment: MSA,
+            field: 1,
+            component: WHOLE,
+            kind: Kind::OneOf(Values::Codes),
+            required: true,
+            repeats: false,
+        },
+    }
 }
 
 // The codes of OBX-2 and of MSA-1: two letters as one number, the first higher.

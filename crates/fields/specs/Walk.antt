@@ -2,7 +2,7 @@
 -- judge's own contract names none of them.
 use Prim.Native.Nat.{ℕ, _+_, _-_, _^_, _≤_, _<_}
 use mathlib.Core.Path.{_≡_}
-use mathlib.Core.List.{List, []}
+use mathlib.Core.List.{List, [], map}
 use mathlib.Core.Bool.{cond}
 use lib.Dec.{eqb, leb}
 use lib.ListN.{length, getD, take, drop}
@@ -15,6 +15,7 @@ use Rattle.rules.specs.Rules.{isSaid, saidField, repetitionChecks, rowCheck}
 use Rattle.field_table.specs.Table.{noRow}
 use Rattle.field_table.specs.declared.Kind.{Kind}
 use Rattle.field_table.specs.declared.Row.{Row}
+use Rattle.fields.specs.Judging.{Fault, Sound, nameAt, located, firstFault}
 use Rattle.fields.specs.declared.walk.Cursor.{Cursor}
 use Rattle.fields.specs.declared.walk.Sought.{Sought}
 use Rattle.fields.specs.declared.walk.Turn.{Turn}
@@ -37,6 +38,18 @@ firstOf ds s number field = getD (split (getD ds 2 0) (fieldBytes ds s number fi
 -- repetition 1 of the field that says a type
 abbrev pub saidBytes : List ℕ → List ℕ → ℕ → Kind → List ℕ
 saidBytes ds s number kind = cond (isSaid kind) (firstOf ds s number (saidField kind)) []
+
+-- what a row asks of a segment, by its bytes
+abbrev pub rowIn : List ℕ → List ℕ → ℕ → Row → Check
+rowIn ds s number row = rowCheck ds row (saidBytes ds s number (row .kind)) (split (getD ds 2 0) (fieldBytes ds s number (row .field)))
+
+-- the fault of a row; one of another segment asks nothing
+abbrev pub rowFaultIn : List ℕ → ℕ → List ℕ → Row → Fault
+rowFaultIn ds number s row = cond (eqb (row .segment) (nameAt number s)) (located number (row .field) (rowIn ds s number row)) Sound
+
+-- the first fault that rows find in a segment
+unfoldable pub judgedIn : List Row → List ℕ → ℕ → List ℕ → Fault
+judgedIn rows ds number s = firstFault (map (rowFaultIn ds number s) rows)
 
 -- a cursor: part `index` of the segment begins at `place`
 pub record Stands (sep : ℕ) (s : List ℕ) (c : Cursor) : Type 0 where
@@ -72,9 +85,7 @@ pub record Begins (ds s : List ℕ) (number : ℕ) (row : Row) (r : Turn) : Type
   pub ordered : r .start ≤ r .end + 1
   pub inside : r .end ≤ length s
   pub counted : r .repetition ≤ r .start + 1
-  pub asks :
-      rowCheck ds row (saidBytes ds s number (row .kind)) (split (getD ds 2 0) (fieldBytes ds s number (row .field)))
-      ≡ orElse (r .found) (leftOf ds s r)
+  pub asks : rowIn ds s number row ≡ orElse (r .found) (leftOf ds s r)
 
 -- a repetition is left, in a segment that is shorter than the numbers reach
 pub record Goes (s : List ℕ) (t : Turn) : Type 0 where

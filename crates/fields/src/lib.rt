@@ -3,20 +3,21 @@
 mod walk;
 
 use alphabet::Check;
+use alphabet::Delimiters;
 use alphabet::Refusal;
 use fault::FaultRecord;
 use field_table::COUNT;
-use field_table::Row;
 use walk::Cursor;
-use walk::begin_row;
-use walk::next_repetition;
+use walk::judge_row;
 ghost use mathlib.Core.Path.{_≡_};
+ghost use Prim.Native.Nat.{_+_, _^_, _<_};
+ghost use lib.ListN.{length};
 ghost use Rattle.field_table.specs.Table.{rows};
 ghost use Rattle.fields.specs.Judging.{nameAt, located, faultAnswer, judging};
-ghost use Rattle.fields.specs.Walk.{NoneBefore, NoneFrom};
+ghost use Rattle.fields.specs.Walk.{NoneBefore, NoneFrom, judgedIn};
 
 // What a check of a row found, with its segment and field, as a record.
-fn fault_at(check: Check, segment: usize, field: usize) -> FaultRecord
+pub fn fault_at(check: Check, segment: usize, field: usize) -> FaultRecord
     ensures { λ r. ⌜ r ≡ faultAnswer (located segment field check) ⌝ }
 {
     match check {
@@ -37,12 +38,12 @@ fn name_of(number: usize, segment: &[u8]) -> u32
 
 // Where the rows of a name begin: none before is of it. The compiler knows the table, and makes of this search a choice
 // among its names.
-fn first_row(rows: [Row; COUNT], name: u32) -> usize
+fn first_row(name: u32) -> usize
     ensures { λ r. ⌜ NoneBefore rows name r ⌝ }
 {
     let mut index = 0;
     while index < COUNT {
-        let row = rows[index];
+        let row = field_table::row_at(index);
         if row.segment == name {
             break;
         }
@@ -52,12 +53,12 @@ fn first_row(rows: [Row; COUNT], name: u32) -> usize
 }
 
 // Where the rows of a name end: none from there on is of it.
-fn end_of_rows(rows: [Row; COUNT], name: u32) -> usize
+fn end_of_rows(name: u32) -> usize
     ensures { λ r. ⌜ NoneFrom rows name r ⌝ }
 {
     let mut index = COUNT;
     while 0 < index {
-        let row = rows[index - 1];
+        let row = field_table::row_at(index - 1);
         if row.segment == name {
             break;
         }
@@ -66,53 +67,61 @@ fn end_of_rows(rows: [Row; COUNT], name: u32) -> usize
     index
 }
 
-// The first fault of the fields, by any rows. Segments are taken as they were sent, rows as they are handed in,
-// repetitions in turn, and the first fault leaves all three loops.
-pub fn judge_by(message: &[u8], rows: [Row; COUNT]) -> FaultRecord
+// What the rows find in a segment: the first check that fails, and of which field, or one that passes.
+pub struct Judged {
+    pub found: Check,
+    pub field: usize,
+}
+
+// The first fault of the fields of one segment.
+pub fn judge_segment(delimiters: Delimiters, segment: &[u8], number: usize) -> Judged
+    requires { ⌜ length (now segment) + 1 < 2 ^ 64 ⌝ }
+    ensures { λ r. ⌜ located number (r .field) (r .found)
+        ≡ judgedIn rows (delimiters .bytes) number (now (segment .entry)) ⌝ }
+{
+    let name = name_of(number, segment);
+    let rows_end = end_of_rows(name);
+    let mut cursor = Cursor { index: 0, place: 0 };
+    let mut index = first_row(name);
+    while index < rows_end {
+        let row = field_table::row_at(index);
+        index += 1;
+        if row.segment != name {
+            continue;
+        }
+        let judged = judge_row(delimiters, segment, number, row, cursor);
+        let found = judged.found;
+        let Check::Passes = found else {
+            return Judged {
+                found: found,
+                field: row.field,
+            };
+        };
+        cursor = judged.cursor;
+    }
+    Judged {
+        found: Check::Passes,
+        field: 0,
+    }
+}
+
+// The first fault of the fields of a message: segments are taken as they were sent, and the first that has one decides.
+pub fn judge_fields(message: &[u8]) -> FaultRecord
     ensures { λ r. ⌜ r ≡ faultAnswer (judging rows (now (message .entry))) ⌝ }
 {
     let delimiters = reading::delimiters_of(message);
-    let mut found = Check::Passes;
-    let mut field = 0;
     let mut number = 0;
     let mut start = 0;
     let mut end = reading::segment_end(message, start);
-    'judging: while end < message.len() {
-        let segment = &message[start..end];
-        let name = name_of(number, segment);
-        let mut cursor = Cursor { index: 0, place: 0 };
-        let rows_end = end_of_rows(rows, name);
-        let mut index = first_row(rows, name);
-        while index < rows_end {
-            let row = rows[index];
-            index += 1;
-            if row.segment != name {
-                continue;
-            }
-            field = row.field;
-            let mut turn = begin_row(delimiters, segment, number, row, cursor);
-            cursor = turn.cursor;
-            loop {
-                found = turn.found;
-                let Check::Passes = found else {
-                    break 'judging;
-                };
-                if turn.end < turn.start {
-                    break;
-                }
-                turn = next_repetition(delimiters, segment, turn);
-            }
-        }
+    while end < message.len() {
+        let judged = judge_segment(delimiters, &message[start..end], number);
+        let found = judged.found;
+        let Check::Passes = found else {
+            return fault_at(found, number, judged.field);
+        };
         start = end + 1;
         end = reading::segment_end(message, start);
         number += 1;
     }
-    fault_at(found, number, field)
-}
-
-// The first fault of the fields, by the table of document 01.
-pub fn judge_fields(message: &[u8]) -> FaultRecord
-    ensures { λ r. ⌜ r ≡ faultAnswer (judging rows (now (message .entry))) ⌝ }
-{
-    judge_by(message, field_table::all_rows())
+    fault::plain(Refusal::None, 0)
 }

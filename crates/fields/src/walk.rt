@@ -21,7 +21,7 @@ ghost use lib.ListN.{length, getD, drop};
 ghost use Rattle.alphabet.specs.Lists.{find};
 ghost use Rattle.alphabet.specs.Parts.{split};
 ghost use Rattle.rules.specs.Rules.{isSaid, isAny};
-ghost use Rattle.fields.specs.Walk.{fieldIndex, fieldBytes, firstOf, Stands, Reaches, Finds, Begins, Goes, Steps};
+ghost use Rattle.fields.specs.Walk.{fieldIndex, fieldBytes, firstOf, Stands, Reaches, Finds, Begins, Goes, Steps, rowIn};
 
 // Part `index` of a segment, from 0, begins at `place`.
 pub struct Cursor {
@@ -31,7 +31,7 @@ pub struct Cursor {
 
 // A part of a segment, from `start` up to and without `end`, its repetition 1 up to and without `first`; and the cursor
 // from which to seek the next.
-pub struct Sought {
+struct Sought {
     pub cursor: Cursor,
     pub start: usize,
     pub first: usize,
@@ -41,7 +41,7 @@ pub struct Sought {
 // A row of a segment as it is judged: what the last check found, first those of the row's opening; where those of its
 // repetitions stand that are left, from `start` up to and without `end`, or none where `start` is past `end`; the
 // number of the first of them; and what they are to be judged by.
-pub struct Turn {
+struct Turn {
     pub cursor: Cursor,
     pub found: Check,
     pub start: usize,
@@ -255,7 +255,7 @@ fn begin_said(
 
 // Begins a row of a segment: its field is sought from the cursor, and its opening checked, with repetition 1 where the
 // row says its own type.
-pub fn begin_row(
+fn begin_row(
     delimiters: Delimiters,
     segment: &[u8],
     number: usize,
@@ -287,7 +287,7 @@ pub fn begin_row(
 }
 
 // Judges the next of the repetitions that are left.
-pub fn next_repetition(delimiters: Delimiters, segment: &[u8], turn: Turn) -> Turn
+fn next_repetition(delimiters: Delimiters, segment: &[u8], turn: Turn) -> Turn
     requires { ⌜ Goes (now segment) turn ⌝ }
     ensures { λ r. ⌜ Steps (delimiters .bytes) (now (segment .entry)) turn r ⌝ }
 {
@@ -314,5 +314,40 @@ pub fn next_repetition(delimiters: Delimiters, segment: &[u8], turn: Turn) -> Tu
         repetition: repetition + 1,
         component: component,
         kind: kind,
+    }
+}
+
+// A row of a segment that was judged: the first check that fails, or one that passes; and the cursor from which to seek
+// the next.
+pub struct RowJudged {
+    pub cursor: Cursor,
+    pub found: Check,
+}
+
+// Judges a row of a segment: its opening, and then its repetitions in turn.
+pub fn judge_row(
+    delimiters: Delimiters,
+    segment: &[u8],
+    number: usize,
+    row: Row,
+    cursor: Cursor,
+) -> RowJudged
+    requires { ⌜ Stands (getD (delimiters .bytes) 0 0) (now segment) cursor × (length (now segment) + 1 < 2 ^ 64) ⌝ }
+    ensures { λ r. ⌜ Stands (getD (delimiters .bytes) 0 0) (now (segment .entry)) (r .cursor)
+        × (r .found ≡ rowIn (delimiters .bytes) (now (segment .entry)) number row) ⌝ }
+{
+    let mut turn = begin_row(delimiters, segment, number, row, cursor);
+    let next = turn.cursor;
+    let mut found = turn.found;
+    while turn.start <= turn.end {
+        let Check::Passes = found else {
+            break;
+        };
+        turn = next_repetition(delimiters, segment, turn);
+        found = turn.found;
+    }
+    RowJudged {
+        cursor: next,
+        found: found,
     }
 }
