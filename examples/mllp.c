@@ -3,8 +3,11 @@
  * of our answer, and one for whatever was dropped.
  *
  *     c/link examples/mllp.c mllp
- *     socat TCP-LISTEN:2575,reuseaddr,fork EXEC:./mllp       a process for each sender; not on an x86-64: EXEC:'./start ./mllp'
- *     ./mllp 20240229093001+0000 K < LINE                    for tests: always that time, and K1, K2 .. as our control IDs
+ *     socat TCP-LISTEN:2575,reuseaddr,fork,backlog=128 EXEC:./mllp,nofork   a process for each sender; not on an x86-64: EXEC:'./start ./mllp',nofork
+ *     ./mllp 20240229093001+0000 K < LINE                                   for tests: always that time, and K1, K2 .. as our control IDs
+ *
+ * nofork hands the line itself to this program. Without it socat stands in between, and ends as soon as this program does: an answer that is still
+ * on its way to a sender who has closed his side is lost with it. docs/FIRST-HOUR.md has all of it, and examples/load puts it under load.
  *
  * It ends when the sender closes the line: with 0 where every message was accepted, 1 where one was refused or not answered, or a frame was
  * dropped or left open, and 2 where the line failed, or we had no time or control ID for an answer. A message without an answer is the
