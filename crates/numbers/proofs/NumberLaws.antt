@@ -8,24 +8,28 @@ use native.Mathlib.Omega.{arith}
 use lib.Dec.{leb, ltb, eqb, lit<, lit≤}
 use lib.IntN.{ℤ, pos, negℤ, _-ℤ_, +ℤ-idl}
 use lib.Signed.{mag}
-use lib.ListN.{length, getD, drop, drop-of-length-le}
-use lib.Seq.{length-take-le}
+use lib.ListN.{length, getD, take, drop, drop-of-length-le, length-drop, length-append}
+use lib.Seq.{length-take-le, getD-take, take-all}
 use mir.Syntax.{w64}
 use mir.Val.{SFits, toZ, ofZ}
 use mir.Facts.{toZ-pos, toZ-ofZ}
 use borrow.Author.Needs.{sfits-of}
-use borrow.Author.Tests.{le-leb, ltb-false, leb-true, not-false}
+use borrow.Author.Tests.{le-leb, le-ltb, lt-ltb, ltb-false, leb-true, not-false, eq-eqb, ne-eqb}
+use native.Mathlib.Decide.{decLt}
+use mathlib.Core.Logic.{_⊎_, inl, inr, ⊎-elim}
 use Rattle.alphabet.specs.Answers.{failsIf}
+use Rattle.alphabet.specs.Bytes.{digit}
 use Rattle.alphabet.specs.Digits.{allDigits, counted, decimal}
 use Rattle.alphabet.specs.Lists.{find}
 use Rattle.alphabet.specs.declared.answers.Check.{Check}
 use Rattle.alphabet.specs.declared.answers.Check.the-variants.{Passes, Fails}
 use Rattle.alphabet.specs.declared.answers.Refusal.{Refusal}
 use Rattle.alphabet.specs.declared.answers.Refusal.the-variants.{None, BreaksForm, ValueTooLong}
-use Rattle.alphabet.proofs.BoolLaws.{and-both, both-and}
+use Rattle.alphabet.proofs.BoolLaws.{and-both, both-and, false-true}
 use Rattle.alphabet.proofs.CheckLaws.{both-pass, passes-not}
-use Rattle.alphabet.proofs.DigitLaws.{counted-append, counted-below, digits-append}
-use Rattle.alphabet.proofs.ListLaws.{first-le}
+use Rattle.alphabet.proofs.DigitLaws.{counted-append, counted-below, digits-append, digits-end, digits-next}
+use Rattle.alphabet.proofs.ListLaws.{first-le, first-none, first-passes, first-reached}
+use Rattle.numbers.specs.Plain.{Leads, PlainNumber}
 use Rattle.numbers.specs.Numbers.{someDigits, isSign, unsigned, beforePoint, hasPoint, fraction, nmForm, nmDigits, mostDigits, nmCheck, signed, isNegative, nmValue, nmRead, isSi, siValue, siRead}
 
 -- ---- the sign
@@ -77,6 +81,94 @@ fraction-digits l e = at (hasPoint l) refl e
 pub nm-fraction : (l : List ℕ) → nmCheck l ≡ Passes → allDigits (fraction (unsigned l)) ≡ true
 unfolding nmForm
 nm-fraction l e = fraction-digits (unsigned l) (and-both (someDigits (beforePoint (unsigned l))) _ (nm-form l e) .1)
+
+-- ---- a number that is seen at once to be one
+
+-- a list of which each byte is a digit
+digits-from : (l : List ℕ) (count i : ℕ) → length l ≤ i + count → ((j : ℕ) → i ≤ j → j < length l → digit (getD l j 0) ≡ true) → allDigits (drop i l) ≡ true
+digits-from l zero i h d = digits-end l i (omega arith)
+digits-from l (suc count) i h d = at (digits-from l count (i + 1) (omega arith) (λ j a b. d j (omega arith) b)) (decLt i (length l))
+  where
+    at : allDigits (drop (i + 1) l) ≡ true → Dec (i < length l) → allDigits (drop i l) ≡ true
+    at later (yes g) = digits-next l i g (d i (omega arith) g) ∙ later
+    at later (no g) = digits-end l i (omega arith)
+
+leading : (l : List ℕ) (n : ℕ) → Leads l n → allDigits (take n l) ≡ true
+leading l n d =
+    let i = d .inside in
+    let s = length-take-le n l i in
+    digits-from (take n l) n 0 (omega arith) (λ j a b. ap digit (getD-take n l j 0 (omega arith)) ∙ d .digits j (omega arith))
+
+-- one digit on
+pub leads-next : (l : List ℕ) (n : ℕ) → Leads l n → n < length l → digit (getD l n 0) ≡ true → Leads l (n + 1)
+leads-next l n d h e = record { inside = omega arith; digits = λ i g. at i g (decLt i n) }
+  where
+    at : (i : ℕ) → i < n + 1 → Dec (i < n) → digit (getD l i 0) ≡ true
+    at i g (yes b) = d .digits i b
+    at i g (no b) = let q : i ≡ n = omega arith in ap (λ (k : ℕ). digit (getD l k 0)) q ∙ e
+
+-- a digit is no point
+no-point : (b : ℕ) → digit b ≡ true → eqb 46 b ≡ false
+no-point b e = ne-eqb 46 b (λ q. let d = leb-true 48 b (and-both (leb 48 b) (leb b 57) e .0) in omega arith)
+
+module _ (l : List ℕ) (n : ℕ) (d : Leads l n) where
+  -- all are digits: there is no point
+  find-none : n ≡ length l → find 46 l ≡ length l
+  find-none e = first-none (eqb 46) l (λ i h. no-point (getD l i 0) (d .digits i (omega arith)))
+
+  -- the point stands behind the digits
+  find-point : n < length l → getD l n 0 ≡ 46 → find 46 l ≡ n
+  find-point h e = first-reached (eqb 46) l n h (at (decLt (find 46 l) n)) (eq-eqb 46 (getD l n 0) (sym e))
+    where
+      at : Dec (find 46 l < n) → n ≤ find 46 l
+      at (yes g) = absurd (false-true (sym (no-point (getD l (find 46 l) 0) (d .digits (find 46 l) g)) ∙ first-passes (eqb 46) l (omega arith)))
+      at (no g) = omega arith
+
+-- its form is that of an NM, and it has few digits
+module _ (l : List ℕ) (p : PlainNumber (unsigned l)) where
+  abbrev u : List ℕ
+  u = unsigned l
+
+  point : find 46 u ≡ p .before
+  point =
+      ⊎-elim
+      (λ e. find-none u (p .before) (p .leads) e ∙ sym e)
+      (λ w. find-point u (p .before) (p .leads) (w .0) (w .1))
+      (p .behind)
+
+  some-before : someDigits (beforePoint u) ≡ true
+  some-before =
+      let n = point-length u in
+      let s = p .some in
+      let f = point in
+      both-and (le-leb 1 (length (beforePoint u)) (omega arith)) (ap (λ (k : ℕ). allDigits (take k u)) point ∙ leading u (p .before) (p .leads))
+
+  some-behind : (not (hasPoint u) || someDigits (fraction u)) ≡ true
+  some-behind =
+      let f = point in
+      ⊎-elim
+      (λ e. ap (λ (t : Bool). not t || someDigits (fraction u)) (le-ltb (find 46 u) (length u) (omega arith)))
+      (λ w.
+      let h = w .0 in
+      ap (λ (t : Bool). not t || someDigits (fraction u)) (lt-ltb (find 46 u) (length u) (omega arith)) ∙ ap (λ (k : ℕ). someDigits (drop (k + 1) u)) point ∙ w .2)
+      (p .behind)
+
+  plain-form : nmForm l ≡ true
+  unfolding nmForm
+  plain-form = both-and some-before some-behind
+
+  plain-short : length (nmDigits l) ≤ mostDigits
+  plain-short =
+      let s = p .short in
+      let n = point-length u in
+      let d = length-drop (find 46 u + 1) u in
+      let a = length-append (beforePoint u) (fraction u) in
+      let f = first-le (eqb 46) u in
+      omega arith
+
+  pub plain-passes : nmCheck l ≡ Passes
+  unfolding nmCheck
+  plain-passes = rw (plain-form, le-ltb mostDigits (length (nmDigits l)) plain-short)
 
 -- ---- how large
 

@@ -3,6 +3,7 @@ ghost use mathlib.Core.Path.{_≡_};
 ghost use mathlib.Core.Bool.{true};
 ghost use Prim.Native.Nat.{_<_, _^_};
 ghost use Rattle.alphabet.specs.Digits.{allDigits, counted};
+ghost use Rattle.numbers.specs.Plain.{Leads};
 
 // Digits and nothing else.
 pub fn is_digits(bytes: &[u8]) -> bool
@@ -16,6 +17,20 @@ pub fn is_digits(bytes: &[u8]) -> bool
         i += 1;
     }
     true
+}
+
+// How many digits bytes begin with.
+pub fn leading_digits(bytes: &[u8]) -> usize
+    ensures { λ r. ⌜ Leads (now (bytes .entry)) r ⌝ }
+{
+    let mut i = 0;
+    while i < bytes.len() {
+        if !alphabet::is_digit(bytes[i]) {
+            break;
+        }
+        i += 1;
+    }
+    i
 }
 
 // A byte as a wider number. By a call of its own the cast asks no proof that the byte fits.

@@ -1,12 +1,15 @@
 // NM, a signed whole number and a count of decimals, and SI, one to four digits.
 use crate::digits::count_on;
 use crate::digits::is_digits;
+use crate::digits::leading_digits;
 use crate::marks::find_mark;
 use alphabet::Check;
 use alphabet::Refusal;
 ghost use mathlib.Core.Path.{_≡_};
+ghost use mathlib.Core.Bool.{true};
 ghost use Prim.Native.Nat.{_<_, _^_};
 ghost use Rattle.alphabet.specs.declared.answers.Check.the-variants.{Passes};
+ghost use Rattle.numbers.specs.Plain.{PlainNumber};
 ghost use Rattle.numbers.specs.Numbers.{someDigits, unsigned, beforePoint, fraction, signed, nmCheck, nmValue, nmRead, isSi, siValue, siRead};
 
 // The most digits of an NM that we read.
@@ -61,11 +64,35 @@ fn fraction_of(bytes: &[u8]) -> &[u8]
     &bytes[behind..]
 }
 
+// Whether bytes without their sign are seen at once to be an NM of few digits: as nearly every number that is sent. Where
+// it is false, the whole check decides.
+fn is_usual(body: &[u8]) -> bool
+    ensures { λ r. ⌜ (r ≡ true → PlainNumber (now (body .entry))) ⌝ }
+{
+    if MOST_DIGITS < body.len() {
+        return false;
+    }
+    let before = leading_digits(body);
+    if before == 0 {
+        return false;
+    }
+    if before == body.len() {
+        return true;
+    }
+    if body[before] != b'.' {
+        return false;
+    }
+    is_some_digits(&body[before + 1..])
+}
+
 // Number 32 for bytes that are no NM, 37 for one of more digits than we read.
 pub fn check_nm(bytes: &[u8]) -> Check
     ensures { λ r. ⌜ r ≡ nmCheck (now (bytes .entry)) ⌝ }
 {
     let body = without_sign(bytes);
+    if is_usual(body) {
+        return Check::Passes;
+    }
     let before = before_point(body);
     let fraction = fraction_of(body);
     let point = before.len() < body.len();
