@@ -110,7 +110,8 @@ pub fn check_opening(message: &[u8]) -> Check
     check_bytes(message)
 }
 
-fn check_end(message: &[u8]) -> Check
+// Check 5.
+pub fn check_end(message: &[u8]) -> Check
     ensures { λ r. ⌜ r ≡ endCheck (now (message .entry)) ⌝ }
 {
     let length = message.len();
@@ -123,8 +124,8 @@ fn check_end(message: &[u8]) -> Check
     )
 }
 
-// The segment of a number, from 0, that begins at `start`.
-fn check_segment(segment: &[u8], separator: u8, number: usize, start: usize) -> Check
+// Checks 6 to 8 of the segment of a number, from 0, that begins at `start`.
+pub fn check_segment(segment: &[u8], separator: u8, number: usize, start: usize) -> Check
     ensures { λ r. ⌜ r ≡ segmentCheck separator number start (now (segment .entry)) ⌝ }
 {
     let most = alphabet::segment_limit();
@@ -144,8 +145,8 @@ fn check_segment(segment: &[u8], separator: u8, number: usize, start: usize) -> 
     alphabet::fails_if(again, Refusal::SecondHeader, start)
 }
 
-// Every segment, from the left, up to the first fault.
-fn check_segments(message: &[u8]) -> Check
+// Checks 6 to 8 of every segment, from the left, up to the first fault.
+pub fn check_segments(message: &[u8]) -> Check
     ensures { λ r. ⌜ r ≡ segmentsCheck (now (message .entry)) ⌝ }
 {
     let separator = alphabet::byte_at(message, 3);

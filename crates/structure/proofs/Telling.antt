@@ -18,6 +18,13 @@ use Rattle.fault.specs.declared.Names.{Names}
 use Rattle.fault.specs.declared.FaultRecord.{FaultRecord}
 use Rattle.structure.proofs.WalkLaws.{Walks, walk-is}
 
+-- what the walk does not accept is of another kind than `None`
+pub misplaced-refuses : SegmentMisplaced ≡ None → ⊥
+misplaced-refuses q = let z : _≡_ {A = ℕ} 0 1 = cc in omega arith
+
+pub early-refuses : EndedEarly ≡ None → ⊥
+early-refuses q = let z : _≡_ {A = ℕ} 0 1 = cc in omega arith
+
 module _ (s : Shape) (ns follow : List ℕ) (last : ℕ) (begin : Entry) (t : Tables s ns follow last begin) (all : List ℕ) where
   -- the walk's own case
   came-to : (w : Walked) → w ≡ walked ns follow last begin 0 all → Walks s follow last (t .fits) all w

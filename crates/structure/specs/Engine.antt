@@ -8,13 +8,18 @@ use Prim.Native.Nat.{ℕ, zero, suc, _+_, _-_, _/_, _%_, _^_, _≤_}
 use lib.Bits.{bitOr}
 use lib.Dec.{eqb}
 use lib.ListN.{length, getD, take, replicate}
+use Rattle.alphabet.specs.declared.answers.Refusal.the-variants.{None}
+use Rattle.fault.specs.declared.FaultRecord.{FaultRecord}
 use Rattle.structure.specs.Shapes.{Shape, names, numbered}
 use Rattle.structure.specs.Shapes.Shape.{end, seg, opt, rep}
 use Rattle.structure.specs.SegmentNames.{among, passedOver}
 use Rattle.structure.specs.Structures.{Choice, chosen, unlisted, observationReport, acknowledgement, merge, admission, transfer, cancel}
+use Rattle.structure.specs.Judged.{Judged}
 use Rattle.structure.specs.declared.rows.Rows.{Rows}
 use Rattle.structure.specs.declared.structures.Structure.{Structure}
 use Rattle.structure.specs.declared.structures.Structure.the-variants.{ObservationReport, Acknowledgement, Merge, Admission, Transfer, Cancel, Unlisted}
+use Rattle.structure.specs.declared.walking.Course.{Course}
+use Rattle.structure.specs.declared.walking.Course.the-variants.{Going, Stuck}
 use Rattle.structure.specs.declared.walking.Walked.{Walked}
 use Rattle.structure.specs.declared.walking.Walked.the-variants.{Accepted, Misplaced, Early}
 
@@ -82,6 +87,11 @@ walked ns follow last e i (n ∷ l) =
     (cond (stuckAt (stepped ns follow last (e .next) n)) (Misplaced i (e .next) (e .ends))
     (walked ns follow last (stepped ns follow last (e .next) n) (i + 1) l))
 
+-- a walk on its way, with the names that are left; i segments are behind
+abbrev pub resumed : List ℕ → List ℕ → ℕ → Course → ℕ → List ℕ → Walked
+resumed ns follow last (Going places ends) i l = walked ns follow last (entry places ends) i l
+resumed ns follow last (Stuck place places ends) i l = Misplaced place places ends
+
 -- the names of the places of a set below k, each once
 unfoldable pub listing : List ℕ → ℕ → ℕ → List ℕ
 listing ns set zero = []
@@ -135,6 +145,11 @@ pub record Tables (s : Shape) (ns follow : List ℕ) (last : ℕ) (begin : Entry
   pub named : ns ≡ names s
   pub fits : Fits (entryAt follow last) (numbered 0 s) stop
   pub begins : begin ≡ enter (numbered 0 s) stop
+
+-- the record tells what a walk by the names of some tables came to, and it tells a fault where the walk does not accept
+pub record Tells (w : Walked) (ns : List ℕ) (r : FaultRecord) : Type 0 where
+  pub judges : (s : Shape) (follow : List ℕ) (last : ℕ) (begin : Entry) (all : List ℕ) → Tables s ns follow last begin → w ≡ walked ns follow last begin 0 all → Judged s all r
+  pub refuses : r .kind ≡ None → w ≡ Accepted
 
 -- ---- the structures that the code knows
 

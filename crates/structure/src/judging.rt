@@ -1,7 +1,6 @@
 // How a walk by a structure's tables becomes a judgement: accepted, or a segment that cannot stand where it stands, or
 // a message that ended early, with the names that could have stood there.
 use crate::listing::names_at;
-use crate::walking::Next;
 use crate::walking::Walked;
 use crate::walking::walk;
 use alphabet::Refusal;
@@ -12,22 +11,13 @@ ghost use lib.ListN.{length};
 ghost use Rattle.structure.specs.Shapes.{Shape};
 ghost use Rattle.structure.specs.SegmentNames.{segmentNames};
 ghost use Rattle.structure.specs.Judged.{Judged};
-ghost use Rattle.structure.specs.Engine.{entry, Tables};
+ghost use Rattle.structure.specs.Engine.{into, Tables, Tells};
 
-// Judges the names of a message by tables, for whatever structure they are the tables of.
-pub fn judge_by(
-    message: &[u8],
-    names: &[u32],
-    follow: &[u64],
-    last: u64,
-    begin: Next,
-) -> FaultRecord
-    requires { ⌜ (length (now names) ≤ 64) × (length (now follow) ≡ length (now names)) ⌝ }
-    ensures { λ r. ⌜ ((s : Shape)
-        → Tables s (now (names .entry)) (now (follow .entry)) last (entry (begin .places) (begin .ends))
-        → Judged s (segmentNames (now (message .entry))) r) ⌝ }
+// Tells what a walk by some tables came to, for whatever structure they are the tables of.
+pub fn tell(walked: Walked, names: &[u32]) -> FaultRecord
+    requires { ⌜ length (now names) ≤ 64 ⌝ }
+    ensures { λ r. ⌜ Tells walked (now (names .entry)) r ⌝ }
 {
-    let walked = walk(message, names, follow, last, begin);
     match walked {
         Walked::Accepted => fault::plain(Refusal::None, 0),
         Walked::Misplaced {
@@ -51,4 +41,14 @@ pub fn judge_by(
             names: names_at(names, places),
         },
     }
+}
+
+// Judges the names of a message by tables, for whatever structure they are the tables of.
+pub fn judge_by(message: &[u8], names: &[u32], follow: &[u64], last: u64) -> FaultRecord
+    requires { ⌜ (length (now names) ≤ 64) × (length (now follow) ≡ length (now names)) ⌝ }
+    ensures { λ r. ⌜ ((s : Shape)
+        → Tables s (now (names .entry)) (now (follow .entry)) last (into 1)
+        → Judged s (segmentNames (now (message .entry))) r) ⌝ }
+{
+    tell(walk(message, names, follow, last), names)
 }

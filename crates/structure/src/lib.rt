@@ -16,7 +16,15 @@ mod walking;
 use alphabet::Check;
 use fault::FaultRecord;
 ghost use Rattle.structure.specs.Judged.{Answers};
+pub use judging::tell;
+pub use rows::Rows;
 pub use structures::judge_read;
+pub use structures::rows_for;
+pub use walking::Course;
+pub use walking::Walked;
+pub use walking::advance;
+pub use walking::begin;
+pub use walking::finish;
 
 // Judges the structure of a message: a reading fault, 20, 21, 22, or accepted.
 pub fn judge_structure(message: &[u8]) -> FaultRecord

@@ -7,7 +7,6 @@ use crate::judging::judge_by;
 use crate::oru_r01;
 use crate::rows::Rows;
 use crate::rows::rows_from;
-use crate::walking::Next;
 use alphabet::Refusal;
 use element::type_address;
 use fault::FaultRecord;
@@ -82,25 +81,27 @@ fn rows_of(structure: Structure) -> Rows
     }
 }
 
+// The tables of the structure that the type of a message chooses.
+pub fn rows_for(message: &[u8]) -> Rows
+    ensures { λ r. ⌜ RowsOf (structureFor builtIn (now (message .entry))) r ⌝ }
+{
+    rows_of(structure_of(message))
+}
+
 // Judges the structure of a message that was read: no reading fault is looked for.
 pub fn judge_read(message: &[u8]) -> FaultRecord
     ensures { λ r. ⌜ Structured (now (message .entry)) r ⌝ }
 {
-    let rows = rows_of(structure_of(message));
+    let rows = rows_for(message);
     if rows.count == 0 {
         return fault::plain(Refusal::NoStructure, 0);
     }
     let names = rows.names;
     let follow = rows.follow;
-    let begin = Next {
-        places: 1,
-        ends: false,
-    };
     judge_by(
         message,
         &names[..rows.count],
         &follow[..rows.count],
         rows.last,
-        begin,
     )
 }
