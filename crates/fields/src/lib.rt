@@ -13,7 +13,7 @@ ghost use mathlib.Core.Path.{_≡_};
 ghost use Prim.Native.Nat.{_+_, _^_, _<_};
 ghost use lib.ListN.{length};
 ghost use Rattle.field_table.specs.Table.{rows};
-ghost use Rattle.fields.specs.Judging.{nameAt, located, faultAnswer, judging};
+ghost use Rattle.fields.specs.Judging.{nameAt, located, faultAnswer};
 ghost use Rattle.fields.specs.Walk.{NoneBefore, NoneFrom, judgedIn};
 
 // What a check of a row found, with its segment and field, as a record.
@@ -103,25 +103,4 @@ pub fn judge_segment(delimiters: Delimiters, segment: &[u8], number: usize) -> J
         found: Check::Passes,
         field: 0,
     }
-}
-
-// The first fault of the fields of a message: segments are taken as they were sent, and the first that has one decides.
-pub fn judge_fields(message: &[u8]) -> FaultRecord
-    ensures { λ r. ⌜ r ≡ faultAnswer (judging rows (now (message .entry))) ⌝ }
-{
-    let delimiters = reading::delimiters_of(message);
-    let mut number = 0;
-    let mut start = 0;
-    let mut end = reading::segment_end(message, start);
-    while end < message.len() {
-        let judged = judge_segment(delimiters, &message[start..end], number);
-        let found = judged.found;
-        let Check::Passes = found else {
-            return fault_at(found, number, judged.field);
-        };
-        start = end + 1;
-        end = reading::segment_end(message, start);
-        number += 1;
-    }
-    fault::plain(Refusal::None, 0)
 }
