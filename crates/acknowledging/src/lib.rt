@@ -1,6 +1,8 @@
 // `ack`: the acknowledgement of a message, for a time and an ID that two words say. It goes to a line and not to a
 // terminal, so that its bytes are written as they are. Which letters it has and why is said beside it, on standard
 // error.
+mod reasons;
+
 ghost use Prim.Native.Nat.{_≤_};
 use alphabet::Refusal;
 use element::Address;
@@ -87,4 +89,21 @@ pub fn acknowledge_by(
         &id[..id_length],
         room,
     )
+}
+
+// Says how long an ID may be.
+fn print_id_length(out: Output) -> Output {
+    let out = terminal::print_counted(out, b"  an ID has 1 to ", alphabet::id_limit(), b" bytes");
+    terminal::end_line(out)
+}
+
+// Says of a file that its message is not acknowledged, and what helps: why, or what the time and the ID have to be.
+pub fn print_refused(out: Output, name: &[u8], message: &[u8], kind: Refusal) -> Output {
+    let out = wording::print_refused(out, name, kind);
+    match kind {
+        Refusal::NotAcknowledgeable => reasons::print_reason(out, message),
+        Refusal::CallersTime => explaining::print_time_form(out),
+        Refusal::CallersId => print_id_length(out),
+        _ => out,
+    }
 }

@@ -184,7 +184,8 @@ fn acknowledge(out: Output, name: &[u8], message: &[u8], first: usize, room: &mu
     let said = done.said;
     let kind = done.kind;
     if alphabet::number(kind) != 0 {
-        return refuse(written, name, kind);
+        let told = acknowledging::print_refused(terminal::standard_error(), name, message, kind);
+        return refused(written, told);
     }
     Outcome {
         out: written,

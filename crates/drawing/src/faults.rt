@@ -1,5 +1,5 @@
-// Where a fault of a message stands, drawn: the byte, the segment, the field or the repetition that is meant, and for a
-// segment that cannot stand where it stands what could have stood there.
+// Where a fault of a message stands, drawn: the byte, the segment, the field or the repetition that is meant; and what
+// helps, told below it.
 use crate::naming::last_of;
 use crate::naming::meant;
 use crate::naming::name_place;
@@ -9,32 +9,16 @@ use element::State;
 use fault::FaultRecord;
 use terminal::Output;
 
-// LF, which ends the lines of a text file, and no segment.
-const LINE_FEED: u8 = 10;
-
 // How far a place lies behind a start.
 fn behind(start: usize, place: usize) -> usize {
     if place < start { 0 } else { place - start }
-}
-
-// Says of a byte that is LF what that means.
-fn explain_line_feed(out: Output, message: &[u8], place: usize) -> Output {
-    if alphabet::byte_at(message, place) != LINE_FEED {
-        return out;
-    }
-    let out = terminal::print(
-        out,
-        b"  \n is LF: this file has the line ends of a text file, LF or CRLF. ",
-    );
-    terminal::print_line(out, b"In HL7 each segment ends with CR alone.")
 }
 
 // Draws the byte at a place of the file, in its segment.
 fn draw_byte(out: Output, message: &[u8], place: usize) -> Output {
     let segment = places::segment_around(message, place);
     let bytes = places::piece(message, segment.start, segment.end);
-    let out = marks::draw_byte(out, bytes, behind(segment.start, place));
-    explain_line_feed(out, message, place)
+    marks::draw_byte(out, bytes, behind(segment.start, place))
 }
 
 // Draws an element of a message. One that is absent would stand at the end of its segment.
@@ -58,19 +42,15 @@ fn draw_element(out: Output, message: &[u8], address: Address) -> Output {
     }
 }
 
-// Draws the place of a fault of structure, a segment's name or where the next one would begin, and says what could have
-// stood there.
+// Draws the place of a fault of structure: a segment's name, or where the next one would begin.
 fn draw_structure(out: Output, message: &[u8], fault: FaultRecord) -> Output {
     let kind = fault.kind;
-    let names = fault.names;
     if alphabet::number(kind) == 21 {
         let segment = places::segment_bytes(message, fault.place);
-        let out = marks::draw(out, segment, 0, 3);
-        return wording::print_could_stand(out, names, fault.could_end);
+        return marks::draw(out, segment, 0, 3);
     }
     let segment = places::segment_bytes(message, last_of(fault.place));
-    let out = marks::draw_byte(out, segment, segment.len());
-    wording::print_could_stand(out, names, fault.could_end)
+    marks::draw_byte(out, segment, segment.len())
 }
 
 // Names the place of a fault, and draws it by what it is for that number: a byte, a segment, or a field and its
@@ -92,4 +72,18 @@ pub fn draw(out: Output, message: &[u8], fault: FaultRecord) -> Output {
         return draw_structure(out, message, fault);
     }
     draw_element(out, message, meant(fault))
+}
+
+// Says below a refusal what helps: what could have stood at the place, what would have been right there, or a hint.
+pub fn help(out: Output, message: &[u8], fault: FaultRecord) -> Output {
+    let kind = fault.kind;
+    let number = alphabet::number(kind);
+    if number < 20 {
+        return hints::print_hint(out, message, number, fault.place);
+    }
+    if (number == 21) | (number == 22) {
+        let names = fault.names;
+        return wording::print_could_stand(out, names, fault.could_end);
+    }
+    explaining::explain(out, message, fault)
 }

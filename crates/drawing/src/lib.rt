@@ -1,5 +1,6 @@
 // The verdict on a message as people are told it: a line that says accepted or refused, and under a refusal the place
-// that is meant, drawn with a mark under it; or, where one line is all there is for it, named in that line.
+// that is meant, drawn with a mark under it; or, where one line is all there is for it, named in that line. What helps
+// stands below: what would have been right, and a hint where the bytes show what was sent.
 mod faults;
 mod naming;
 
@@ -12,26 +13,10 @@ pub struct Told {
     pub is_accepted: bool,
 }
 
-// The bytes of a component of the type of a message, which is the first repetition of MSH-9.
-fn type_part(message: &[u8], component: usize) -> &[u8] {
-    element::raw(message, element::type_address(component))
-}
-
-// Prints the type of a message: its two components, as people write them.
-fn print_type(out: Output, message: &[u8]) -> Output {
-    let event = type_part(message, 2);
-    let out = terminal::print(out, type_part(message, 1));
-    if event.len() == 0 {
-        return out;
-    }
-    let out = terminal::print(out, b"^");
-    terminal::print(out, event)
-}
-
 // Says that a message is accepted: its type, and how many segments and bytes it has.
 fn print_accepted(out: Output, message: &[u8]) -> Told {
     let out = terminal::print(out, b": accepted: ");
-    let out = print_type(out, message);
+    let out = explaining::print_type(out, message);
     let out = terminal::print_counted(out, b", ", places::count_segments(message), b" segments, ");
     let out = terminal::print_counted(out, b"", message.len(), b" bytes");
     let printed = terminal::end_line(out);
@@ -50,8 +35,9 @@ pub fn print_verdict(out: Output, name: &[u8], message: &[u8]) -> Told {
     }
     let refused = wording::print_refused(out, name, kind);
     let drawn = faults::draw(refused, message, found);
+    let helped = faults::help(drawn, message, found);
     Told {
-        out: drawn,
+        out: helped,
         is_accepted: false,
     }
 }
@@ -66,7 +52,8 @@ fn print_place(out: Output, message: &[u8], fault: FaultRecord) -> Output {
     terminal::print_line(out, b")")
 }
 
-// Says the verdict on a message in the rest of a line that names the message, with the place of a fault in words.
+// Says the verdict on a message in the rest of a line that names the message, with the place of a fault in words; what
+// helps stands below that line.
 pub fn print_in_line(out: Output, message: &[u8]) -> Told {
     let found = verdict::verdict(message);
     let kind = found.kind;
@@ -75,8 +62,9 @@ pub fn print_in_line(out: Output, message: &[u8]) -> Told {
     }
     let refused = wording::print_numbered(out, b": refused", kind);
     let named = print_place(refused, message, found);
+    let helped = faults::help(named, message, found);
     Told {
-        out: named,
+        out: helped,
         is_accepted: false,
     }
 }

@@ -52,10 +52,11 @@ fn name_segment(out: Output, before: &[u8], message: &[u8], number: usize) -> Ou
     terminal::print(out, places::piece(segment, 0, 3))
 }
 
-// Names a field, or one of its repetitions, and its segment.
+// Names a field, or one of its repetitions, by its address and by the name that HL7 gives it; and its segment.
 fn name_field(out: Output, message: &[u8], address: Address) -> Output {
     let segment = places::segment_bytes(message, address.segment);
     let out = places::print_address(out, segment, told(address), 0);
+    let out = explaining::print_field_name(out, segment, address.field);
     let out = terminal::print(out, b", in segment ");
     terminal::print_number(out, address.segment)
 }

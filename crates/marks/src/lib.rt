@@ -1,13 +1,17 @@
-// A segment is drawn on a line, and on the next one stand marks under the bytes that are meant. A long segment is cut
-// to a window around the marks, and dots stand where it goes on. No bytes are marked by one mark, at the place where
-// they would be.
+// A segment is drawn on a line, and on the next one stand marks under the bytes that are meant. Both lines have 80
+// columns at most: a wide segment is cut to a window around the marks, and dots stand where it goes on. No bytes are
+// marked by one mark, at the place where they would be.
 ghost use Prim.Native.Nat.{_≤_};
+ghost use lib.ListN.{length};
 use terminal::Output;
 
-// The most bytes that are drawn of a segment.
+// The most columns of a segment that is drawn whole: four blanks stand before it, and a mark may stand behind its end.
+const WHOLE: usize = 75;
+
+// The most columns that are drawn of a segment that is cut: dots stand on both sides.
 const WIDTH: usize = 72;
 
-// How many of them stand before the marks.
+// How many of them stand before the marks, at most.
 const BEFORE: usize = 36;
 
 fn least(one: usize, other: usize) -> usize
@@ -16,30 +20,60 @@ fn least(one: usize, other: usize) -> usize
     if one < other { one } else { other }
 }
 
-// The place from which on a segment of a length is drawn, for marks from `start` on.
-fn window_start(length: usize, start: usize) -> usize
-    ensures { λ r. ⌜ r ≤ start ⌝ }
-{
-    if length <= WIDTH {
-        return 0;
-    }
-    if start < BEFORE {
-        return 0;
-    }
-    start - BEFORE
+// How many columns a byte takes that is printed: one, or four where it stands in braces.
+fn columns_of(byte: u8) -> usize {
+    if terminal::is_plain(byte) { 1 } else { 4 }
 }
 
-// The place up to which it is drawn.
-fn window_end(length: usize, from: usize) -> usize
-    ensures { λ r. ⌜ r ≤ length ⌝ }
+// The place up to which the bytes from `start` on take no more than so many columns.
+fn fitting_end(bytes: &[u8], start: usize, columns: usize) -> usize
+    ensures { λ r. ⌜ r ≤ length (now (bytes .entry)) ⌝ }
 {
-    if length < from {
-        return length;
+    let mut left = columns;
+    let mut i = start;
+    while i < bytes.len() {
+        let taken = columns_of(bytes[i]);
+        if left < taken {
+            return i;
+        }
+        left -= taken;
+        i += 1;
     }
-    if length - from <= WIDTH {
-        return length;
+    bytes.len()
+}
+
+// The place from which on the bytes before `end` take no more than so many columns.
+fn fitting_start(bytes: &[u8], end: usize, columns: usize) -> usize
+    requires { ⌜ end ≤ length (now bytes) ⌝ }
+    ensures { λ r. ⌜ r ≤ end ⌝ }
+{
+    let mut left = columns;
+    let mut i = end;
+    while 0 < i {
+        let taken = columns_of(bytes[i - 1]);
+        if left < taken {
+            return i;
+        }
+        left -= taken;
+        i -= 1;
     }
-    from + WIDTH
+    0
+}
+
+// Whether a segment is drawn whole.
+fn is_whole(segment: &[u8]) -> bool {
+    fitting_end(segment, 0, WHOLE) == segment.len()
+}
+
+// The place from which on a segment is drawn that is cut, for marks from `start` on. Near its end more stands before
+// them, so that the line is filled.
+fn window_start(segment: &[u8], start: usize) -> usize
+    requires { ⌜ start ≤ length (now segment) ⌝ }
+    ensures { λ r. ⌜ r ≤ start ⌝ }
+{
+    let around = fitting_start(segment, start, BEFORE);
+    let at_end = fitting_start(segment, segment.len(), WIDTH);
+    least(around, at_end)
 }
 
 // Prints what stands before each of the two lines: for a segment that was cut, two bytes more.
@@ -76,8 +110,12 @@ fn draw_marks(out: Output, segment: &[u8], from: usize, start: usize, end: usize
 // Draws a segment with marks under its bytes from `start` up to and without `end`.
 pub fn draw(out: Output, segment: &[u8], start: usize, end: usize) -> Output {
     let first = least(start, segment.len());
-    let from = window_start(segment.len(), first);
-    let until = window_end(segment.len(), from);
+    if is_whole(segment) {
+        let out = draw_segment(out, segment, 0, segment.len());
+        return draw_marks(out, segment, 0, first, least(end, segment.len()));
+    }
+    let from = window_start(segment, first);
+    let until = fitting_end(segment, from, WIDTH);
     let out = draw_segment(out, segment, from, until);
     draw_marks(out, segment, from, first, least(end, until))
 }

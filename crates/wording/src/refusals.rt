@@ -52,10 +52,7 @@ fn print_asking(out: Output, kind: Refusal) -> Output {
 // The words for 9, 10, 16 and 17: why there is no acknowledgement.
 fn print_acknowledging(out: Output, kind: Refusal) -> Output {
     match kind {
-        Refusal::NotAcknowledgeable => terminal::print(
-            out,
-            b"this has no header that could be acknowledged",
-        ),
+        Refusal::NotAcknowledgeable => terminal::print(out, b"this cannot be acknowledged"),
         Refusal::AcknowledgementTooLong => terminal::print(
             out,
             b"the acknowledgement would be too long",
