@@ -2,19 +2,54 @@
 use mathlib.Core.Path.{_≡_, refl, sym, ap, ap₂, _∙_, subst}
 use mathlib.Core.List.{List, [], _∷_, _++_}
 use mathlib.Core.Bool.{Bool, true, false, cond}
-use Prim.Native.Nat.{ℕ, zero, suc, _+_, _-_, _*_, _/_, _%_, _^_, _≤_, _<_}
-use native.Mathlib.Nat.{pow-suc, div-one}
+use Prim.Native.Nat.{ℕ, zero, suc, _+_, _-_, _*_, _/_, _%_, _^_, _≤_, _<_, min}
+use native.Mathlib.Nat.{zero-add, suc-add}
 use native.Mathlib.Omega.{arith}
 use native.Mathlib.Numerals.{add-one}
 use lib.Seq.{getD-set-same, getD-set-other}
 use lib.Count.{trailingZeros, under}
-use lib.Pow.{pow-mono, shr-shr}
+use lib.Bits.{bitAnd, and-step, and-self}
 use lib.ListN.{length, getD, take, drop, set, drop-of-length-le}
 use lib.Dec.{eqb}
 use Rattle.alphabet.specs.Lists.{first}
 use Rattle.alphabet.proofs.ListLaws.{drop-next}
 use borrow.Author.Tests.{eqb-true, eqb-false}
-use Rattle.leaves.specs.Walks.{marked, Weighs, Light, sumOf}
+use Rattle.leaves.specs.Walks.{marked, markedFrom, Weighs, Light, sumOf}
+
+positive : (n : ℕ) → (n ≡ 0 → ⊥) → 0 < n
+positive zero h = absurd (h refl)
+positive (suc n) h = omega arith
+
+-- twice a number, and one more
+twice-even : (x : ℕ) → 2 * x % 2 ≡ 0
+twice-even x = omega arith
+
+twice-half : (x : ℕ) → 2 * x / 2 ≡ x
+twice-half x = omega arith
+
+-- what is left of a number and one less, both halved
+clear-odd : (x : ℕ) → bitAnd (1 + 2 * x) (1 + 2 * x - 1) ≡ 2 * x
+clear-odd x =
+    let a : (1 + 2 * x) / 2 ≡ x = omega arith in
+    let b : (1 + 2 * x - 1) / 2 ≡ x = omega arith in
+    let c : (1 + 2 * x) % 2 ≡ 1 = omega arith in
+    let d : (1 + 2 * x - 1) % 2 ≡ 0 = omega arith in
+    let z : x * 2 + 0 ≡ 2 * x = omega arith in
+    and-step (1 + 2 * x) (1 + 2 * x - 1)
+    ∙ ap₂ (λ (i j : ℕ). bitAnd i j * 2 + min ((1 + 2 * x) % 2) ((1 + 2 * x - 1) % 2)) a b
+    ∙ ap₂ (λ (i j : ℕ). bitAnd x x * 2 + min i j) c d ∙ ap (λ (i : ℕ). i * 2 + 0) (and-self x) ∙ z
+
+clear-even : (x : ℕ) → 0 < x → bitAnd (2 * x) (2 * x - 1) ≡ 2 * bitAnd x (x - 1)
+clear-even x h =
+    let a : 2 * x / 2 ≡ x = omega arith in
+    let b : (2 * x - 1) / 2 ≡ x - 1 = omega arith in
+    let c : 2 * x % 2 ≡ 0 = omega arith in
+    let d : (2 * x - 1) % 2 ≡ 1 = omega arith in
+    let y = bitAnd x (x - 1) in
+    let z : y * 2 + 0 ≡ 2 * y = omega arith in
+    and-step (2 * x) (2 * x - 1)
+    ∙ ap₂ (λ (i j : ℕ). bitAnd i j * 2 + min (2 * x % 2) ((2 * x - 1) % 2)) a b
+    ∙ ap₂ (λ (i j : ℕ). bitAnd x (x - 1) * 2 + min i j) c d ∙ z
 
 module _ (test : ℕ → Bool) where
   -- one byte more in front
@@ -25,23 +60,6 @@ module _ (test : ℕ → Bool) where
   pub marked-nothing : marked test [] ≡ 0
   unfolding marked
   marked-nothing = refl
-
-  -- as many bits as bytes
-  bounded : (l : List ℕ) → marked test l + 1 ≤ 2 ^ length l
-  unfolding marked
-  bounded [] = omega arith
-  bounded (b ∷ l) = at (test b) (bounded l) (pow-suc 2 (length l))
-    where
-      at : (t : Bool) → marked test l + 1 ≤ 2 ^ length l → 2 ^ suc (length l) ≡ 2 ^ length l * 2 → cond t 1 0 + 2 * marked test l + 1 ≤ 2 ^ suc (length l)
-      at true h e = omega arith
-      at false h e = omega arith
-
-  pub marked-bound : (l : List ℕ) → length l ≤ 32 → marked test l < 4294967296
-  marked-bound l h =
-      let b = bounded l in
-      let p : 2 ^ length l ≤ 2 ^ 32 = pow-mono h in
-      let e : 2 ^ 32 ≡ 4294967296 = refl in
-      omega arith
 
   -- no mark, no byte that passes
   pub marked-none : (l : List ℕ) → marked test l ≡ 0 → first test l ≡ length l
@@ -61,6 +79,9 @@ module _ (test : ℕ → Bool) where
       at : (t : Bool) → ((marked test l ≡ 0 → ⊥) → first test l < length l) → (cond t 1 0 + 2 * marked test l ≡ 0 → ⊥) → cond t 0 (suc (first test l)) < suc (length l)
       at true ih n = omega arith
       at false ih n = let h = ih (λ e. n (omega arith)) in omega arith
+
+  marked-some-if : (l : List ℕ) → first test l < length l → 0 < marked test l
+  marked-some-if l h = positive (marked test l) (λ e. let q = marked-none l e in omega arith)
 
   odd : (x : ℕ) → (1 + 2 * x) % 2 ≡ 1
   odd x = omega arith
@@ -85,32 +106,56 @@ module _ (test : ℕ → Bool) where
       at false ih h =
           ap₂ (λ (x y : ℕ). under x (trailingZeros k y)) (even (marked test l)) (half false (marked test l)) ∙ ap suc (ih (omega arith) (omega arith))
 
-  -- what is left behind the byte n
-  pub marked-behind : (l : List ℕ) (n : ℕ) → n < length l → marked test l / 2 ^ n / 2 ≡ marked test (drop (n + 1) l)
-  unfolding marked
-  marked-behind [] n h = absurd (omega arith)
-  marked-behind (b ∷ l) zero h =
-      let e : 2 ^ 0 ≡ 1 = refl in
-      ap (λ (x : ℕ). (cond (test b) 1 0 + 2 * marked test l) / x / 2) e ∙ ap (λ (x : ℕ). x / 2) (div-one (cond (test b) 1 0 + 2 * marked test l)) ∙ half (test b) (marked test l)
-  marked-behind (b ∷ l) (suc n) h =
-      let e : 1 + n ≡ suc n = omega arith in
-      let f : suc (n + 1) ≡ suc n + 1 = omega arith in
-      let p : 2 ^ 1 ≡ 2 = refl in
-      ap (λ (x : ℕ). (cond (test b) 1 0 + 2 * marked test l) / 2 ^ x / 2) (sym e)
-      ∙ ap (λ (x : ℕ). x / 2) (sym (shr-shr (cond (test b) 1 0 + 2 * marked test l) 1 n))
-      ∙ ap (λ (x : ℕ). (cond (test b) 1 0 + 2 * marked test l) / x / 2 ^ n / 2) p
-      ∙ ap (λ (x : ℕ). x / 2 ^ n / 2) (half (test b) (marked test l))
-      ∙ marked-behind l n (omega arith) ∙ ap (λ (k : ℕ). marked test (drop k (b ∷ l))) f
+  -- without those of the first k bytes: none is left, or the lowest is the first byte that passes behind them
+  pub from-none : (k : ℕ) (l : List ℕ) → markedFrom test k l ≡ 0 → first test (drop k l) ≡ length (drop k l)
+  unfolding markedFrom first
+  from-none zero l e = marked-none l e
+  from-none (suc k) [] e = refl
+  from-none (suc k) (b ∷ l) e = from-none k l (omega arith)
 
-pub drop-of-take : (k n : ℕ) (l : List ℕ) → drop k (take n l) ≡ take (n - k) (drop k l)
-drop-of-take zero n l = let e : n ≡ n - 0 = omega arith in ap (λ (x : ℕ). take x l) e
-drop-of-take (suc k) zero l = let e : 0 ≡ 0 - suc k = omega arith in ap (λ (x : ℕ). take x (drop (suc k) l)) e
-drop-of-take (suc k) (suc n) [] = sym (take-nothing (suc n - suc k))
-  where
-    take-nothing : (i : ℕ) → take {A = ℕ} i [] ≡ []
-    take-nothing zero = refl
-    take-nothing (suc i) = refl
-drop-of-take (suc k) (suc n) (x ∷ l) = let e : n - k ≡ suc n - suc k = omega arith in drop-of-take k n l ∙ ap (λ (i : ℕ). take i (drop k l)) e
+  pub from-some : (k : ℕ) (l : List ℕ) → (markedFrom test k l ≡ 0 → ⊥) → first test (drop k l) < length (drop k l)
+  unfolding markedFrom
+  from-some zero l n = marked-some l n
+  from-some (suc k) [] n = absurd (n refl)
+  from-some (suc k) (b ∷ l) n = from-some k l (λ e. n (ap (λ (x : ℕ). 2 * x) e))
+
+  from-some-if : (k : ℕ) (l : List ℕ) → first test (drop k l) < length (drop k l) → 0 < markedFrom test k l
+  from-some-if k l h = positive (markedFrom test k l) (λ e. let q = from-none k l e in omega arith)
+
+  pub from-first : (w k : ℕ) (l : List ℕ) → first test (drop k l) < length (drop k l) → length l ≤ w → trailingZeros w (markedFrom test k l) ≡ k + first test (drop k l)
+  unfolding markedFrom trailingZeros
+  from-first w zero l h n = marked-first w l h n ∙ sym (zero-add (first test l))
+  from-first w (suc k) [] h n = absurd (omega arith)
+  from-first zero (suc k) (b ∷ l) h n = absurd (omega arith)
+  from-first (suc w) (suc k) (b ∷ l) h n =
+      ap₂ (λ (x y : ℕ). under x (trailingZeros w y)) (twice-even (markedFrom test k l)) (twice-half (markedFrom test k l))
+      ∙ ap suc (from-first w k l h (omega arith)) ∙ sym (suc-add k (first test (drop k l)))
+
+  -- one less has the lowest mark gone, and lower ones in its place
+  pub marked-clear : (l : List ℕ) → first test l < length l → bitAnd (marked test l) (marked test l - 1) ≡ markedFrom test (suc (first test l)) l
+  unfolding marked markedFrom first
+  marked-clear [] h = absurd (omega arith)
+  marked-clear (b ∷ l) h = at (test b) (marked-some-if l) (marked-clear l) h
+    where
+      at : (t : Bool) → (first test l < length l → 0 < marked test l)
+          → (first test l < length l → bitAnd (marked test l) (marked test l - 1) ≡ markedFrom test (suc (first test l)) l) → cond t 0 (suc (first test l)) < suc (length l)
+          → bitAnd (cond t 1 0 + 2 * marked test l) (cond t 1 0 + 2 * marked test l - 1) ≡ markedFrom test (suc (cond t 0 (suc (first test l)))) (b ∷ l)
+      at true some ih h = clear-odd (marked test l)
+      at false some ih h =
+          let z : 0 + 2 * marked test l ≡ 2 * marked test l = omega arith in
+          ap (λ (x : ℕ). bitAnd x (x - 1)) z ∙ clear-even (marked test l) (some (omega arith)) ∙ ap (λ (x : ℕ). 2 * x) (ih (omega arith))
+
+  pub from-clear : (k : ℕ) (l : List ℕ) → first test (drop k l) < length (drop k l)
+      → bitAnd (markedFrom test k l) (markedFrom test k l - 1) ≡ markedFrom test (k + first test (drop k l) + 1) l
+  unfolding markedFrom
+  from-clear zero l h =
+      let e : suc (first test l) ≡ 0 + first test l + 1 = omega arith in
+      marked-clear l h ∙ ap (λ (i : ℕ). markedFrom test i l) e
+  from-clear (suc k) [] h = absurd (omega arith)
+  from-clear (suc k) (b ∷ l) h =
+      let e : suc (k + first test (drop k l) + 1) ≡ suc k + first test (drop k l) + 1 = omega arith in
+      clear-even (markedFrom test k l) (from-some-if k l h) ∙ ap (λ (x : ℕ). 2 * x) (from-clear k l h)
+      ∙ ap (λ (i : ℕ). markedFrom test i (b ∷ l)) e
 
 -- ---- the marks of a block by weights
 
@@ -149,7 +194,7 @@ module _ (test : ℕ → Bool) (l ws : List ℕ) (n : ℕ) (w : Weighs test l n 
       ap (λ (x : ℕ). getD ws x 0) (sym e) ∙ q ∙ ap (λ (x : ℕ). 1 * cond (test (getD l x 0)) 1 0) e
 
   module _ (at : ℕ) (z : at % 8 ≡ 0) (i : at + 8 ≤ n) where
-    pub light : n ≡ 32 → Light ws at
+    pub light : length ws ≡ n → Light ws at
     light e =
         let b0 = bit-most (test (getD l at 0)) in
         let b1 = bit-most (test (getD l (at + 1) 0)) in
@@ -193,20 +238,22 @@ module _ (test : ℕ → Bool) (l ws : List ℕ) (n : ℕ) (w : Weighs test l n 
         next : (k k′ : ℕ) → k + 1 ≡ k′ → at + k < length l → marked test (drop (at + k) l) ≡ cond (test (getD l (at + k) 0)) 1 0 + 2 * marked test (drop (at + k′) l)
         next k k′ e h = let q : at + k + 1 ≡ at + k′ = omega arith in marked-next test l (at + k) h ∙ ap (λ (x : ℕ). cond (test (getD l (at + k) 0)) 1 0 + 2 * marked test (drop x l)) q
 
--- the four sums of a block are its marks
-pub block-marked : (test : ℕ → Bool) (l ws : List ℕ) → Weighs test l 32 ws → length l ≡ 32
-    → sumOf ws 0 + 256 * sumOf ws 8 + 65536 * (sumOf ws 16 + 256 * sumOf ws 24) ≡ marked test l
+-- the six sums of a block are its marks
+pub block-marked : (test : ℕ → Bool) (l ws : List ℕ) → Weighs test l 48 ws → length l ≡ 48
+    → sumOf ws 0 + 256 * sumOf ws 8 + 65536 * (sumOf ws 16 + 256 * sumOf ws 24) + 4294967296 * (sumOf ws 32 + 256 * sumOf ws 40) ≡ marked test l
 block-marked test l ws w n =
-    let a = eight-marked test l ws 32 w (sym n) 0 refl (omega arith) in
-    let b = eight-marked test l ws 32 w (sym n) 8 refl (omega arith) in
-    let c = eight-marked test l ws 32 w (sym n) 16 refl (omega arith) in
-    let d = eight-marked test l ws 32 w (sym n) 24 refl (omega arith) in
-    let h : length l ≤ 32 = omega arith in
+    let a = eight-marked test l ws 48 w (sym n) 0 refl (omega arith) in
+    let b = eight-marked test l ws 48 w (sym n) 8 refl (omega arith) in
+    let c = eight-marked test l ws 48 w (sym n) 16 refl (omega arith) in
+    let d = eight-marked test l ws 48 w (sym n) 24 refl (omega arith) in
+    let f = eight-marked test l ws 48 w (sym n) 32 refl (omega arith) in
+    let g = eight-marked test l ws 48 w (sym n) 40 refl (omega arith) in
+    let h : length l ≤ 48 = omega arith in
     let e = ap (marked test) (drop-of-length-le l h) ∙ marked-nothing test in
     omega arith
 
-pub light-block : (test : ℕ → Bool) (l ws : List ℕ) → Weighs test l 32 ws → length l ≡ 32 → (at : ℕ) → at ≤ 24 → at % 8 ≡ 0 → Light ws at
-light-block test l ws w n at h z = light test l ws 32 w (sym n) at (omega arith) (omega arith) refl
+pub light-block : (test : ℕ → Bool) (l ws : List ℕ) → Weighs test l 48 ws → length l ≡ 48 → length ws ≡ 48 → (at : ℕ) → at ≤ 40 → at % 8 ≡ 0 → Light ws at
+light-block test l ws w n k at h z = light test l ws 48 w (sym n) at z (omega arith) k
 
 pub sum-most : (ws : List ℕ) (at : ℕ) → Light ws at → sumOf ws at ≤ 255
 sum-most ws at h =

@@ -1,12 +1,12 @@
 -- Laws of rows: eight numbers each, written one behind another, and the state of bytes without separators. Assumes nothing.
 use mathlib.Core.Path.{_≡_, refl, sym, ap, ap₂, _∙_}
 use mathlib.Core.List.{List, [], _∷_, _++_, append-assoc, append-nil}
-use mathlib.Core.Bool.{Bool, true, false, cond, not, _||_}
+use mathlib.Core.Bool.{Bool, true, false, cond, not, _&&_, _||_}
 use Prim.Native.Nat.{ℕ, zero, suc, _+_, _-_, _*_, _≤_, _<_}
 use native.Mathlib.Omega.{arith}
 use lib.Dec.{eqb}
 use lib.ListN.{length, getD, take, drop, set, length-append, length-set, length-drop, take-append-drop}
-use lib.Seq.{length-take-le}
+use lib.Seq.{length-take-le, getD-take, getD-drop}
 use borrow.Author.Tests.{eq-eqb, ne-eqb, eqb-true, eqb-false}
 use Rattle.alphabet.specs.Bytes.{isNull}
 use Rattle.alphabet.specs.Filling.{over, pasted}
@@ -152,9 +152,40 @@ written-end W d₀ d o w =
     let r = fill-room f in
     (omega arith, fill-end f refl)
 
-pub state-long : (m : List ℕ) (start end : ℕ) → start ≤ end → end ≤ length m → (start ≡ end → ⊥) → (end - start ≡ 2 → ⊥) → 3 ≡ plainState (between m start end)
-state-long m start end h k n w =
-    let l = between-length m start end h k in
-    let z : eqb (length (between m start end)) 2 ≡ false = ne-eqb (length (between m start end)) 2 (λ q. w (omega arith)) in
-    let e : isNull (between m start end) ≡ false = rw z in
-    state-between m start end h k e n
+module _ (m : List ℕ) (start end : ℕ) (h : start ≤ end) (k : end ≤ length m) (n : start ≡ end → ⊥) where
+  -- a byte of the leaf, by its place in the message
+  own-byte : (j : ℕ) → j < end - start → getD (between m start end) j 0 ≡ getD m (start + j) 0
+  own-byte j g = getD-take (end - start) (drop start m) j 0 g ∙ getD-drop start m j 0
+
+  own-first : getD (between m start end) 0 0 ≡ getD m start 0
+  own-first = let e : start + 0 ≡ start = omega arith in own-byte 0 (omega (arith, n)) ∙ ap (λ (i : ℕ). getD m i 0) e
+
+  -- it does not begin with a quote
+  pub state-unquoted : (getD m start 0 ≡ 34 → ⊥) → 3 ≡ plainState (between m start end)
+  state-unquoted w =
+      let z = ne-eqb (getD (between m start end) 0 0) 34 (λ q. w (sym own-first ∙ q)) in
+      state-between m start end h k (ap (λ (t : Bool). eqb (length (between m start end)) 2 && (t && eqb (getD (between m start end) 1 0) 34)) z ∙ and-none (eqb (length (between m start end)) 2)) n
+    where
+      and-none : (t : Bool) → (t && false) ≡ false
+      and-none true = refl
+      and-none false = refl
+
+  -- it does
+  null-if : getD m start 0 ≡ 34 → isNull (between m start end) ≡ (eqb (start + 2) end && eqb (getD m (start + 1) 0) 34)
+  null-if w = at (eqb (start + 2) end) refl
+    where
+      at : (t : Bool) → eqb (start + 2) end ≡ t → isNull (between m start end) ≡ (t && eqb (getD m (start + 1) 0) 34)
+      at true e =
+          let q = eqb-true (start + 2) end e in
+          let l = between-length m start end h k in
+          rw (eq-eqb (length (between m start end)) 2 (omega arith), eq-eqb (getD (between m start end) 0 0) 34 (own-first ∙ w), own-byte 1 (omega arith))
+      at false e =
+          let q = eqb-false (start + 2) end e in
+          let l = between-length m start end h k in
+          rw (ne-eqb (length (between m start end)) 2 (λ z. q (omega arith)))
+
+  pub state-quotes : getD m start 0 ≡ 34 → (eqb (start + 2) end && eqb (getD m (start + 1) 0) 34) ≡ true → 2 ≡ plainState (between m start end)
+  state-quotes w e = state-null (between m start end) (null-if w ∙ e)
+
+  pub state-quoted : getD m start 0 ≡ 34 → (eqb (start + 2) end && eqb (getD m (start + 1) 0) 34) ≡ false → 3 ≡ plainState (between m start end)
+  state-quoted w e = state-between m start end h k (null-if w ∙ e) n

@@ -7,6 +7,7 @@ use native.Mathlib.Omega.{arith}
 use lib.Dec.{eqb, leb, ltb}
 use lib.ListN.{length, getD, take, drop, length-drop, take-append-drop}
 use lib.Seq.{length-take-le, getD-drop, getD-take, drop-drop}
+use lib.Bits.{bitAnd}
 use lib.Count.{trailingZeros}
 use borrow.Author.Tests.{eq-eqb, ne-eqb, eqb-true, eqb-false, lt-ltb, le-ltb, ltb-true}
 use Rattle.alphabet.specs.Bytes.{carriageReturn}
@@ -26,11 +27,11 @@ use Rattle.element.specs.Levels.{between}
 use Rattle.element.specs.declared.address.Address.{Address}
 use Rattle.element.proofs.LevelLaws.{between-length}
 use Rattle.leaves.specs.Leaves.{addressed, rows}
-use Rattle.leaves.specs.Walks.{endsOf, hereIn, Plain, passed, AtMost, Reached, Marks, marked, restFrom, restRows}
+use Rattle.leaves.specs.Walks.{endsOf, hereIn, Plain, passed, AtMost, Reached, Marks, Ends, marked, markedFrom, restFrom, restRows}
 use Rattle.leaves.proofs.LevelLaws.{Apart, Clear}
 use Rattle.leaves.proofs.RestLaws.{advance}
 use Rattle.leaves.proofs.RowLaws.{rows-append}
-use Rattle.leaves.proofs.MarkLaws.{marked-first, marked-some, marked-none, marked-behind, drop-of-take}
+use Rattle.leaves.proofs.MarkLaws.{from-none, from-some, from-first, from-clear}
 
 -- where none of five stands, one of them does not
 one-of : (five : List ℕ) (x : ℕ) (l : List ℕ) → among five x ≡ true → first (among five) l ≡ length l → find x l ≡ length l
@@ -169,78 +170,104 @@ module _ (m : List ℕ) (ok : reading m ≡ Passes) (a : Address) (start end : �
 
 -- ---- from marks to where the leaf ends
 
-module _ (m : List ℕ) (a : Address) (start i to bits n : ℕ) (reached : Reached m a start i) (marks : Marks m i to bits) (some : bits ≡ 0 → ⊥) (lowest : n ≡ trailingZeros 64 bits) where
-  block-length : length (between m i to) ≡ to - i
-  block-length = between-length m i to (marks .0) (marks .1)
-
-  lowest-is : n ≡ first (among (endsOf m)) (between m i to)
-  lowest-is =
-      let e = block-length in
-      let w = marks .2 in
-      lowest ∙ ap (trailingZeros 64) (marks .3) ∙ marked-first (among (endsOf m)) 64 (between m i to) (marked-some (among (endsOf m)) (between m i to) (λ z. some (marks .3 ∙ z))) (omega arith)
-
-  pub end-in : i + n < to
-  end-in =
-      let e = block-length in
-      let l = lowest-is in
-      let k = marked-some (among (endsOf m)) (between m i to) (λ z. some (marks .3 ∙ z)) in
-      let b = marks .0 in
-      omega arith
-
-  pub end-stops : among (endsOf m) (getD m (i + n) 0) ≡ true
-  end-stops =
-      let e = block-length in
-      let l = lowest-is in
-      let k = end-in in
-      let q = getD-take (to - i) (drop i m) n 0 (omega arith) ∙ getD-drop i m n 0 in
-      ap (among (endsOf m)) (sym q ∙ ap (λ (x : ℕ). getD (between m i to) x 0) l)
-      ∙ first-passes (among (endsOf m)) (between m i to) (omega arith)
-
-  pub end-plain : Plain m start (i + n)
-  end-plain =
-      let b = reached .begun in
-      let f = reached .free in
-      let k = end-in in
-      let t = marks .1 in
-      let d = length-drop start m in
-      let l = lowest-is in
-      let at : start + (i - start) ≡ i = omega arith in
-      let size = length-take-le n (drop i m) (let z = length-drop i m in omega arith) in
-      let none = first-none (among (endsOf m)) (take n (drop i m))
-      (λ j g.
-      ap (among (endsOf m)) (getD-take n (drop i m) j 0 (omega arith) ∙ sym (getD-take (to - i) (drop i m) j 0 (omega arith)))
-      ∙ first-before (among (endsOf m)) (between m i to) j (omega arith)) in
-      let same : take n (drop (i - start) (drop start m)) ≡ take n (drop i m) = ap (take n) (drop-drop (i - start) start m ∙ ap (λ (x : ℕ). drop x m) at) in
-      let z = ap (first (among (endsOf m))) same in
-      let w = first-block (among (endsOf m)) (drop start m) (i - start) n (omega arith) (omega arith) (omega arith) in
-      omega arith
-
-  pub marks-behind : (rest : ℕ) → rest ≡ bits / 2 ^ n / 2 → Marks m (i + n + 1) to rest
-  marks-behind rest q =
-      let e = block-length in
-      let k = end-in in
-      let w = marks .2 in
-      let c : to - i - (n + 1) ≡ to - (i + n + 1) = omega arith in
-      let s : i + (n + 1) ≡ i + n + 1 = omega arith in (
-        omega arith,
-        marks .1,
-        omega arith,
-        q ∙ ap (λ (x : ℕ). x / 2 ^ n / 2) (marks .3) ∙ marked-behind (among (endsOf m)) (between m i to) n (omega arith)
-            ∙ ap (marked (among (endsOf m))) (drop-of-take (n + 1) (to - i) (drop i m) ∙ ap (take (to - i - (n + 1))) (drop-drop (n + 1) i m) ∙ ap₂ (λ (x y : ℕ). take x (drop y m)) c s),
-      )
-
--- no mark is left: the leaf does not end in the block
-pub marks-over : (m : List ℕ) (a : Address) (start i to bits : ℕ) → Reached m a start i → Marks m i to bits → bits ≡ 0 → Reached m a start to
-marks-over m a start i to bits r marks z =
-    let e = between-length m i to (marks .0) (marks .1) in
+-- no byte from i up to `to` ends the leaf
+pub reached-on : (m : List ℕ) (a : Address) (start i to : ℕ) → Reached m a start i → i ≤ to → to ≤ length m
+    → ((j : ℕ) → j < to - i → among (endsOf m) (getD m (i + j) 0) ≡ false) → Reached m a start to
+reached-on m a start i to r h t none =
     let b = r .begun in
     let f = r .free in
-    let h = marks .0 in
-    let t = marks .1 in
     let d = length-drop start m in
-    let none = marked-none (among (endsOf m)) (between m i to) (sym (marks .3) ∙ z) in
+    let k = length-drop i m in
     let at : start + (i - start) ≡ i = omega arith in
+    let size = length-take-le (to - i) (drop i m) (omega arith) in
+    let free = first-none (among (endsOf m)) (take (to - i) (drop i m))
+    (λ j g. ap (among (endsOf m)) (getD-take (to - i) (drop i m) j 0 (omega arith) ∙ getD-drop i m j 0) ∙ none j (omega arith)) in
     let same : take (to - i) (drop (i - start) (drop start m)) ≡ take (to - i) (drop i m) = ap (take (to - i)) (drop-drop (i - start) start m ∙ ap (λ (x : ℕ). drop x m) at) in
     let y = ap (first (among (endsOf m))) same in
     let w = first-block (among (endsOf m)) (drop start m) (i - start) (to - i) (omega arith) (omega arith) (omega arith) in
     record { begun = omega arith; free = omega arith; few = r .few; split-on = r .split-on }
+
+-- a walk has come so far in the 48 bytes from `place` on, and the marks behind it are left
+pub record Left (m : List ℕ) (a : Address) (start place bits : ℕ) : Type 0 where
+  pub gone : ℕ
+  pub most : gone ≤ 48
+  pub inside : place + 48 ≤ length m
+  pub reached : Reached m a start (place + gone)
+  pub marks : bits ≡ markedFrom (among (endsOf m)) gone (between m place (place + 48))
+
+pub all-left : (m : List ℕ) (a : Address) (start place bits : ℕ) → Marks m place bits → Reached m a start place → Left m a start place bits
+unfolding markedFrom
+all-left m a start place bits k r =
+    let e : place ≡ place + 0 = omega arith in
+    record { gone = 0; most = omega arith; inside = k .0; reached = subst (Reached m a start) e r; marks = k .1 }
+
+module _ (m : List ℕ) (a : Address) (start place bits : ℕ) (left : Left m a start place bits) where
+  abbrev test : ℕ → Bool
+  test = among (endsOf m)
+
+  abbrev block : List ℕ
+  block = between m place (place + 48)
+
+  abbrev behind : List ℕ
+  behind = drop (left .gone) block
+
+  block-length : length block ≡ 48
+  block-length = let i = left .inside in let n = between-length m place (place + 48) (omega arith) (left .inside) in omega arith
+
+  behind-length : length behind ≡ 48 - left .gone
+  behind-length = let n = block-length in let k = length-drop (left .gone) block in omega arith
+
+  -- byte j behind what is gone
+  byte : (j : ℕ) → left .gone + j < 48 → getD behind j 0 ≡ getD m (place + left .gone + j) 0
+  byte j h =
+      let e : place + (left .gone + j) ≡ place + left .gone + j = omega arith in
+      getD-drop (left .gone) block j 0 ∙ getD-take (place + 48 - place) (drop place m) (left .gone + j) 0 (omega arith) ∙ getD-drop place m (left .gone + j) 0 ∙ ap (λ (i : ℕ). getD m i 0) e
+
+  -- none is left
+  pub left-none : bits ≡ 0 → Reached m a start (place + 48)
+  left-none z =
+      let n = behind-length in
+      let g = left .most in
+      let e = from-none test (left .gone) block (sym (left .marks) ∙ z) in
+      reached-on m a start (place + left .gone) (place + 48) (left .reached) (omega arith) (left .inside)
+      (λ j h. ap test (sym (byte j (omega arith))) ∙ first-before test behind j (omega arith))
+
+  module _ (some : bits ≡ 0 → ⊥) where
+    found : first test behind < length behind
+    found = from-some test (left .gone) block (λ z. some (left .marks ∙ z))
+
+    lowest : trailingZeros 64 bits ≡ left .gone + first test behind
+    lowest = let n = block-length in ap (trailingZeros 64) (left .marks) ∙ from-first test 64 (left .gone) block found (omega arith)
+
+    pub end-low : trailingZeros 64 bits < 48
+    end-low = let n = behind-length in let f = found in let l = lowest in let g = left .most in omega arith
+
+    pub end-ends : Ends m (place + trailingZeros 64 bits)
+    end-ends =
+        let k = end-low in
+        let i = left .inside in
+        let l = lowest in
+        let e : place + left .gone + first test behind ≡ place + trailingZeros 64 bits = omega arith in
+        (omega arith, ap (λ (x : ℕ). test (getD m x 0)) (sym e) ∙ ap test (sym (byte (first test behind) (omega arith))) ∙ first-passes test behind found)
+
+    pub end-reached : Reached m a start (place + trailingZeros 64 bits)
+    end-reached =
+        let k = end-low in
+        let i = left .inside in
+        let l = lowest in
+        reached-on m a start (place + left .gone) (place + trailingZeros 64 bits) (left .reached) (omega arith) (omega arith)
+        (λ j h. ap test (sym (byte j (omega arith))) ∙ first-before test behind j (omega arith))
+
+    -- behind the lowest mark, in whatever leaf the walk stands then
+    pub left-behind : (b : Address) (from : ℕ) → Reached m b from (place + trailingZeros 64 bits + 1) → Left m b from place (bitAnd bits (bits - 1))
+    left-behind b from r =
+        let k = end-low in
+        let l = lowest in
+        let e : place + trailingZeros 64 bits + 1 ≡ place + (left .gone + first test behind + 1) = omega arith in
+        record {
+          gone = left .gone + first test behind + 1;
+          most = omega arith;
+          inside = left .inside;
+          reached = subst (Reached m b from) e r;
+          marks = ap (λ (x : ℕ). bitAnd x (x - 1)) (left .marks) ∙ from-clear test (left .gone) block found;
+        }

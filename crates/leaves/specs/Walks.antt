@@ -1,9 +1,9 @@
 -- For private functions alone: what is still to come of a message's leaves, from inside a leaf on, and the marks of the
 -- bytes that end leaves.
-use Prim.Native.Nat.{ℕ, _+_, _-_, _*_, _%_, _^_, _≤_, _<_}
+use Prim.Native.Nat.{ℕ, zero, suc, _+_, _-_, _*_, _%_, _^_, _≤_, _<_}
 use mathlib.Core.Path.{_≡_}
 use mathlib.Core.List.{List, [], _∷_, _++_}
-use mathlib.Core.Bool.{Bool, cond}
+use mathlib.Core.Bool.{Bool, true, cond}
 use lib.ListN.{length, getD, take, drop}
 use lib.Dec.{eqb, leb}
 use Rattle.alphabet.specs.Bytes.{carriageReturn, isNull}
@@ -101,9 +101,19 @@ pub record Written (W d₀ rest d : List ℕ) (o : ℕ) : Type 0 where
   pub size : length front ≡ o
   pub holds : d ≡ front ++ drop o d₀
 
--- the bytes from `place` up to `to` are marked
-abbrev pub Marks : List ℕ → ℕ → ℕ → ℕ → Type 0
-Marks m place to bits = (place ≤ to) × (to ≤ length m) × (to ≤ place + 64) × (bits ≡ marked (among (endsOf m)) (between m place to))
+-- the same without those of the first k bytes
+unfoldable pub markedFrom : (ℕ → Bool) → ℕ → List ℕ → ℕ
+markedFrom test zero l = marked test l
+markedFrom test (suc k) [] = 0
+markedFrom test (suc k) (b ∷ l) = 2 * markedFrom test k l
+
+-- the 48 bytes from `place` on are marked
+abbrev pub Marks : List ℕ → ℕ → ℕ → Type 0
+Marks m place bits = (place + 48 ≤ length m) × (bits ≡ marked (among (endsOf m)) (between m place (place + 48)))
+
+-- the byte at `end` ends a leaf
+abbrev pub Ends : List ℕ → ℕ → Type 0
+Ends m end = (end < length m) × (among (endsOf m) (getD m end 0) ≡ true)
 
 -- a walk has come to `place`, and the buffer has room for what is still to come
 abbrev pub Stands : List ℕ → List ℕ → Address → ℕ → ℕ → ℕ → Type 0
@@ -124,7 +134,7 @@ Weighs test l n ws = (j : ℕ) → j < n → getD ws j 0 ≡ cond (test (getD l 
 -- eight weights, each at most its own
 abbrev pub Light : List ℕ → ℕ → Type 0
 Light ws at =
-    (at + 8 ≤ 32) × (getD ws at 0 ≤ 1) × (getD ws (at + 1) 0 ≤ 2) × (getD ws (at + 2) 0 ≤ 4) × (getD ws (at + 3) 0 ≤ 8) × (getD ws (at + 4) 0 ≤ 16)
+    (at + 8 ≤ length ws) × (getD ws at 0 ≤ 1) × (getD ws (at + 1) 0 ≤ 2) × (getD ws (at + 2) 0 ≤ 4) × (getD ws (at + 3) 0 ≤ 8) × (getD ws (at + 4) 0 ≤ 16)
     × (getD ws (at + 5) 0 ≤ 32) × (getD ws (at + 6) 0 ≤ 64) × (getD ws (at + 7) 0 ≤ 128)
 
 abbrev pub sumOf : List ℕ → ℕ → ℕ

@@ -1,7 +1,7 @@
 // The walk along a message from leaf to leaf: the bytes that end leaves are marked, block by block, and each mark ends
 // one leaf and says what the next one's address is.
+use crate::marks::MARKED;
 use crate::marks::mark;
-use alphabet::BLOCK;
 use element::Address;
 ghost use mathlib.Core.Path.{_≡_};
 ghost use mathlib.Core.List.{List, [], _∷_, _++_};
@@ -13,7 +13,7 @@ ghost use Rattle.reading.specs.Segments.{delimitersOf};
 ghost use Rattle.reading.specs.Reading.{reading};
 ghost use Rattle.element.specs.Levels.{between};
 ghost use Rattle.leaves.specs.Leaves.{addressed, rows, leavesOf};
-ghost use Rattle.leaves.specs.Walks.{endsOf, hereIn, Plain, passed, AtMost, plainState, Marks, Stands, Writes, WritesAll};
+ghost use Rattle.leaves.specs.Walks.{endsOf, hereIn, Plain, passed, AtMost, plainState, Ends, Marks, Stands, Writes, WritesAll};
 
 // Where a walk stands: the address of the leaf that it is in, where that begins, and where its row will stand.
 struct Walk {
@@ -22,7 +22,8 @@ struct Walk {
     at: usize,
 }
 
-// The state of a leaf, as its number: it has no separators, so it is empty where it has no bytes.
+// The state of a leaf, as its number: it has no separators, so it is empty where it has no bytes. Most others are told by
+// their first byte alone.
 fn state_number(message: &[u8], start: usize, end: usize) -> u64
     requires { ⌜ (start ≤ end) × (end ≤ length (now message)) ⌝ }
     ensures { λ r. ⌜ r ≡ plainState (between (now (message .entry)) start end) ⌝ }
@@ -30,11 +31,11 @@ fn state_number(message: &[u8], start: usize, end: usize) -> u64
     if start == end {
         return 1;
     }
-    // Only two bytes can be null: the others are not looked at.
-    if end - start != 2 {
+    if message[start] != 34 {
         return 3;
     }
-    if alphabet::is_null(&message[start..end]) {
+    let second = alphabet::byte_at(message, start + 1);
+    if (start + 2 == end) & (second == 34) {
         return 2;
     }
     3
@@ -129,41 +130,83 @@ fn pass(ends: [u8; 5], b: u8, address: Address) -> Address
     )
 }
 
-// The leaves that end in a block, which goes from `place` up to `to` and has these marks: their rows are written, and
-// the walk stands in the leaf that does not end there.
+// One leaf, which ends at `end`: its row is written, and the walk stands behind it.
+fn turn(message: &[u8], buffer: &mut [u64], ends: [u8; 5], walk: Walk, end: usize) -> Walk
+    requires { ⌜ Ends (now message) end
+        × Stands (now message) (now buffer) (walk .address) (walk .start) (walk .at) end
+        × (ends ≡ endsOf (now message)) × (reading (now message) ≡ Passes) ⌝ }
+    ensures { λ r. ⌜ Stands (now (message .entry)) (now (buffer .exit)) (r .address) (r .start) (r .at) (end + 1) ⌝ }
+    ensures { λ r. ⌜ Writes (now (message .entry)) (now (buffer .entry)) (walk .address) (walk .start) (walk .at)
+        (now (buffer .exit)) (r .address) (r .start) (r .at) ⌝ }
+{
+    let at = put_leaf(message, buffer, walk.at, walk.address, walk.start, end);
+    let address = pass(ends, message[end], walk.address);
+    Walk {
+        address: address,
+        start: end + 1,
+        at: at,
+    }
+}
+
+// The leaves that end in a block, which begins at `place` and has these marks: their rows are written, and the walk
+// stands in the leaf that does not end there. Each turn takes the lowest mark away.
 fn list_block(
     message: &[u8],
     buffer: &mut [u64],
     ends: [u8; 5],
     marks: u64,
     place: usize,
-    to: usize,
     walk: Walk,
 ) -> Walk
-    requires { ⌜ Marks (now message) place to marks
+    requires { ⌜ Marks (now message) place marks
         × Stands (now message) (now buffer) (walk .address) (walk .start) (walk .at) place
         × (ends ≡ endsOf (now message)) × (reading (now message) ≡ Passes) ⌝ }
-    ensures { λ r. ⌜ Stands (now (message .entry)) (now (buffer .exit)) (r .address) (r .start) (r .at) to ⌝ }
+    ensures { λ r. ⌜ Stands (now (message .entry)) (now (buffer .exit)) (r .address) (r .start) (r .at)
+        (place + 48) ⌝ }
     ensures { λ r. ⌜ Writes (now (message .entry)) (now (buffer .entry)) (walk .address) (walk .start) (walk .at)
         (now (buffer .exit)) (r .address) (r .start) (r .at) ⌝ }
 {
     let mut bits = marks;
-    let mut i = place;
     let mut here = walk;
     while bits != 0 {
         let n = u64::trailing_zeros(bits);
-        let end = i + n as usize;
-        let at = put_leaf(message, buffer, here.at, here.address, here.start, end);
-        let b = message[end];
-        here = Walk {
-            address: pass(ends, b, here.address),
-            start: end + 1,
-            at: at,
-        };
-        bits = (bits >> n) >> 1;
-        i = end + 1;
+        here = turn(message, buffer, ends, here, place + n as usize);
+        bits = bits & (bits - 1);
     }
     here
+}
+
+// One byte: where it ends a leaf that is a turn, and else the walk stands where it stood.
+fn step(message: &[u8], buffer: &mut [u64], ends: [u8; 5], walk: Walk, place: usize) -> Walk
+    requires { ⌜ (place < length (now message))
+        × Stands (now message) (now buffer) (walk .address) (walk .start) (walk .at) place
+        × (ends ≡ endsOf (now message)) × (reading (now message) ≡ Passes) ⌝ }
+    ensures { λ r. ⌜ Stands (now (message .entry)) (now (buffer .exit)) (r .address) (r .start) (r .at) (place + 1) ⌝ }
+    ensures { λ r. ⌜ Writes (now (message .entry)) (now (buffer .entry)) (walk .address) (walk .start) (walk .at)
+        (now (buffer .exit)) (r .address) (r .start) (r .at) ⌝ }
+{
+    if search::is_among(ends, message[place]) {
+        return turn(message, buffer, ends, walk, place);
+    }
+    walk
+}
+
+// The rows of all leaves from the one on in which a walk stands, byte by byte, where there are fewer than make a block;
+// the place behind them.
+fn list_few(message: &[u8], buffer: &mut [u64], ends: [u8; 5], walk: Walk, from: usize) -> usize
+    requires { ⌜ (from ≤ length (now message))
+        × Stands (now message) (now buffer) (walk .address) (walk .start) (walk .at) from
+        × (ends ≡ endsOf (now message)) × (reading (now message) ≡ Passes) ⌝ }
+    ensures { λ r. ⌜ WritesAll (now (message .entry)) (now (buffer .entry)) (walk .address) (walk .start) (walk .at)
+        (now (buffer .exit)) r ⌝ }
+{
+    let mut i = from;
+    let mut here = walk;
+    while i < message.len() {
+        here = step(message, buffer, ends, here, i);
+        i += 1;
+    }
+    here.at
 }
 
 // The bytes that end a leaf: CR, and the separators of fields, components, repetitions and subcomponents.
@@ -183,17 +226,6 @@ fn ends_of(message: &[u8]) -> [u8; 5]
     ]
 }
 
-// The end of the block that begins at `place`.
-fn block_end(length: usize, place: usize) -> usize
-    requires { ⌜ place < length ⌝ }
-    ensures { λ r. ⌜ (place < r) × (r ≤ length) × (r ≤ place + 32) ⌝ }
-{
-    if length - place < BLOCK {
-        return length;
-    }
-    place + BLOCK
-}
-
 // The rows of all leaves from the one on in which a walk stands, block by block; the place behind them.
 fn list_rest(message: &[u8], buffer: &mut [u64], walk: Walk, from: usize) -> usize
     requires { ⌜ (from ≤ length (now message))
@@ -205,13 +237,12 @@ fn list_rest(message: &[u8], buffer: &mut [u64], walk: Walk, from: usize) -> usi
     let ends = ends_of(message);
     let mut place = from;
     let mut here = walk;
-    while place < message.len() {
-        let to = block_end(message.len(), place);
-        let marks = mark(&message[place..to], ends);
-        here = list_block(message, buffer, ends, marks, place, to, here);
-        place = to;
+    while MARKED <= message.len() - place {
+        let marks = mark(&message[place..place + MARKED], ends);
+        here = list_block(message, buffer, ends, marks, place, here);
+        place += MARKED;
     }
-    here.at
+    list_few(message, buffer, ends, here, place)
 }
 
 // The rows of all leaves of a message, at the front of the buffer, and how many numbers they have. The two fields of MSH

@@ -17,10 +17,10 @@ use Rattle.leaves.proofs.marks.weights_of.Statement.{statement}
 use Rattle.leaves.proofs.marks.weights_of.Tie as tie
 
 abbrev Inv-loop : tie.InvT-loop
-Inv-loop block ends weights₀ i₀ weights i = (i ≤ 32) × (length weights ≡ 32) × Weighs (among ends) block i weights
+Inv-loop block ends weights₀ i₀ weights i = (i ≤ 48) × (length weights ≡ 48) × Weighs (among ends) block i weights
 
 abbrev μ-loop : tie.MeasureT-loop
-μ-loop block ends weights₀ i₀ weights i = 32 - i
+μ-loop block ends weights₀ i₀ weights i = 48 - i
 
 -- a one that is moved so far is the weight
 power : (k : ℕ) → k < 8 → (1 * 2 ^ k) % 2 ^ 8 ≡ 2 ^ k
@@ -44,8 +44,8 @@ returns : tie.Need-returns Inv-loop μ-loop
 returns c =
     let l = c .before in
     let h = l .loop .inv .0 in
-    let e : l .loop .i ≡ 32 = omega arith in
-    λ j k. l .loop .inv .2 j (omega arith)
+    let e : l .loop .i ≡ 48 = omega arith in
+    ((λ j k. l .loop .inv .2 j (omega arith)), l .loop .inv .1)
 
 pub weights-of-spec : {M : Type 1} → statement M
 weights-of-spec =
