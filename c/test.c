@@ -1,7 +1,8 @@
 /* Calls every function of the library from C with questions of crates/ask, and with larger ones than that program has room for, and compares
  * what comes back with their answers, so that the header, the library and the program cannot drift apart. Lines that are no questions
  * (answered `?`) are passed over: they are the program's own.
- * Formatted text is also laid out by a table that stands here, in letters that can be read.
+ * Every message that is read has its leaves and its segments asked for too, and held to turrethog_find. Formatted text is also laid out by a
+ * table that stands here, in letters that can be read.
  * Prints how often each function was called; ends with 1 at the first difference, and where a function was never called.
  *
  *     c/test                              which calls it with files: QUESTIONS ANSWERS [QUESTIONS ANSWERS]..
@@ -348,6 +349,46 @@ static const char *fault_in_leaves(const uint8_t *m, size_t n, turrethog_answer 
     return l.number == TURRETHOG_NO_ROOM && l.place == 0 && l.length == 0 && unwritten_numbers(0) ? "" : " and its leaves have room";
 }
 
+/* Whether a segment is answered as a lookup in it is, for an address that a message could have. */
+static bool as_found(turrethog_segment_answer s, const uint8_t *m, size_t n, size_t segment)
+{
+    turrethog_element e = turrethog_find(m, n, segment, 1, 0, 0, 0);
+    return s.number == e.number && s.place == e.place;
+}
+
+static bool is_refused_segment(turrethog_segment_answer s)
+{
+    return s.number != 0 && s.name == 0 && s.start == 0 && s.end == 0;
+}
+
+/* The segments of a message one by one: each begins behind the CR of the one before it, ends at the next CR, has its first three bytes for a name
+ * and is answered as turrethog_find is; past the last there is none. Of a long message only the first of them is asked for, and what is past the
+ * last. Empty where it is so. */
+static const char *fault_in_segments(const uint8_t *m, size_t n, turrethog_answer read)
+{
+    turrethog_answer count = turrethog_segments(m, n);
+    size_t start = 0, past = 0;
+    if (count.number != read.number || count.place != read.place || (count.number != 0 && count.length != 0))
+        return " and its segments are counted otherwise";
+    for (; start < n && count.number == 0; past++) {
+        const uint8_t *end = memchr(m + start, '\r', n - start);
+        if (end == NULL)
+            return " and it has no end";
+        if (past == 0 || n <= LONGEST_LISTED) {
+            turrethog_segment_answer s = turrethog_segment(m, n, past);
+            uint32_t name = (uint32_t)m[start] << 16 | (uint32_t)m[start + 1] << 8 | m[start + 2];
+            if (s.number != 0 || s.name != name || s.start != start || s.end != (size_t)(end - m) || !as_found(s, m, n, past))
+                return " and a segment is another";
+        }
+        start = (size_t)(end - m) + 1;
+    }
+    turrethog_segment_answer behind = turrethog_segment(m, n, past), far = turrethog_segment(m, n, (size_t)-1);
+    if (count.length != past || !is_refused_segment(behind) || !is_refused_segment(far) || !as_found(behind, m, n, past)
+        || !as_found(far, m, n, (size_t)-1))
+        return " and there is a segment past the last";
+    return "";
+}
+
 static void judge(text verb, const uint8_t *m, size_t n)
 {
     if (is(verb, "read")) {
@@ -355,6 +396,7 @@ static void judge(text verb, const uint8_t *m, size_t n)
         SAY("%u %zu", (unsigned)r.number, r.place);
         if (n <= LONGEST_LISTED)
             SAY("%s", fault_in_leaves(m, n, r));
+        SAY("%s", fault_in_segments(m, n, r));
     } else if (is(verb, "structure")) {
         turrethog_structure_answer s = turrethog_structure(m, n);
         SAY("%u %zu %s", (unsigned)s.number, s.place, s.could_end ? "yes" : "no");
@@ -565,11 +607,21 @@ static bool all_laid_out(void)
     return true;
 }
 
+/* The header's version and limits are the library's. */
+static bool same_limits(void)
+{
+    if (turrethog_version() == TURRETHOG_VERSION_NUMBER && turrethog_message_limit() == TURRETHOG_MESSAGE_LIMIT
+        && turrethog_segment_limit() == TURRETHOG_SEGMENT_LIMIT && turrethog_id_limit() == TURRETHOG_ID_LIMIT)
+        return true;
+    printf("C differs: the header has another version or another limit than the library\n");
+    return false;
+}
+
 int main(int count, char **names)
 {
     if (count < 3 || count % 2 == 0)
         return 2;
-    if (!all_laid_out())
+    if (!same_limits() || !all_laid_out())
         return 1;
     for (int i = 1; i < count; i += 2)
         if (!agree(names[i], names[i + 1]))

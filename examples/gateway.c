@@ -5,14 +5,13 @@
  *     c/link examples/gateway.c gateway && ./gateway 20261115103000+1000 0001 < examples/blood-count.hl7
  */
 #include "turrethog.h"
-#include "words.h"
 
 #include <stdio.h>
 #include <string.h>
 
 /* One byte more than a message may have, so that a longer one is seen. */
-static uint8_t message[LONGEST_MESSAGE + 1];
-static uint8_t acknowledgement[LONGEST_MESSAGE];
+static uint8_t message[TURRETHOG_MESSAGE_LIMIT + 1];
+static uint8_t acknowledgement[TURRETHOG_MESSAGE_LIMIT];
 
 static void print_names(size_t length, size_t count)
 {
@@ -30,7 +29,7 @@ static void print_verdict(turrethog_verdict_answer verdict, size_t length)
         fprintf(stderr, "accepted\n");
         return;
     }
-    fprintf(stderr, "refused (%u): %s\n", (unsigned)verdict.number, in_words(verdict.number));
+    fprintf(stderr, "refused (%u): %s\n", (unsigned)verdict.number, turrethog_words(verdict.number));
     if (verdict.number < TURRETHOG_NO_STRUCTURE)
         fprintf(stderr, "  at byte %zu\n", verdict.place);
     else if (verdict.field != 0)
@@ -62,7 +61,7 @@ int main(int count, char **words)
     turrethog_answer written = turrethog_acknowledge(message, length, (const uint8_t *)words[1], strlen(words[1]), (const uint8_t *)words[2],
                                                      strlen(words[2]), acknowledgement, sizeof acknowledgement);
     if (written.number != TURRETHOG_NONE) {
-        fprintf(stderr, "not acknowledged (%u): %s\n", (unsigned)written.number, in_words(written.number));
+        fprintf(stderr, "not acknowledged (%u): %s\n", (unsigned)written.number, turrethog_words(written.number));
         return 2;
     }
     if (fwrite(acknowledgement, 1, written.length, stdout) != written.length || fflush(stdout) != 0) {

@@ -17,7 +17,6 @@
 #define _POSIX_C_SOURCE 200809L
 
 #include "turrethog.h"
-#include "words.h"
 
 #include <errno.h>
 #include <signal.h>
@@ -29,10 +28,10 @@
 enum { LINE_IN = 0, LINE_OUT = 1 };
 
 /* The frame that is being gathered: between two pieces nobody else may write to it. */
-static uint8_t frame[LONGEST_MESSAGE];
+static uint8_t frame[TURRETHOG_MESSAGE_LIMIT];
 static uint8_t piece[65536];
 /* 0B, the acknowledgement, 1C, 0D. */
-static uint8_t answer[1 + LONGEST_MESSAGE + 2];
+static uint8_t answer[1 + TURRETHOG_MESSAGE_LIMIT + 2];
 
 /* From the command line, for tests; else NULL. Behind the ID there is room for the ten digits of a number. */
 #define LONGEST_GIVEN_ID 189
@@ -70,27 +69,27 @@ static void put_names(char *to, size_t room, turrethog_verdict_answer verdict, s
 
 static void say_message(const char *id, turrethog_verdict_answer verdict, size_t length, uint32_t unanswered)
 {
-    char place[128], names[512], why[128] = "";
+    char place[128], names[512], why[160] = "";
     bool accepted = verdict.number == TURRETHOG_NONE;
     /* Of an accepted message the header and the control ID are sound: then 9 has one reason left. */
     if (unanswered == TURRETHOG_NOT_ACKNOWLEDGEABLE && accepted)
         snprintf(why, sizeof why, "; not answered (9): it is an acknowledgement itself");
     else if (unanswered != TURRETHOG_NONE)
-        snprintf(why, sizeof why, "; not answered (%u): %s", (unsigned)unanswered, in_words(unanswered));
+        snprintf(why, sizeof why, "; not answered (%u): %s", (unsigned)unanswered, turrethog_words(unanswered));
     if (accepted) {
         fprintf(stderr, "%s: accepted%s\n", id, why);
         return;
     }
     put_place(place, sizeof place, verdict);
     put_names(names, sizeof names, verdict, length);
-    fprintf(stderr, "%s: refused (%u): %s%s%s%s%s%s\n", id, (unsigned)verdict.number, in_words(verdict.number), place,
+    fprintf(stderr, "%s: refused (%u): %s%s%s%s%s%s\n", id, (unsigned)verdict.number, turrethog_words(verdict.number), place,
             names[0] != '\0' ? "; could have stood there:" : "", names, verdict.could_end ? "; it could have ended there" : "", why);
 }
 
 static void say_drop(uint32_t number)
 {
     trouble = true;
-    fprintf(stderr, "a frame was dropped (%u): %s\n", (unsigned)number, in_words(number));
+    fprintf(stderr, "a frame was dropped (%u): %s\n", (unsigned)number, turrethog_words(number));
 }
 
 /* What only the state can tell when the line is closed. */
@@ -165,7 +164,7 @@ static bool answer_message(size_t length)
      * reach: the same control ID (MSH-10) may come twice, and is filed once. */
 
     turrethog_answer written = turrethog_acknowledge(frame, length, (const uint8_t *)now, strlen(now), (const uint8_t *)id, strlen(id),
-                                                     answer + 1, LONGEST_MESSAGE);
+                                                     answer + 1, TURRETHOG_MESSAGE_LIMIT);
     say_message(id, verdict, length, written.number);
     trouble = trouble || verdict.number != TURRETHOG_NONE;
     if (written.number == TURRETHOG_CALLERS_TIME || written.number == TURRETHOG_CALLERS_ID)

@@ -20,6 +20,15 @@
 extern "C" {
 #endif
 
+/* ---- The version of this header, and the limits. turrethog_version and the three functions beside it give the library's own. */
+
+#define TURRETHOG_VERSION "0.1.0"
+#define TURRETHOG_VERSION_NUMBER 100 /* 0.1.0: two decimal digits for each part */
+
+#define TURRETHOG_MESSAGE_LIMIT 1048576 /* bytes of a message, or of a frame's */
+#define TURRETHOG_SEGMENT_LIMIT 4096    /* segments of a message */
+#define TURRETHOG_ID_LIMIT 199          /* bytes of a control ID */
+
 /* ---- The numbers. What `place` is stands beside each; it is 0 where nothing is said. */
 
 enum {
@@ -66,6 +75,46 @@ enum {
     /* formatted text: place 0 */
     TURRETHOG_LAYOUT = 42                    /* no lines can be made: a number or a margin out of its range, or what does not go into a line */
 };
+
+/* A number of the table in words, for a log or a person: the command says the same, but for 1 and 41, where it speaks of its own limit. "" for
+ * 0, and for a number that is not in the table. `this` is what the place points to. */
+static inline const char *turrethog_words(uint32_t number)
+{
+    switch (number) {
+    case TURRETHOG_LENGTH: return "this has no bytes, or more than a message may have";
+    case TURRETHOG_HEADER: return "this does not begin as a message does, with MSH and its delimiters";
+    case TURRETHOG_DELIMITER: return "this may not be a delimiter, or is one already";
+    case TURRETHOG_NOT_ALLOWED: return "this byte may not stand in a message";
+    case TURRETHOG_NOT_ENDED: return "the last segment does not end with CR";
+    case TURRETHOG_SEGMENT_NAME: return "this segment does not begin with a name";
+    case TURRETHOG_SECOND_HEADER: return "this is a second MSH";
+    case TURRETHOG_TOO_MANY_SEGMENTS: return "with this one there are more segments than a message may have";
+    case TURRETHOG_NOT_ACKNOWLEDGEABLE: return "this has no header that could be acknowledged";
+    case TURRETHOG_ACKNOWLEDGEMENT_TOO_LONG: return "the acknowledgement would be too long";
+    case TURRETHOG_SEPARATOR: return "a delimiter stands here as itself: this has parts, and is no text";
+    case TURRETHOG_UNKNOWN_ESCAPE: return "an escape that is not known";
+    case TURRETHOG_UNCLOSED_ESCAPE: return "an escape that is never closed";
+    case TURRETHOG_NO_ROOM: return "this has more bytes than there is room for";
+    case TURRETHOG_NULL_TEXT: return "this is null, and null is no text";
+    case TURRETHOG_CALLERS_TIME: return "the time is no TS";
+    case TURRETHOG_CALLERS_ID: return "the ID has no bytes, or more than an ID may have";
+    case TURRETHOG_ADDRESS: return "there is no such segment, or no such address";
+    case TURRETHOG_NO_STRUCTURE: return "no structure is known for this type of message";
+    case TURRETHOG_SEGMENT_MISPLACED: return "this segment cannot stand here";
+    case TURRETHOG_ENDED_EARLY: return "the message ends too early";
+    case TURRETHOG_REQUIRED_MISSING: return "this is required, and is absent or empty";
+    case TURRETHOG_BREAKS_FORM: return "this breaks the form of its type";
+    case TURRETHOG_NOT_LISTED: return "this value is not in its list";
+    case TURRETHOG_REQUIRED_NULL: return "this is required, and is null";
+    case TURRETHOG_VALUE_WITHOUT_TYPE: return "there is a value, and OBX-2 does not say of which type";
+    case TURRETHOG_REPEATED: return "this may not repeat";
+    case TURRETHOG_VALUE_TOO_LONG: return "this value is too long";
+    case TURRETHOG_BROKEN_FRAME: return "this frame is broken: 0B stands inside it, or 1C without 0D behind it";
+    case TURRETHOG_FRAME_TOO_LONG: return "this frame has more bytes than a message may have, or than there is room for";
+    case TURRETHOG_LAYOUT: return "this cannot be laid out: a number or a margin is out of its range, or a line would be over 200 bytes";
+    default: return "";
+    }
+}
 
 /* The four states of an element. An empty box is not a zero, and null is neither. */
 enum {
@@ -177,6 +226,22 @@ typedef struct {
     size_t names;
 } turrethog_verdict_answer;
 
+typedef struct {
+    uint32_t number;
+    uint32_t name; /* its three letters as one number, the first highest (OBX is 0x4f4258); 0 where it was refused */
+    size_t place;
+    size_t start; /* the bytes of the message from start up to end, where its CR stands; 0 and 0 where it was refused */
+    size_t end;
+} turrethog_segment_answer;
+
+/* ---- The library itself */
+
+/* What TURRETHOG_VERSION_NUMBER and the limits are in the library that was linked: others than the macros say that the header is another's. */
+uint32_t turrethog_version(void);
+size_t turrethog_message_limit(void);
+size_t turrethog_segment_limit(void);
+size_t turrethog_id_limit(void);
+
 /* ---- Framing. On a line of MLLP each message stands in a frame: 0B, the message, 1C, 0D. It comes in pieces of any size. */
 
 /* Takes a piece of the line up to the end of the next frame, or to where one is dropped, and gathers the frame's bytes at the front of the
@@ -201,6 +266,13 @@ turrethog_answer turrethog_read(const uint8_t *message, size_t length);
 /* An element, by segment (from 0), field, repetition, component and subcomponent (from 1; 0 is the whole): 0, a reading fault, or 19. */
 turrethog_element turrethog_find(const uint8_t *message, size_t length, size_t segment, size_t field, size_t repetition, size_t component,
                                  size_t subcomponent);
+
+/* How many segments a message has: the length that comes back. 0, or a reading fault. */
+turrethog_answer turrethog_segments(const uint8_t *message, size_t length);
+
+/* The name of a segment, by its number from 0, and where it stands: 0, a reading fault, or 19 where there is none of that number. Each call
+ * reads the message, as turrethog_find does. */
+turrethog_segment_answer turrethog_segment(const uint8_t *message, size_t length, size_t segment);
 
 /* Every leaf of a message in one call: each subcomponent of each component of each repetition of each field, in the message's order, as
  * turrethog_find has it at that address. Each is a row of eight numbers at the front of the buffer: segment, field, repetition, component,

@@ -1,220 +1,12 @@
 // An element of a message by its address, and the number or the time that it says. A state is 0 absent, 1 empty, 2
 // null, 3 present; an element that is not present has no number: an empty box is not a zero.
-use calendar::Clock;
-use calendar::Date;
-use calendar::Figure;
-use calendar::Offset;
-use calendar::Sign;
-use element::Address;
-use element::Found;
-use element::State;
-use value::NumberFound;
-use value::TimeFound;
+use seen::CElement;
+use seen::CNumber;
+use seen::CTime;
 ghost use mathlib.Core.Path.{_≡_};
 ghost use Rattle.element.specs.Finding.{found};
 ghost use Rattle.value.specs.Asked.{nmFound, siFound, dtFound, tmFound, tsFound};
-ghost use Rattle.boundary.specs.Seen.{stateSeen, figureSeen, signSeen, dateSeen, clockSeen, offsetSeen, elementSeen, numberSeen, timeSeen, addressOf};
-
-// What stands for a figure of a time that was not sent: no figure is as large.
-const NOT_SENT: u64 = 0xffff_ffff_ffff_ffff;
-
-// A number of the table and its place, or the state and where the bytes stand: from `start` up to `end`.
-#[repr(C)]
-pub struct CElement {
-    pub number: u32,
-    pub state: u32,
-    pub place: usize,
-    pub start: usize,
-    pub end: usize,
-}
-
-// A number of the table and its place, or the state and, where it is present, the number: `value` with so many
-// decimals.
-#[repr(C)]
-pub struct CNumber {
-    pub number: u32,
-    pub state: u32,
-    pub place: usize,
-    pub value: i64,
-    pub decimals: usize,
-}
-
-#[repr(C)]
-pub struct CDate {
-    pub year: u64,
-    pub month: u64,
-    pub day: u64,
-}
-
-// The fraction of a second is the number that its digits say, with their count.
-#[repr(C)]
-pub struct CClock {
-    pub hour: u64,
-    pub minute: u64,
-    pub second: u64,
-    pub fraction: u64,
-    pub digits: usize,
-}
-
-// The offset from UTC. Its sign is 0 for none sent, 1 for plus and 2 for minus.
-#[repr(C)]
-pub struct COffset {
-    pub sign: u64,
-    pub hours: u64,
-    pub minutes: u64,
-}
-
-// A number of the table and its place, or the state and, where it is present, the time.
-#[repr(C)]
-pub struct CTime {
-    pub number: u32,
-    pub state: u32,
-    pub place: usize,
-    pub date: CDate,
-    pub clock: CClock,
-    pub offset: COffset,
-}
-
-fn state_shown(state: State) -> u32
-    ensures { λ r. ⌜ r ≡ stateSeen state ⌝ }
-{
-    match state {
-        State::Absent => 0,
-        State::Empty => 1,
-        State::Null => 2,
-        State::Present => 3,
-    }
-}
-
-fn figure_shown(figure: Figure) -> u64
-    ensures { λ r. ⌜ r ≡ figureSeen figure ⌝ }
-{
-    match figure {
-        Figure::NotSent => NOT_SENT,
-        Figure::Sent(n) => n,
-    }
-}
-
-fn sign_shown(sign: Sign) -> u64
-    ensures { λ r. ⌜ r ≡ signSeen sign ⌝ }
-{
-    match sign {
-        Sign::NotSent => 0,
-        Sign::Plus => 1,
-        Sign::Minus => 2,
-    }
-}
-
-fn element_shown(found: Found) -> CElement
-    ensures { λ r. ⌜ r ≡ elementSeen found ⌝ }
-{
-    let answer = found.answer;
-    let element = found.element;
-    let kind = answer.kind;
-    let state = element.state;
-    CElement {
-        number: alphabet::number(kind) as u32,
-        state: state_shown(state),
-        place: answer.place,
-        start: element.start,
-        end: element.end,
-    }
-}
-
-fn number_shown(found: NumberFound) -> CNumber
-    ensures { λ r. ⌜ r ≡ numberSeen found ⌝ }
-{
-    let answer = found.answer;
-    let kind = answer.kind;
-    let state = found.state;
-    CNumber {
-        number: alphabet::number(kind) as u32,
-        state: state_shown(state),
-        place: answer.place,
-        value: found.value,
-        decimals: found.decimals,
-    }
-}
-
-fn date_shown(date: Date) -> CDate
-    ensures { λ r. ⌜ r ≡ dateSeen date ⌝ }
-{
-    let year = date.year;
-    let month = date.month;
-    let day = date.day;
-    CDate {
-        year: figure_shown(year),
-        month: figure_shown(month),
-        day: figure_shown(day),
-    }
-}
-
-fn clock_shown(clock: Clock) -> CClock
-    ensures { λ r. ⌜ r ≡ clockSeen clock ⌝ }
-{
-    let hour = clock.hour;
-    let minute = clock.minute;
-    let second = clock.second;
-    let fraction = clock.fraction;
-    CClock {
-        hour: figure_shown(hour),
-        minute: figure_shown(minute),
-        second: figure_shown(second),
-        fraction: figure_shown(fraction),
-        digits: clock.digits,
-    }
-}
-
-fn offset_shown(offset: Offset) -> COffset
-    ensures { λ r. ⌜ r ≡ offsetSeen offset ⌝ }
-{
-    let sign = offset.sign;
-    COffset {
-        sign: sign_shown(sign),
-        hours: offset.hours,
-        minutes: offset.minutes,
-    }
-}
-
-fn time_shown(found: TimeFound) -> CTime
-    ensures { λ r. ⌜ r ≡ timeSeen found ⌝ }
-{
-    let answer = found.answer;
-    let kind = answer.kind;
-    let state = found.state;
-    let time = found.time;
-    let date = time.date;
-    let clock = time.clock;
-    let offset = time.offset;
-    let number = alphabet::number(kind) as u32;
-    let shown = state_shown(state);
-    CTime {
-        number: number,
-        state: shown,
-        place: answer.place,
-        date: date_shown(date),
-        clock: clock_shown(clock),
-        offset: offset_shown(offset),
-    }
-}
-
-fn address_of(
-    segment: usize,
-    field: usize,
-    repetition: usize,
-    component: usize,
-    subcomponent: usize,
-) -> Address
-    ensures { λ r. ⌜ r ≡ addressOf segment field repetition component subcomponent ⌝ }
-{
-    Address {
-        segment: segment,
-        field: field,
-        repetition: repetition,
-        component: component,
-        subcomponent: subcomponent,
-    }
-}
+ghost use Rattle.seen.specs.Seen.{elementSeen, numberSeen, timeSeen, addressOf};
 
 // Finds an element.
 #[no_mangle]
@@ -229,8 +21,8 @@ pub extern "C" fn turrethog_find(
     ensures { λ r. ⌜ r ≡ elementSeen
         (found (now (message .entry)) (addressOf segment field repetition component subcomponent)) ⌝ }
 {
-    let address = address_of(segment, field, repetition, component, subcomponent);
-    element_shown(element::find(message, address))
+    let address = seen::address_of(segment, field, repetition, component, subcomponent);
+    seen::element_shown(element::find(message, address))
 }
 
 // The number (NM) that an element says.
@@ -246,8 +38,8 @@ pub extern "C" fn turrethog_nm(
     ensures { λ r. ⌜ r ≡ numberSeen
         (nmFound (now (message .entry)) (addressOf segment field repetition component subcomponent)) ⌝ }
 {
-    let address = address_of(segment, field, repetition, component, subcomponent);
-    number_shown(value::nm(message, address))
+    let address = seen::address_of(segment, field, repetition, component, subcomponent);
+    seen::number_shown(value::nm(message, address))
 }
 
 // The sequence number (SI) that an element says.
@@ -263,8 +55,8 @@ pub extern "C" fn turrethog_si(
     ensures { λ r. ⌜ r ≡ numberSeen
         (siFound (now (message .entry)) (addressOf segment field repetition component subcomponent)) ⌝ }
 {
-    let address = address_of(segment, field, repetition, component, subcomponent);
-    number_shown(value::si(message, address))
+    let address = seen::address_of(segment, field, repetition, component, subcomponent);
+    seen::number_shown(value::si(message, address))
 }
 
 // The date (DT) that an element says.
@@ -280,8 +72,8 @@ pub extern "C" fn turrethog_dt(
     ensures { λ r. ⌜ r ≡ timeSeen
         (dtFound (now (message .entry)) (addressOf segment field repetition component subcomponent)) ⌝ }
 {
-    let address = address_of(segment, field, repetition, component, subcomponent);
-    time_shown(value::dt(message, address))
+    let address = seen::address_of(segment, field, repetition, component, subcomponent);
+    seen::time_shown(value::dt(message, address))
 }
 
 // The time of day (TM) that an element says.
@@ -297,8 +89,8 @@ pub extern "C" fn turrethog_tm(
     ensures { λ r. ⌜ r ≡ timeSeen
         (tmFound (now (message .entry)) (addressOf segment field repetition component subcomponent)) ⌝ }
 {
-    let address = address_of(segment, field, repetition, component, subcomponent);
-    time_shown(value::tm(message, address))
+    let address = seen::address_of(segment, field, repetition, component, subcomponent);
+    seen::time_shown(value::tm(message, address))
 }
 
 // The time stamp (TS) that an element says.
@@ -314,6 +106,6 @@ pub extern "C" fn turrethog_ts(
     ensures { λ r. ⌜ r ≡ timeSeen
         (tsFound (now (message .entry)) (addressOf segment field repetition component subcomponent)) ⌝ }
 {
-    let address = address_of(segment, field, repetition, component, subcomponent);
-    time_shown(value::ts(message, address))
+    let address = seen::address_of(segment, field, repetition, component, subcomponent);
+    seen::time_shown(value::ts(message, address))
 }

@@ -5,16 +5,12 @@ mod answers;
 mod elements;
 mod framing;
 mod judges;
+mod limits;
 mod lists;
+mod segment;
 mod texts;
 
 pub use answers::CAnswer;
-pub use elements::CClock;
-pub use elements::CDate;
-pub use elements::CElement;
-pub use elements::CNumber;
-pub use elements::COffset;
-pub use elements::CTime;
 pub use framing::CFed;
 pub use framing::CFrameState;
 pub use judges::CStructure;

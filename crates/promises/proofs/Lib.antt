@@ -10,3 +10,4 @@ pub mod Texts
 pub mod Refusals
 pub mod Frames
 pub mod FormattedLines
+pub mod Segments

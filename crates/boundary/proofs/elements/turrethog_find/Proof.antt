@@ -3,7 +3,7 @@ use mathlib.Core.Path.{ap, _∙_}
 use borrow.Author.Needs.{needs}
 use denote.Ref.{now}
 use Rattle.element.specs.Finding.{found}
-use Rattle.boundary.specs.Seen.{elementSeen}
+use Rattle.seen.specs.Seen.{elementSeen}
 use Rattle.boundary.proofs.elements.turrethog_find.Statement.{statement}
 use Rattle.boundary.proofs.elements.turrethog_find.Tie as tie
 

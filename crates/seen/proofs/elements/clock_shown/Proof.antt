@@ -1,7 +1,7 @@
 -- Rests on each figure.
 use borrow.Author.Needs.{needs}
-use Rattle.boundary.proofs.elements.clock_shown.Statement.{statement}
-use Rattle.boundary.proofs.elements.clock_shown.Tie as tie
+use Rattle.seen.proofs.elements.clock_shown.Statement.{statement}
+use Rattle.seen.proofs.elements.clock_shown.Tie as tie
 
 returns : tie.Need-returns
 returns c i = record {

@@ -1,7 +1,7 @@
 -- Rests on the table of numbers and on the state.
 use borrow.Author.Needs.{needs}
-use Rattle.boundary.proofs.elements.element_shown.Statement.{statement}
-use Rattle.boundary.proofs.elements.element_shown.Tie as tie
+use Rattle.seen.proofs.elements.element_shown.Statement.{statement}
+use Rattle.seen.proofs.elements.element_shown.Tie as tie
 
 returns : tie.Need-returns
 returns c i =

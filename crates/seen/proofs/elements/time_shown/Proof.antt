@@ -1,7 +1,7 @@
 -- Rests on the table of numbers, on the state and on each part of the time.
 use borrow.Author.Needs.{needs}
-use Rattle.boundary.proofs.elements.time_shown.Statement.{statement}
-use Rattle.boundary.proofs.elements.time_shown.Tie as tie
+use Rattle.seen.proofs.elements.time_shown.Statement.{statement}
+use Rattle.seen.proofs.elements.time_shown.Tie as tie
 
 returns : tie.Need-returns
 returns c i =

@@ -3,8 +3,8 @@ use borrow.Author.Needs.{needs}
 use mir.Syntax.{w64}
 use mir.Val.{SFits}
 use mir.Facts.{toZ-ofZ}
-use Rattle.boundary.proofs.elements.number_shown.Statement.{statement}
-use Rattle.boundary.proofs.elements.number_shown.Tie as tie
+use Rattle.seen.proofs.elements.number_shown.Statement.{statement}
+use Rattle.seen.proofs.elements.number_shown.Tie as tie
 
 returns : tie.Need-returns
 returns c =

@@ -1,7 +1,7 @@
 -- Rests on each figure.
 use borrow.Author.Needs.{needs}
-use Rattle.boundary.proofs.elements.date_shown.Statement.{statement}
-use Rattle.boundary.proofs.elements.date_shown.Tie as tie
+use Rattle.seen.proofs.elements.date_shown.Statement.{statement}
+use Rattle.seen.proofs.elements.date_shown.Tie as tie
 
 returns : tie.Need-returns
 returns c i = record { year = c .before .before .figure-shown .ensures i; month = c .before .figure-shown2 .ensures i; day = c .figure-shown3 .ensures i }

@@ -1,7 +1,7 @@
 -- Rests on the sign.
 use borrow.Author.Needs.{needs}
-use Rattle.boundary.proofs.elements.offset_shown.Statement.{statement}
-use Rattle.boundary.proofs.elements.offset_shown.Tie as tie
+use Rattle.seen.proofs.elements.offset_shown.Statement.{statement}
+use Rattle.seen.proofs.elements.offset_shown.Tie as tie
 
 returns : tie.Need-returns
 returns c i = record { sign = c .sign-shown .ensures i; hours = c .before .args .offset .hours; minutes = c .before .args .offset .minutes }
