@@ -1,8 +1,8 @@
-// The command that a word says, where as many words stand behind it as the command takes.
-ghost use Prim.Native.Nat.{_≤_};
-use crate::LAST_WORD;
+// The commands, by the words that say them, and how many words each takes behind it.
 
-// The commands, as numbers that can be compared.
+// The commands, as numbers that can be compared. No word at all says none.
+pub const NOTHING: u8 = 0;
+
 pub const CHECK: u8 = 1;
 
 pub const SHOW: u8 = 2;
@@ -20,8 +20,16 @@ pub const HELP: u8 = 7;
 
 pub const VERSION: u8 = 8;
 
-// The command that a word says, or 0.
-fn command_of(word: &[u8]) -> u8 {
+// Words that say no command. What is wrong with them was said.
+pub const WRONG: u8 = 9;
+
+// Whether a word asks for help, wherever it is asked.
+pub fn is_help(word: &[u8]) -> bool {
+    alphabet::same(word, b"--help") | alphabet::same(word, b"-h")
+}
+
+// The command that a word says.
+pub fn command_of(word: &[u8]) -> u8 {
     if alphabet::same(word, b"check") {
         return CHECK;
     }
@@ -40,13 +48,13 @@ fn command_of(word: &[u8]) -> u8 {
     if alphabet::same(word, b"ack") {
         return ACKNOWLEDGE;
     }
-    if alphabet::same(word, b"--help") | alphabet::same(word, b"-h") {
+    if is_help(word) | alphabet::same(word, b"help") {
         return HELP;
     }
     if alphabet::same(word, b"--version") {
         return VERSION;
     }
-    0
+    WRONG
 }
 
 // Whether a command asks for an element, by the words behind the file's name.
@@ -59,28 +67,19 @@ pub fn takes_files(command: u8) -> bool {
     (command == CHECK) | (command == FRAMES)
 }
 
-// The command where it stands at an index and as many words stand behind it as it takes, and else 0: a file or more to
-// check or to take frames from, one to show, one to get an element or its lines from with two to five words behind its
-// name, one to acknowledge with two, and none to tell of itself.
-fn with_its_words(command: u8, index: usize, count: usize) -> u8
-    requires { ⌜ index ≤ 9 ⌝ }
-{
-    let is_checked = takes_files(command) & (index + 2 <= count);
-    let is_shown = (command == SHOW) & (count == index + 2);
-    let is_got = takes_address(command) & ((index + 4 <= count) & (count <= index + 7));
-    let is_acknowledged = (command == ACKNOWLEDGE) & (count == index + 4);
-    let is_told = (HELP <= command) & (count == index + 1);
-    if ((is_checked | is_shown) | (is_got | is_acknowledged)) | is_told {
-        return command;
-    }
-    0
+// Whether a command takes the option --json.
+pub fn takes_json(command: u8) -> bool {
+    takes_files(command) | ((command == SHOW) | (command == GET))
 }
 
-// The command that the argument at an index says.
-pub fn command_at(index: usize, word: &mut [u8]) -> u8 {
-    if LAST_WORD < index {
-        return 0;
-    }
-    let length = os::arg(index, word);
-    with_its_words(command_of(&word[..length]), index, os::arg_count())
+// Whether a command takes so many words: a file or more to check or to take frames from, one to show, one to get an
+// element or its lines from with two to five words behind its name, one to acknowledge with two, and none to tell of
+// itself.
+pub fn takes_words(command: u8, count: usize) -> bool {
+    let is_checked = takes_files(command) & (1 <= count);
+    let is_shown = (command == SHOW) & (count == 1);
+    let is_got = takes_address(command) & ((3 <= count) & (count <= 6));
+    let is_acknowledged = (command == ACKNOWLEDGE) & (count == 3);
+    let is_told = (HELP <= command) & (count == 0);
+    ((is_checked | is_shown) | (is_got | is_acknowledged)) | is_told
 }

@@ -1,8 +1,10 @@
-// What the words of a command line ask for: the command itself, the file that a word names, read, and the address of an
-// element, said by a segment's name or number and by numbers behind it. Words are counted from 1.
+// What the words of a command line ask for: the command with its option, the file that a word names, read, and the
+// address of an element, said by a segment's name or number and by numbers behind it. Words are counted from 1.
 mod commands;
 mod files;
 mod numbers;
+mod questions;
+mod wrong;
 
 pub use commands::ACKNOWLEDGE;
 pub use commands::CHECK;
@@ -10,9 +12,9 @@ pub use commands::FRAMES;
 pub use commands::GET;
 pub use commands::HELP;
 pub use commands::LINES;
+pub use commands::NOTHING;
 pub use commands::SHOW;
 pub use commands::VERSION;
-pub use commands::command_at;
 pub use commands::takes_address;
 pub use commands::takes_files;
 use element::Address;
@@ -22,6 +24,8 @@ pub use files::tell_unread;
 use numbers::Number;
 use numbers::number_at;
 use numbers::number_of;
+pub use questions::Question;
+pub use questions::question_at;
 
 // The last word from which on others are looked for, so that no count of words wraps.
 const LAST_WORD: usize = 9;

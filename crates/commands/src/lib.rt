@@ -7,6 +7,7 @@ use alphabet::Refusal;
 use arguments::Asked;
 use arguments::CHECK;
 use arguments::FRAMES;
+use arguments::GET;
 use arguments::LINES;
 use arguments::SHOW;
 use element::Address;
@@ -54,7 +55,13 @@ fn refuse_message(out: Output, name: &[u8], message: &[u8]) -> Outcome {
 }
 
 // Says of a file that it has more bytes than the command takes, where the command says a verdict.
-fn refuse_long(command: u8, out: Output, name: &[u8]) -> Outcome {
+fn refuse_long(command: u8, json: bool, out: Output, name: &[u8]) -> Outcome {
+    if (command == CHECK) & json {
+        return Outcome {
+            out: objects::print_too_long(out, name),
+            status: REFUSED,
+        };
+    }
     if command == CHECK {
         return Outcome {
             out: wording::print_too_long(out, name),
@@ -66,7 +73,15 @@ fn refuse_long(command: u8, out: Output, name: &[u8]) -> Outcome {
 }
 
 // `check`: the verdict on a message.
-fn check(out: Output, name: &[u8], message: &[u8]) -> Outcome {
+fn check(json: bool, out: Output, name: &[u8], message: &[u8]) -> Outcome {
+    if json {
+        let judged = objects::print_check(out, name, message);
+        let printed = judged.out;
+        return Outcome {
+            out: printed,
+            status: if judged.is_accepted { DONE } else { REFUSED },
+        };
+    }
     let told = drawing::print_verdict(out, name, message);
     let printed = told.out;
     Outcome {
@@ -81,14 +96,30 @@ fn room_for_rows() -> [u64; ROWS_ROOM] {
     [0; ROWS_ROOM]
 }
 
+// Shows a message that was read, in words or in JSON. `room` is lent for the text of each part, and `rows` for its
+// leaves.
+fn show_leaves(
+    json: bool,
+    out: Output,
+    name: &[u8],
+    message: &[u8],
+    room: &mut [u8],
+    rows: &mut [u64],
+) -> Output {
+    if json {
+        return element_objects::print_show(out, name, message, room, rows);
+    }
+    showing::show(out, message, room, rows)
+}
+
 // `show`: every segment of a message. `room` is lent for the text of each part.
-fn show(out: Output, name: &[u8], message: &[u8], room: &mut [u8]) -> Outcome {
+fn show(json: bool, out: Output, name: &[u8], message: &[u8], room: &mut [u8]) -> Outcome {
     let answer = reading::read(message);
     let kind = answer.kind;
     if alphabet::number(kind) != 0 {
         return refuse_message(out, name, message);
     }
-    let shown = showing::show(out, message, room, &mut room_for_rows());
+    let shown = show_leaves(json, out, name, message, room, &mut room_for_rows());
     Outcome {
         out: shown,
         status: DONE,
@@ -99,6 +130,7 @@ fn show(out: Output, name: &[u8], message: &[u8], room: &mut [u8]) -> Outcome {
 // and its bytes. A text that has no lines is refused, and shown as it was sent.
 fn say_element(
     command: u8,
+    json: bool,
     out: Output,
     name: &[u8],
     message: &[u8],
@@ -106,7 +138,13 @@ fn say_element(
     element: Element,
     room: &mut [u8],
 ) -> Outcome {
-    if command != LINES {
+    if json {
+        return Outcome {
+            out: element_objects::print_get(out, name, message, address, element, room),
+            status: DONE,
+        };
+    }
+    if command == GET {
         return Outcome {
             out: showing::show_element(out, message, address, element),
             status: DONE,
@@ -128,6 +166,7 @@ fn say_element(
 // Says what stands at an address. One that no message has is refused by its number.
 fn get_element(
     command: u8,
+    json: bool,
     out: Output,
     name: &[u8],
     message: &[u8],
@@ -140,7 +179,7 @@ fn get_element(
     let number = alphabet::number(kind);
     if number == 0 {
         let place = found.element;
-        return say_element(command, out, name, message, address, place, room);
+        return say_element(command, json, out, name, message, address, place, room);
     }
     if number < 9 {
         return refuse_message(out, name, message);
@@ -152,6 +191,7 @@ fn get_element(
 // each word, and then for the lines.
 fn get(
     command: u8,
+    json: bool,
     out: Output,
     name: &[u8],
     message: &[u8],
@@ -160,7 +200,7 @@ fn get(
 ) -> Outcome {
     let asked = arguments::address_at(first, room, message);
     match asked {
-        Asked::At(address) => get_element(command, out, name, message, address, room),
+        Asked::At(address) => get_element(command, json, out, name, message, address, room),
         Asked::Refused => {
             terminal::print_line(
                 terminal::standard_error(),
@@ -196,6 +236,7 @@ fn acknowledge(out: Output, name: &[u8], message: &[u8], first: usize, room: &mu
 // Does what a command asks of the message that a file holds, by the words from `first` on.
 fn answer(
     command: u8,
+    json: bool,
     out: Output,
     name: &[u8],
     message: &[u8],
@@ -205,13 +246,13 @@ fn answer(
     requires { ⌜ first ≤ 9 ⌝ }
 {
     if command == CHECK {
-        return check(out, name, message);
+        return check(json, out, name, message);
     }
     if command == SHOW {
-        return show(out, name, message, room);
+        return show(json, out, name, message, room);
     }
     if arguments::takes_address(command) {
-        return get(command, out, name, message, first, room);
+        return get(command, json, out, name, message, first, room);
     }
     acknowledge(out, name, message, first, room)
 }
@@ -229,6 +270,7 @@ fn frame_room(length: usize) -> usize
 // `frames`: each frame of a file that the argument at an index names. Its pieces and its messages are read to the front
 // of two buffers.
 fn take_frames(
+    json: bool,
     out: Output,
     index: usize,
     name: &mut [u8],
@@ -236,7 +278,7 @@ fn take_frames(
     piece: &mut [u8],
 ) -> Outcome {
     let room = frame_room(message.len());
-    let told = framing::tell_file(out, index, name, piece, &mut message[..room]);
+    let told = framing::tell_file(json, out, index, name, piece, &mut message[..room]);
     let printed = told.out;
     if !told.is_read {
         return Outcome {
@@ -254,6 +296,7 @@ fn take_frames(
 // refused before anything else is looked at.
 pub fn answer_file(
     command: u8,
+    json: bool,
     out: Output,
     index: usize,
     name: &mut [u8],
@@ -264,7 +307,7 @@ pub fn answer_file(
     requires { ⌜ first ≤ 9 ⌝ }
 {
     if command == FRAMES {
-        return take_frames(out, index, name, message, room);
+        return take_frames(json, out, index, name, message, room);
     }
     let file = arguments::read_file(index, name, message);
     let called = file.name;
@@ -276,10 +319,11 @@ pub fn answer_file(
         };
     }
     if LONGEST_MESSAGE < length {
-        return refuse_long(command, out, &name[..called]);
+        return refuse_long(command, json, out, &name[..called]);
     }
     answer(
         command,
+        json,
         out,
         &name[..called],
         &message[..length],

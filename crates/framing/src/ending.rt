@@ -3,6 +3,7 @@ use crate::tally::Tally;
 use frames::FrameState;
 use frames::OUTSIDE;
 use frames::SKIPPING;
+use objects::Counts;
 use terminal::Output;
 
 // The output behind what was told of a file, whether the file could be read, and whether it is as a link ought to send
@@ -59,19 +60,48 @@ fn tell_none(out: Output, name: &[u8], is_none: bool) -> Output {
     terminal::print_line(out, b": no frames")
 }
 
+// Tells at the end in JSON: of a frame that is left open, and how many of everything there are.
+fn print_end(out: Output, name: &[u8], state: FrameState, counts: Counts) -> Output {
+    if !counts.is_open {
+        return objects::print_tally(out, name, counts);
+    }
+    let out = objects::print_open(out, name, SKIPPING <= state.mode, state.held);
+    objects::print_tally(out, name, counts)
+}
+
+// Tells at the end in words.
+fn say_end(out: Output, name: &[u8], state: FrameState, is_none: bool) -> Output {
+    let out = tell_none(out, name, is_none);
+    let out = tell_outside(out, name, state.count);
+    tell_open(out, name, state)
+}
+
 // Tells what there is to tell at the end. In a file without a frame, whole, dropped or open, nothing is refused; but
 // whoever asks for its frames has the wrong file, and a status that says all is well would hide it.
 pub fn tell_end(tally: Tally, name: &[u8]) -> Framed {
     let state = tally.state;
-    let is_open = state.mode != OUTSIDE;
-    let is_none = ((tally.frames == 0) & tally.is_clean) & !is_open;
     let out = tally.out;
-    let out = tell_none(out, name, is_none);
-    let out = tell_outside(out, name, state.count);
-    let told = tell_open(out, name, state);
+    let is_open = state.mode != OUTSIDE;
+    let is_none = ((tally.frames == 0) & (tally.dropped == 0)) & !is_open;
+    let is_clean = ((tally.refused == 0) & (tally.dropped == 0)) & (!is_open & !is_none);
+    if !tally.json {
+        return Framed {
+            out: say_end(out, name, state, is_none),
+            is_read: true,
+            is_clean: is_clean,
+        };
+    }
+    let counts = Counts {
+        frames: tally.frames,
+        refused: tally.refused,
+        dropped: tally.dropped,
+        is_open: is_open,
+        outside: state.count as usize,
+        bytes: tally.bytes,
+    };
     Framed {
-        out: told,
+        out: print_end(out, name, state, counts),
         is_read: true,
-        is_clean: (tally.is_clean & !is_open) & !is_none,
+        is_clean: is_clean,
     }
 }

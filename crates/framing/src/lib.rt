@@ -22,8 +22,14 @@ fn unread(out: Output, name: &[u8]) -> Framed {
 
 // Tells of a file that was opened, piece by piece to its end. A proved loop has to end, and nothing says that a file
 // does: so the loop counts its turns down, from a number that no run uses up.
-fn tell_pieces(out: Output, file: i32, name: &[u8], piece: &mut [u8], buffer: &mut [u8]) -> Framed {
-    let mut tally = Tally::start(out);
+fn tell_pieces(
+    begun: Tally,
+    file: i32,
+    name: &[u8],
+    piece: &mut [u8],
+    buffer: &mut [u8],
+) -> Framed {
+    let mut tally = begun;
     let mut turns = u64::MAX;
     while 0 < turns {
         let got = libc::read(file, piece);
@@ -41,9 +47,10 @@ fn tell_pieces(out: Output, file: i32, name: &[u8], piece: &mut [u8], buffer: &m
     tell_end(tally, name)
 }
 
-// Tells of the file that a word names. The name goes to the front of one buffer, each piece of the file to that of
+// Tells of the file that a word names, in words or in JSON. The name goes to the front of one buffer, each piece of the file to that of
 // another, and the message of each frame to that of the third, whose length is a frame's limit where it is the smaller.
 pub fn tell_file(
+    json: bool,
     out: Output,
     index: usize,
     name: &mut [u8],
@@ -55,7 +62,7 @@ pub fn tell_file(
     if file < 0 {
         return unread(out, &name[..count]);
     }
-    let told = tell_pieces(out, file, &name[..count], piece, buffer);
+    let told = tell_pieces(Tally::start(json, out), file, &name[..count], piece, buffer);
     libc::close(file);
     told
 }

@@ -3,24 +3,45 @@
 use crate::tally::Tally;
 use crate::tally::together;
 use alphabet::Refusal;
+use drawing::Told;
 use frames::Fed;
 use frames::Stop;
+use terminal::Output;
 
 // Tells of a frame by its number, the first being 1, and of the verdict on its message.
+fn print_frame(json: bool, out: Output, name: &[u8], number: usize, message: &[u8]) -> Told {
+    if json {
+        let told = objects::print_frame(out, name, number, message);
+        let printed = told.out;
+        return Told {
+            out: printed,
+            is_accepted: told.is_accepted,
+        };
+    }
+    let out = terminal::print(out, name);
+    let out = terminal::print_counted(out, b": frame ", number, b"");
+    drawing::print_in_line(out, message)
+}
+
+// Tells of a frame, and counts it.
 fn tell_frame(before: Tally, name: &[u8], message: &[u8]) -> Tally {
     let number = together(before.frames, 1);
     let out = before.out;
     let state = before.state;
-    let out = terminal::print(out, name);
-    let out = terminal::print_counted(out, b": frame ", number, b"");
-    let told = drawing::print_in_line(out, message);
+    let told = print_frame(before.json, out, name, number, message);
     let printed = told.out;
     Tally {
+        json: before.json,
         out: printed,
         state: state,
         frames: number,
+        refused: if told.is_accepted {
+            before.refused
+        } else {
+            together(before.refused, 1)
+        },
+        dropped: before.dropped,
         bytes: before.bytes,
-        is_clean: before.is_clean & told.is_accepted,
     }
 }
 
@@ -29,22 +50,31 @@ fn last_byte(count: usize) -> usize {
     if count == 0 { 0 } else { count - 1 }
 }
 
-// Tells of a dropped frame, and of the byte that was read last: 0B inside it, what stands behind 1C, or the first that
-// is over the limit.
+// Tells of a dropped frame, and of the byte of the file at which it was dropped.
+fn print_dropped(json: bool, out: Output, name: &[u8], kind: Refusal, place: usize) -> Output {
+    if json {
+        return objects::print_dropped(out, name, kind, place);
+    }
+    let out = terminal::print(out, name);
+    let out = wording::print_numbered(out, b": dropped", kind);
+    let out = terminal::print_counted(out, b" (byte ", place, b" of the file)");
+    terminal::end_line(out)
+}
+
+// Tells of a dropped frame, and counts it. It was dropped at the byte that was read last: 0B inside it, what stands
+// behind 1C, or the first that is over the limit.
 fn tell_drop(before: Tally, name: &[u8], kind: Refusal) -> Tally {
     let out = before.out;
     let state = before.state;
-    let out = terminal::print(out, name);
-    let out = wording::print_numbered(out, b": dropped", kind);
-    let place = last_byte(before.bytes);
-    let out = terminal::print_counted(out, b" (byte ", place, b" of the file)");
-    let printed = terminal::end_line(out);
+    let printed = print_dropped(before.json, out, name, kind, last_byte(before.bytes));
     Tally {
+        json: before.json,
         out: printed,
         state: state,
         frames: before.frames,
+        refused: before.refused,
+        dropped: together(before.dropped, 1),
         bytes: before.bytes,
-        is_clean: false,
     }
 }
 
@@ -57,11 +87,13 @@ fn tell_stop(before: Tally, name: &[u8], fed: Fed, buffer: &[u8]) -> Tally {
     let state = fed.state;
     let out = before.out;
     let read = Tally {
+        json: before.json,
         out: out,
         state: state,
         frames: before.frames,
+        refused: before.refused,
+        dropped: before.dropped,
         bytes: together(before.bytes, fed.used),
-        is_clean: before.is_clean,
     };
     match stop {
         Stop::More => read,

@@ -2,25 +2,29 @@
 use frames::FrameState;
 use terminal::Output;
 
-// Where it was told, the reader's state, how many whole frames there were, how many bytes were read, and whether every
-// message was accepted and no frame dropped.
+// Whether it is told in JSON, and where, the reader's state, how many whole frames there were, how many messages of
+// these were refused, how many frames were dropped, and how many bytes were read.
 pub struct Tally {
+    pub json: bool,
     pub out: Output,
     pub state: FrameState,
     pub frames: usize,
+    pub refused: usize,
+    pub dropped: usize,
     pub bytes: usize,
-    pub is_clean: bool,
 }
 
 impl Tally {
     // At the beginning of a file.
-    pub fn start(out: Output) -> Tally {
+    pub fn start(json: bool, out: Output) -> Tally {
         Tally {
+            json: json,
             out: out,
             state: FrameState::start(),
             frames: 0,
+            refused: 0,
+            dropped: 0,
             bytes: 0,
-            is_clean: true,
         }
     }
 }

@@ -14,7 +14,7 @@ use terminal::Output;
 const COLUMN: usize = 16;
 
 // How many numbers a leaf's row has.
-const ROW: usize = 8;
+pub const ROW: usize = 8;
 
 // Which parts around a leaf are split: its field into repetitions, its repetition into components, and its component
 // into subcomponents.
@@ -49,7 +49,7 @@ fn field_address(number: usize) -> Address {
 }
 
 // One of the eight numbers of the row that begins at a place, and 0 where there is no such row.
-fn number_at(rows: &[u64], at: usize, column: usize) -> usize {
+pub fn number_at(rows: &[u64], at: usize, column: usize) -> usize {
     if rows.len() <= at {
         return 0;
     }
@@ -135,7 +135,7 @@ fn address_at(rows: &[u64], at: usize, split: Split) -> Address {
 }
 
 // The state of a row's leaf.
-fn state_at(rows: &[u64], at: usize) -> State {
+pub fn state_at(rows: &[u64], at: usize) -> State {
     let state = number_at(rows, at, 5);
     if state == 0 {
         return State::Absent;
@@ -180,7 +180,7 @@ fn print_lines_below(out: Output, delimiters: Delimiters, bytes: &[u8], room: &m
 }
 
 // Whether a field of a segment has formatted text: OBX-5, the value, where OBX-2, its type, is FT.
-fn is_formatted(delimiters: Delimiters, segment: &[u8], field: usize) -> bool {
+pub fn is_formatted(delimiters: Delimiters, segment: &[u8], field: usize) -> bool {
     if (field != 5) | !alphabet::same(places::piece(segment, 0, 3), b"OBX") {
         return false;
     }
@@ -299,7 +299,7 @@ fn show_segments(out: Output, message: &[u8], rows: &[u64], room: &mut [u8]) -> 
 }
 
 // The rows at the front of a buffer, where it has room for as many.
-fn first_rows(buffer: &[u64], count: usize) -> &[u64] {
+pub fn first_rows(buffer: &[u64], count: usize) -> &[u64] {
     if buffer.len() / ROW < count {
         return &buffer[..0];
     }

@@ -4,8 +4,9 @@
 mod status;
 
 use arguments::HELP;
+use arguments::NOTHING;
 use arguments::VERSION;
-use arguments::command_at;
+use arguments::question_at;
 use commands::answer_file;
 ghost use Prim.Native.Nat.{_≤_, _<_};
 
@@ -17,24 +18,24 @@ const ROOM: usize = 65_537;
 // many blanks or lines: eight times the longest message is more than any text needs that is written to be read.
 const LARGE_ROOM: usize = 524_288;
 
-// Does what a command asks of each file that the arguments from the one before `first` up to and without `until` name:
-// that is one where words stand behind it. Returns the worst status.
+// Does what a command asks of each file that the arguments from `file` up to and without `until` name: that is one
+// where words stand behind it. Returns the worst status.
 fn answer_files(
     command: u8,
-    first: usize,
+    json: bool,
+    file: usize,
     until: usize,
     name: &mut [u8],
     message: &mut [u8],
     room: &mut [u8],
 ) -> u8
-    requires { ⌜ 0 < first ⌝ }
-    requires { ⌜ first ≤ 9 ⌝ }
+    requires { ⌜ file ≤ 8 ⌝ }
 {
     let mut out = terminal::standard_output();
     let mut worst = commands::DONE;
-    let mut index = first - 1;
+    let mut index = file;
     while index < until {
-        let answered = answer_file(command, out, index, name, message, first, room);
+        let answered = answer_file(command, json, out, index, name, message, file + 1, room);
         out = answered.out;
         worst = status::worse(worst, answered.status);
         index += 1;
@@ -42,7 +43,8 @@ fn answer_files(
     status::at_end(out, worst)
 }
 
-// Tells of the command itself: its version or its usage where that was asked for, and else the usage on standard error.
+// Tells of the command itself: its version or its usage where that was asked for, and the usage on standard error where
+// nothing was. What is wrong with other words was said.
 fn tell_itself(command: u8) -> u8 {
     if command == VERSION {
         let told = wording::print_version(terminal::standard_output());
@@ -52,24 +54,26 @@ fn tell_itself(command: u8) -> u8 {
         let told = wording::print_usage(terminal::standard_output());
         return status::at_end(told, commands::DONE);
     }
-    wording::print_usage(terminal::standard_error());
+    if command == NOTHING {
+        wording::print_usage(terminal::standard_error());
+    }
     commands::TROUBLE
 }
 
-// Does what the argument at an index asks.
-fn run(index: usize, name: &mut [u8], message: &mut [u8], room: &mut [u8]) -> u8
-    requires { ⌜ index ≤ 2 ⌝ }
-{
-    let command = command_at(index, name);
-    if (command == 0) | (HELP <= command) {
+// Does what the arguments from an index on ask.
+fn run(index: usize, name: &mut [u8], message: &mut [u8], room: &mut [u8]) -> u8 {
+    let question = question_at(index, name);
+    let command = question.command;
+    let file = question.file;
+    if (command == NOTHING) | (HELP <= command) {
         return tell_itself(command);
     }
     let until = if arguments::takes_files(command) {
         os::arg_count()
     } else {
-        index + 2
+        file + 1
     };
-    answer_files(command, index + 2, until, name, message, room)
+    answer_files(command, question.json, file, until, name, message, room)
 }
 
 // Whether the script asks to be told the status: that is the first argument, and all others stand behind it.

@@ -8,6 +8,8 @@ mod usage;
 // The most bytes of a message that the command takes, in a file or in a frame. The library takes more.
 pub const LONGEST_MESSAGE: usize = 65_536;
 
+pub use names::letters_of;
+pub use names::listed;
 pub use names::print_could_stand;
 pub use refusals::print_numbered;
 pub use refusals::print_refused;

@@ -14,19 +14,25 @@ fn last_letter(number: u32) -> u8
     (number % 256) as u8
 }
 
-// Prints the name at a place of a list: three letters, behind a comma where it is not the first.
-fn print_name(out: Output, place: usize, name: u32) -> Output {
+// The three letters of a name.
+pub fn letters_of(name: u32) -> [u8; 3] {
     let first = last_letter(name / 65536);
     let second = last_letter(name / 256);
     let third = last_letter(name);
+    [first, second, third]
+}
+
+// Prints the name at a place of a list: three letters, behind a comma where it is not the first.
+fn print_name(out: Output, place: usize, name: u32) -> Output {
+    let letters = letters_of(name);
     if place == 0 {
-        return terminal::print(out, &[b' ', first, second, third]);
+        return terminal::print(terminal::print(out, b" "), &letters);
     }
-    terminal::print(out, &[b',', b' ', first, second, third])
+    terminal::print(terminal::print(out, b", "), &letters)
 }
 
 // How many names are printed: as many as are counted, and no more than a list holds.
-fn listed(count: usize) -> usize
+pub fn listed(count: usize) -> usize
     ensures { λ r. ⌜ r ≤ 64 ⌝ }
 {
     if MOST_NAMES < count {

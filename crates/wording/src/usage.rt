@@ -50,6 +50,11 @@ fn print_asked_by_words(out: Output) -> Output {
       Which of the three, and why, is said on standard error. Status 0 where it is written, whichever it is.
       ./turrethog ack examples/blood-count.hl7 20240229093001+0000 ACK0001
 
+  ./turrethog check --json FILE..
+      For another program: an object of JSON a line, as docs/JSON.md tells. frames, show and get take --json too,
+      directly behind the command.
+      ./turrethog show --json examples/potassium.hl7
+
   ./turrethog --help
   ./turrethog --version
       This text, and which version of the command this is.

@@ -18,7 +18,6 @@ tell-pieces-spec =
     (tie.spec
     Inv-loop
     μ-loop
-    (λ c κs. search needs)
     (λ c. (refl, refl))
     (λ c κs. search needs)
     (λ c κs. search needs)

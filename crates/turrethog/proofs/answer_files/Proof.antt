@@ -8,10 +8,10 @@ use Rattle.turrethog.proofs.answer_files.Statement.{statement}
 use Rattle.turrethog.proofs.answer_files.Tie as tie
 
 abbrev Inv-loop : tie.InvT-loop
-Inv-loop command first until name₀ message₀ room₀ out₀ worst₀ index₀ name message room out worst index = (length name ≡ length name₀) × (length message ≡ length message₀) × (length room ≡ length room₀) × (first ≤ 9)
+Inv-loop command json file until name₀ message₀ room₀ out₀ worst₀ index₀ name message room out worst index = (length name ≡ length name₀) × (length message ≡ length message₀) × (length room ≡ length room₀) × (file ≤ 8)
 
 abbrev μ-loop : tie.MeasureT-loop
-μ-loop command first until name₀ message₀ room₀ out₀ worst₀ index₀ name message room out worst index = until - index
+μ-loop command json file until name₀ message₀ room₀ out₀ worst₀ index₀ name message room out worst index = until - index
 
 pub answer-files-spec : {M : Type 1} → statement M
 answer-files-spec =
