@@ -5,14 +5,16 @@ mod reasons;
 
 ghost use Prim.Native.Nat.{_≤_};
 use alphabet::Refusal;
+use drawing::Told;
 use element::Address;
 use terminal::Output;
 
-// The outputs behind an acknowledgement, the one that has its bytes and the one on which its letters were said; and why
-// there is none where there is none.
+// The outputs behind an acknowledgement, the one that has its bytes and the one on which its letters were said; whether
+// these are AA; and why there is none where there is none.
 pub struct Acknowledged {
     pub out: Output,
     pub said: Output,
+    pub is_accepted: bool,
     pub kind: Refusal,
 }
 
@@ -29,12 +31,11 @@ fn letters_of(answer: &[u8]) -> &[u8] {
 }
 
 // Says of a file with which letters its message is answered, and why: the verdict on it.
-fn print_letters(out: Output, name: &[u8], message: &[u8], answer: &[u8]) -> Output {
+fn print_letters(out: Output, name: &[u8], message: &[u8], answer: &[u8]) -> Told {
     let out = terminal::print(out, name);
     let out = terminal::print(out, b": ");
     let out = terminal::print(out, letters_of(answer));
-    let told = drawing::print_in_line(out, message);
-    told.out
+    drawing::print_in_line(out, message)
 }
 
 // Writes the acknowledgement of a message for a time and an ID. It is made in `room`. Its letters are said first, since
@@ -54,15 +55,18 @@ fn acknowledge<'a>(
         return Acknowledged {
             out: out,
             said: said,
+            is_accepted: false,
             kind: kind,
         };
     }
     let bytes = places::piece(room, 0, answer.length);
     let told = print_letters(said, name, message, bytes);
+    let letters = told.out;
     let written = terminal::write(out, bytes);
     Acknowledged {
         out: written,
-        said: told,
+        said: letters,
+        is_accepted: told.is_accepted,
         kind: kind,
     }
 }

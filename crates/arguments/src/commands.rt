@@ -73,12 +73,12 @@ pub fn takes_json(command: u8) -> bool {
 }
 
 // Whether a command takes so many words: a file or more to check or to take frames from, one to show, one to get an
-// element or its lines from with two to five words behind its name, one to acknowledge with two, and none to tell of
-// itself.
+// element or its lines from with an address of one to five words behind its name, one to acknowledge with two, and none
+// to tell of itself.
 pub fn takes_words(command: u8, count: usize) -> bool {
     let is_checked = takes_files(command) & (1 <= count);
     let is_shown = (command == SHOW) & (count == 1);
-    let is_got = takes_address(command) & ((3 <= count) & (count <= 6));
+    let is_got = takes_address(command) & ((2 <= count) & (count <= 6));
     let is_acknowledged = (command == ACKNOWLEDGE) & (count == 3);
     let is_told = (HELP <= command) & (count == 0);
     ((is_checked | is_shown) | (is_got | is_acknowledged)) | is_told

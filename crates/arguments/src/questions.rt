@@ -9,6 +9,7 @@ use crate::commands::command_of;
 use crate::commands::is_help;
 use crate::commands::takes_json;
 use crate::commands::takes_words;
+use crate::words::are_asked;
 use crate::wrong::tell_command;
 use crate::wrong::tell_option;
 use crate::wrong::tell_words;
@@ -54,9 +55,10 @@ fn option_among(first: usize, until: usize, word: &mut [u8]) -> usize {
     index
 }
 
-// Whether some word from an index on is written as an option, which is said of it. What stands behind the file of an
-// acknowledgement is a time and an ID, which may begin with any byte.
-fn has_option(command: u8, first: usize, word: &mut [u8]) -> bool
+// What becomes of a command with the words from an index on, where one is written as an option: help, or a question
+// that is wrong, which is said of it. What stands behind the file of an acknowledgement is a time and an ID, which may
+// begin with any byte.
+fn with_late_option(command: u8, first: usize, word: &mut [u8]) -> u8
     requires { ⌜ first ≤ 8 ⌝ }
 {
     let until = if command == ACKNOWLEDGE {
@@ -67,10 +69,13 @@ fn has_option(command: u8, first: usize, word: &mut [u8]) -> bool
     let index = option_among(first, until, word);
     let length = os::arg(index, word);
     if until <= index {
-        return false;
+        return command;
+    }
+    if is_help(&word[..length]) {
+        return HELP;
     }
     tell_option(&word[..length]);
-    true
+    WRONG
 }
 
 // How many words stand from an index on.
@@ -84,12 +89,16 @@ fn with_words(command: u8, json: bool, index: usize, file: usize, word: &mut [u8
     requires { ⌜ file ≤ 8 ⌝ }
     ensures { λ r. ⌜ r .file ≤ 8 ⌝ }
 {
-    if has_option(command, file, word) {
-        return without_files(WRONG);
+    let late = with_late_option(command, file, word);
+    if late != command {
+        return without_files(late);
     }
     if !takes_words(command, words_from(file)) {
         let length = os::arg(index, word);
         tell_words(command, &word[..length]);
+        return without_files(WRONG);
+    }
+    if !are_asked(command, file + 1, word) {
         return without_files(WRONG);
     }
     Question {
@@ -105,9 +114,6 @@ fn with_option(command: u8, index: usize, word: &mut [u8]) -> Question
     ensures { λ r. ⌜ r .file ≤ 8 ⌝ }
 {
     let length = os::arg(index + 1, word);
-    if is_help(&word[..length]) {
-        return without_files(HELP);
-    }
     if takes_json(command) & alphabet::same(&word[..length], b"--json") {
         return with_words(command, true, index, index + 2, word);
     }

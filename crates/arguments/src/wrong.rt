@@ -60,3 +60,16 @@ pub fn tell_words(command: u8, word: &[u8]) {
     let out = print_taken(out, command);
     terminal::print_line(out, b"; ./turrethog --help says more");
 }
+
+// Says of a word that it is no time.
+pub fn tell_time(word: &[u8]) {
+    let out = print_front(b"the time ", word);
+    terminal::print_line(out, b" is no TS; write it as 20240229093001+0000");
+}
+
+// Says that a word has no bytes, or more than an ID may have.
+pub fn tell_id() {
+    let out = print_front(b"", b"an ID has 1 to ");
+    let out = terminal::print_number(out, alphabet::id_limit());
+    terminal::print_line(out, b" bytes, and this one has none or more");
+}

@@ -4,7 +4,6 @@
 // acknowledgement, and why.
 ghost use Prim.Native.Nat.{_≤_};
 use alphabet::Refusal;
-use arguments::Asked;
 use arguments::CHECK;
 use arguments::FRAMES;
 use arguments::GET;
@@ -18,7 +17,7 @@ use wording::LONGEST_MESSAGE;
 // Every message was accepted, or what was asked for was found or written.
 pub const DONE: u8 = 0;
 
-// Some message was refused, a frame was dropped or left open, or there was none.
+// Some message was refused, or answered with AE or AR, a frame was dropped or left open, or there was none.
 pub const REFUSED: u8 = 1;
 
 // The command was not understood, a file could not be read, or what was to be printed could not be written.
@@ -187,8 +186,8 @@ fn get_element(
     refuse(out, name, kind)
 }
 
-// `get` and `lines`: the element of a message at the address that the words from `first` on say. `room` is lent for
-// each word, and then for the lines.
+// `get` and `lines`: the element of a message at the address that the words from `first` on say. They are known to say
+// one. `room` is lent for each word, and then for the lines.
 fn get(
     command: u8,
     json: bool,
@@ -198,24 +197,12 @@ fn get(
     first: usize,
     room: &mut [u8],
 ) -> Outcome {
-    let asked = arguments::address_at(first, room, message);
-    match asked {
-        Asked::At(address) => get_element(command, json, out, name, message, address, room),
-        Asked::Refused => {
-            terminal::print_line(
-                terminal::standard_error(),
-                b"turrethog: an element is asked for by a segment's name or number, and by numbers behind it",
-            );
-            Outcome {
-                out: out,
-                status: TROUBLE,
-            }
-        }
-    }
+    let address = addresses::address_at(first, room, message);
+    get_element(command, json, out, name, message, address, room)
 }
 
 // `ack`: the acknowledgement of a message, by the two words from `first` on. It is made in `room`, and with which
-// letters and why is said on standard error.
+// letters and why is said on standard error. The status says it too: all is well where they are AA.
 fn acknowledge(out: Output, name: &[u8], message: &[u8], first: usize, room: &mut [u8]) -> Outcome
     requires { ⌜ first ≤ 9 ⌝ }
 {
@@ -226,6 +213,9 @@ fn acknowledge(out: Output, name: &[u8], message: &[u8], first: usize, room: &mu
     if alphabet::number(kind) != 0 {
         let told = acknowledging::print_refused(terminal::standard_error(), name, message, kind);
         return refused(written, told);
+    }
+    if !done.is_accepted {
+        return refused(written, said);
     }
     Outcome {
         out: written,
@@ -309,7 +299,7 @@ pub fn answer_file(
     if command == FRAMES {
         return take_frames(json, out, index, name, message, room);
     }
-    let file = arguments::read_file(index, name, message);
+    let file = files::read(index, name, message);
     let called = file.name;
     let length = file.length;
     if !file.is_read {

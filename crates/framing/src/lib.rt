@@ -12,7 +12,7 @@ use terminal::Output;
 
 // Says of a file by its name that it cannot be read. What was told of it before stands.
 fn unread(out: Output, name: &[u8]) -> Framed {
-    arguments::tell_unread(name);
+    files::tell_unread(name);
     Framed {
         out: out,
         is_read: false,
@@ -57,12 +57,13 @@ pub fn tell_file(
     piece: &mut [u8],
     buffer: &mut [u8],
 ) -> Framed {
-    let count = os::arg(index, name);
-    let file = os::open_read(&name[..count]);
+    let opened = files::open(index, name);
+    let file = opened.file;
+    let count = opened.name;
     if file < 0 {
         return unread(out, &name[..count]);
     }
     let told = tell_pieces(Tally::start(json, out), file, &name[..count], piece, buffer);
-    libc::close(file);
+    files::close(file);
     told
 }

@@ -5,6 +5,8 @@ mod lines;
 mod parts;
 
 pub use addresses::print_address;
+pub use addresses::print_found;
+pub use addresses::print_numbered;
 pub use lines::print_lines;
 pub use parts::Segment;
 pub use parts::count_segments;
@@ -13,3 +15,4 @@ pub use parts::piece;
 pub use parts::segment_around;
 pub use parts::segment_bytes;
 pub use parts::segment_named;
+pub use parts::which_of;

@@ -71,14 +71,55 @@ pub fn segment_bytes(message: &[u8], number: usize) -> &[u8] {
     piece(message, start, end)
 }
 
-// The number of the first segment of a name; that of none, the count of the segments, where there is no such name.
-pub fn segment_named(message: &[u8], name: &[u8]) -> usize {
+// Whether a segment has a name.
+fn is_named(segment: &[u8], name: &[u8]) -> bool {
+    alphabet::same(piece(segment, 0, 3), name)
+}
+
+// A count, and one more where that is so.
+fn counted(count: usize, is_one: bool) -> usize {
+    if !is_one {
+        return count;
+    }
+    if count == usize::MAX {
+        count
+    } else {
+        count + 1
+    }
+}
+
+// How many segments of a message have a name.
+fn count_named(message: &[u8], name: &[u8]) -> usize {
+    let mut count = 0;
+    let mut start = 0;
+    while start < message.len() {
+        let end = part_end(message, alphabet::CARRIAGE_RETURN, start);
+        count = counted(count, is_named(&message[start..end], name));
+        start = end + 1;
+    }
+    count
+}
+
+// Which of its name a segment of a message is, the first being 1, and 0 where no other has its name.
+pub fn which_of(message: &[u8], segment: Segment) -> usize {
+    let bytes = piece(message, segment.start, segment.end);
+    let name = piece(bytes, 0, 3);
+    if count_named(message, name) < 2 {
+        return 0;
+    }
+    counted(count_named(piece(message, 0, segment.start), name), true)
+}
+
+// The number of the segment of a name that is the first, the second or another of it; that of none, the count of the
+// segments, where there are not so many.
+pub fn segment_named(message: &[u8], name: &[u8], which: usize) -> usize {
+    let mut seen = 0;
     let mut number = 0;
     let mut start = 0;
     while start < message.len() {
         let end = part_end(message, alphabet::CARRIAGE_RETURN, start);
-        let segment = &message[start..end];
-        if alphabet::same(piece(segment, 0, 3), name) {
+        seen = counted(seen, is_named(&message[start..end], name));
+        if seen == which {
             return number;
         }
         start = end + 1;

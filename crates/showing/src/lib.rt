@@ -1,6 +1,7 @@
 // `show`: every segment of a message and its leaves, the parts that are split no further, each with its address, its
 // state and its text. The leaves come as rows of numbers, of which nothing is assumed, and an address tells the levels
-// that are split. A result of formatted text is laid out in lines below its address. `lines` lays out one element.
+// that are split. A result of formatted text is laid out in lines below its address. `get` shows one element, and
+// `lines` lays it out.
 use alphabet::Delimiters;
 use alphabet::Part;
 use alphabet::Refusal;
@@ -22,6 +23,15 @@ struct Split {
     repetitions: bool,
     components: bool,
     subcomponents: bool,
+}
+
+// A segment of the message: its number, which of its name it is, or 0 where no other has its name, and where it begins
+// and ends.
+struct Numbered {
+    number: usize,
+    which: usize,
+    start: usize,
+    end: usize,
 }
 
 // The output as it is behind the leaves of a segment, and where the rows of the next one begin.
@@ -192,31 +202,39 @@ pub fn is_formatted(delimiters: Delimiters, segment: &[u8], field: usize) -> boo
     alphabet::same(places::piece(segment, start, end), b"FT")
 }
 
-// Prints the front of a part's line: its address and its state.
-fn print_front(out: Output, segment: &[u8], address: Address, state: State) -> Output {
+// Prints the front of a part's line: its address and its state. The segment's bytes are handed in.
+fn print_front(
+    out: Output,
+    segment: &[u8],
+    which: usize,
+    address: Address,
+    state: State,
+) -> Output {
     let out = terminal::print(out, b"  ");
-    let out = places::print_address(out, segment, address, COLUMN);
+    let out = places::print_numbered(out, segment, which, address, COLUMN);
     wording::print_state(out, state)
 }
 
-// Shows the leaf of a row, of a segment with these bytes: its text where it is present, and else its bytes.
+// Shows the leaf of a row, of a segment: its text where it is present, and else its bytes.
 fn show_leaf(
     out: Output,
     message: &[u8],
-    segment: &[u8],
+    segment: Numbered,
     rows: &[u64],
     at: usize,
     split: Split,
     room: &mut [u8],
 ) -> Output {
     let delimiters = reading::delimiters_of(message);
+    let around = places::piece(message, segment.start, segment.end);
     let bytes = places::piece(message, number_at(rows, at, 6), number_at(rows, at, 7));
     let state = state_at(rows, at);
-    let out = print_front(out, segment, address_at(rows, at, split), state);
+    let address = address_at(rows, at, split);
+    let out = print_front(out, around, segment.which, address, state);
     let State::Present = state else {
         return terminal::end_line(wording::print_behind(out, bytes));
     };
-    if is_formatted(delimiters, segment, number_at(rows, at, 1)) {
+    if is_formatted(delimiters, around, number_at(rows, at, 1)) {
         return print_lines_below(out, delimiters, bytes, room);
     }
     terminal::end_line(print_text(out, delimiters, bytes, room))
@@ -226,12 +244,11 @@ fn show_leaf(
 fn show_leaves(
     out: Output,
     message: &[u8],
-    segment: Segment,
+    segment: Numbered,
     rows: &[u64],
     from: usize,
     room: &mut [u8],
 ) -> Shown {
-    let bytes = places::piece(message, segment.start, segment.end);
     let mut shown = out;
     let mut split = Split {
         repetitions: false,
@@ -241,7 +258,7 @@ fn show_leaves(
     let mut at = from;
     while at < rows.len() && number_at(rows, at, 0) == segment.number {
         split = split_at(rows, at, split);
-        shown = show_leaf(shown, message, bytes, rows, at, split, room);
+        shown = show_leaf(shown, message, segment, rows, at, split, room);
         at += ROW;
     }
     Shown { out: shown, at: at }
@@ -249,30 +266,41 @@ fn show_leaves(
 
 // Shows a field of the header that is never split: the field separator, or the four delimiters behind it.
 fn show_delimiters(out: Output, segment: &[u8], number: usize, start: usize, end: usize) -> Output {
-    let out = print_front(out, segment, field_address(number), State::Present);
+    let out = print_front(out, segment, 0, field_address(number), State::Present);
     let out = wording::print_behind(out, places::piece(segment, start, end));
     terminal::end_line(out)
 }
 
 // Shows a segment, whose rows begin at a place. The first two of all are the delimiters that MSH holds, which are shown
-// as they are.
+// as they are. The address of a segment's own is its name, and which of that name it is.
 fn show_segment(
     out: Output,
     message: &[u8],
-    segment: Segment,
+    segment: Numbered,
     rows: &[u64],
     at: usize,
     room: &mut [u8],
 ) -> Shown {
     let bytes = places::piece(message, segment.start, segment.end);
     let out = terminal::print_counted(out, b"", segment.number, b" ");
-    let out = terminal::print_line(out, places::piece(bytes, 0, 3));
+    let out = places::print_numbered(out, bytes, segment.which, field_address(0), 0);
+    let out = terminal::end_line(out);
     if segment.number == 0 {
         let out = show_delimiters(out, bytes, 1, 3, 4);
         let out = show_delimiters(out, bytes, 2, 4, 8);
         return show_leaves(out, message, segment, rows, 2 * ROW, room);
     }
     show_leaves(out, message, segment, rows, at, room)
+}
+
+// A segment of a message with which of its name it is.
+fn with_number(message: &[u8], segment: Segment) -> Numbered {
+    Numbered {
+        number: segment.number,
+        which: places::which_of(message, segment),
+        start: segment.start,
+        end: segment.end,
+    }
 }
 
 // Shows the segments of a message by the rows of its leaves. Segments are counted here and not by the rows, since one
@@ -289,7 +317,14 @@ fn show_segments(out: Output, message: &[u8], rows: &[u64], room: &mut [u8]) -> 
             start: start,
             end: end,
         };
-        let done = show_segment(shown, message, segment, rows, at, room);
+        let done = show_segment(
+            shown,
+            message,
+            with_number(message, segment),
+            rows,
+            at,
+            room,
+        );
         shown = done.out;
         at = done.at;
         start = end + 1;
@@ -317,11 +352,41 @@ pub fn show(out: Output, message: &[u8], room: &mut [u8], buffer: &mut [u64]) ->
     show_segments(out, message, first_rows(buffer, answer.length), room)
 }
 
+// The address of an element as it stands among all parts of a message: a repetition that stands alone is left out.
+fn as_shown(message: &[u8], address: Address) -> Address {
+    let second = element::find(
+        message,
+        Address {
+            segment: address.segment,
+            field: address.field,
+            repetition: 2,
+            component: 0,
+            subcomponent: 0,
+        },
+    );
+    let other = second.element;
+    let state = other.state;
+    let is_alone = match state {
+        State::Absent => true,
+        _ => false,
+    };
+    Address {
+        segment: address.segment,
+        field: address.field,
+        repetition: if is_alone & (address.repetition == 1) {
+            0
+        } else {
+            address.repetition
+        },
+        component: address.component,
+        subcomponent: address.subcomponent,
+    }
+}
+
 // Shows one element of a message that was read: its address, its state, and its bytes as they were sent.
 pub fn show_element(out: Output, message: &[u8], address: Address, element: Element) -> Output {
-    let segment = places::segment_bytes(message, address.segment);
     let state = element.state;
-    let out = places::print_address(out, segment, address, 0);
+    let out = places::print_found(out, message, as_shown(message, address));
     let out = wording::print_state(out, state);
     let out = wording::print_behind(out, element::bytes_at(message, element));
     terminal::end_line(out)

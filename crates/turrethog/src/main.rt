@@ -3,6 +3,7 @@
 // off a link. This file holds it together: it reads the arguments, lends the buffers, and hands the files on.
 mod status;
 
+use arguments::CHECK;
 use arguments::HELP;
 use arguments::NOTHING;
 use arguments::VERSION;
@@ -32,15 +33,17 @@ fn answer_files(
     requires { ⌜ file ≤ 8 ⌝ }
 {
     let mut out = terminal::standard_output();
-    let mut worst = commands::DONE;
+    let mut tally = status::none();
     let mut index = file;
     while index < until {
         let answered = answer_file(command, json, out, index, name, message, file + 1, room);
         out = answered.out;
-        worst = status::worse(worst, answered.status);
+        tally = status::with(tally, answered.status);
         index += 1;
     }
-    status::at_end(out, worst)
+    let is_checked = (command == CHECK) & !json;
+    let ended = status::print_summary(out, is_checked, tally);
+    status::at_end(ended, status::worst(tally))
 }
 
 // Tells of the command itself: its version or its usage where that was asked for, and the usage on standard error where

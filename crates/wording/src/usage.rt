@@ -11,7 +11,8 @@ fn print_asked_by_name(out: Output) -> Output {
         b"turrethog: what an HL7 v2.4 message says, and whether it is one
 
   ./turrethog check FILE..
-      Accepted, or the first fault: its number, what it is in words, and where it stands.
+      Accepted, or the first fault: its number, what it is in words, and where it stands. Behind several files
+      stands a line with how many were accepted, refused, and could not be read.
       ./turrethog check examples/*.hl7
 
   ./turrethog frames FILE..
@@ -22,7 +23,7 @@ fn print_asked_by_name(out: Output) -> Output {
 
   ./turrethog show FILE
       Every segment and its parts: each with its address, its state and its text. A result of formatted
-      text (OBX-5 where OBX-2 is FT) stands below its address, in its lines.
+      text (OBX-5 where OBX-2 is FT) stands below its address, in its lines. get and lines take these addresses.
       ./turrethog show examples/blood-count.hl7
 
 ",
@@ -34,20 +35,21 @@ fn print_asked_by_words(out: Output) -> Output {
     places::print_lines(
         out,
         b"",
-        b"  ./turrethog get FILE SEGMENT FIELD [REPETITION [COMPONENT [SUBCOMPONENT]]]
-      One element: its state (absent, empty, null or present) and its bytes as they were sent.
-      SEGMENT is a number, 0 for the first, or a name, which means the first of that name.
-      The others count from 1, as in PID-5.1. A repetition or a component of 0 is the whole.
-      ./turrethog get examples/blood-count.hl7 PID 5 1 1
+        b"  ./turrethog get FILE ADDRESS
+      One element: its state (absent, empty, null or present) and its bytes as they were sent. ADDRESS is
+      PID-5, PID-5.1 or PID-5.1.2 for a field, its component and its subcomponent, PID-3[2] for a repetition,
+      and OBX[3]-5 in the third OBX; all count from 1. In words it is PID 5 1 1 2 (segment, field, repetition,
+      component, subcomponent), where 0 is the whole, and the segment may be a number, 0 for the first.
+      ./turrethog get examples/blood-count.hl7 PID-5.1
 
-  ./turrethog lines FILE SEGMENT FIELD [REPETITION [COMPONENT [SUBCOMPONENT]]]
+  ./turrethog lines FILE ADDRESS
       The lines of formatted text, as a clinician reads them: one element, with its commands obeyed. One that is
       not present, or has no lines, stands as for get; why it has none is said on standard error.
-      ./turrethog lines examples/histology.hl7 OBX 5 1
+      ./turrethog lines examples/histology.hl7 OBX-5
 
   ./turrethog ack FILE TIME ID
       The acknowledgement, AA, AE or AR, of a message at a time, with an ID of its own. Its bytes are written raw.
-      Which of the three, and why, is said on standard error. Status 0 where it is written, whichever it is.
+      Which of the three, and why, is said on standard error. Status 0 for AA, and 1 for AE and AR.
       ./turrethog ack examples/blood-count.hl7 20240229093001+0000 ACK0001
 
   ./turrethog check --json FILE..
@@ -57,8 +59,9 @@ fn print_asked_by_words(out: Output) -> Output {
 
   ./turrethog --help
   ./turrethog --version
-      This text, and which version of the command this is.
+      This text, also for -h and help, and which version of the command this is.
 
+FILE may be - for standard input. With --json directly behind check, frames, show or get the answer is JSON.
 ",
     )
 }
@@ -79,9 +82,12 @@ pub fn print_usage(out: Output) -> Output {
         out,
         b"Bytes and segments count from 0. A byte that is not printable ASCII stands as hex in braces: LF is \n",
     );
-    terminal::print_line(
+    places::print_lines(
         out,
-        b"Exit status: 0 all is well, 1 a message is refused, 2 the words are wrong, a file cannot be read, or the output not written.",
+        b"",
+        b"Exit status: 0 all is well; 1 a message is refused, or has no such segment, or is answered with AE or AR;
+2 the words are wrong, a file cannot be read, or the output not written.
+",
     )
 }
 

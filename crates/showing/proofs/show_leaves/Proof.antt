@@ -8,10 +8,10 @@ use Rattle.showing.proofs.show_leaves.Statement.{statement}
 use Rattle.showing.proofs.show_leaves.Tie as tie
 
 abbrev Inv-loop : tie.InvT-loop
-Inv-loop message segment rows from room₀ bytes shown₀ split₀ at₀ room shown split at = length room ≡ length room₀
+Inv-loop message segment rows from room₀ shown₀ split₀ at₀ room shown split at = length room ≡ length room₀
 
 abbrev μ-loop : tie.MeasureT-loop
-μ-loop message segment rows from room₀ bytes shown₀ split₀ at₀ room shown split at = length rows - at
+μ-loop message segment rows from room₀ shown₀ split₀ at₀ room shown split at = length rows - at
 
 pub show-leaves-spec : {M : Type 1} → statement M
 show-leaves-spec =
@@ -19,7 +19,6 @@ show-leaves-spec =
     (tie.spec
     Inv-loop
     μ-loop
-    (λ c κs. search needs)
     (λ c. omega arith)
     (λ c κs. search needs)
     (λ c κs. search needs)

@@ -22,6 +22,7 @@ show-segments-spec =
     (λ c. omega arith)
     (λ c κs. omega arith)
     (λ c κs. search needs)
+    (λ c κs. search needs)
     (λ c. omega arith)
     (λ c. omega arith)
     (λ c. omega arith)

@@ -8,10 +8,10 @@ use Rattle.turrethog.proofs.answer_files.Statement.{statement}
 use Rattle.turrethog.proofs.answer_files.Tie as tie
 
 abbrev Inv-loop : tie.InvT-loop
-Inv-loop command json file until name₀ message₀ room₀ out₀ worst₀ index₀ name message room out worst index = (length name ≡ length name₀) × (length message ≡ length message₀) × (length room ≡ length room₀) × (file ≤ 8)
+Inv-loop command json file until name₀ message₀ room₀ out₀ tally₀ index₀ name message room out tally index = (length name ≡ length name₀) × (length message ≡ length message₀) × (length room ≡ length room₀) × (file ≤ 8) × (until ≤ 18446744073709551615)
 
 abbrev μ-loop : tie.MeasureT-loop
-μ-loop command json file until name₀ message₀ room₀ out₀ worst₀ index₀ name message room out worst index = until - index
+μ-loop command json file until name₀ message₀ room₀ out₀ tally₀ index₀ name message room out tally index = until - index
 
 pub answer-files-spec : {M : Type 1} → statement M
 answer-files-spec =
@@ -20,6 +20,7 @@ answer-files-spec =
     Inv-loop
     μ-loop
     (λ c κs. search needs)
+    (λ c κs. search needs)
     (λ c. omega arith)
     (λ c. omega arith)
     (λ c κs. search needs)
@@ -27,6 +28,8 @@ answer-files-spec =
     (λ c. omega arith)
     (λ c. omega arith)
     (λ c. omega arith)
+    (λ c κs. search needs)
+    (λ c κs. search needs)
     (λ c κs. search needs)
     (λ c. omega arith)
     (λ c. omega arith)

@@ -7,10 +7,10 @@ use Rattle.places.proofs.parts.segment_named.Statement.{statement}
 use Rattle.places.proofs.parts.segment_named.Tie as tie
 
 abbrev Inv-loop : tie.InvT-loop
-Inv-loop message name number₀ start₀ number start = (start ≤ length message + 1) × (number ≤ start)
+Inv-loop message name which seen₀ number₀ start₀ seen number start = (start ≤ length message + 1) × (number ≤ start)
 
 abbrev μ-loop : tie.MeasureT-loop
-μ-loop message name number₀ start₀ number start = length message + 1 - start
+μ-loop message name which seen₀ number₀ start₀ seen number start = length message + 1 - start
 
 pub segment-named-spec : {M : Type 1} → statement M
 segment-named-spec =

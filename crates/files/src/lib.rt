@@ -1,10 +1,16 @@
 // A file is read whole into a buffer of one byte more than the command takes, so that a longer one is seen to be longer.
-// What cannot be read is said on standard error, by the file's name.
+// What cannot be read is said on standard error, by the file's name. The name - is standard input's.
 ghost use Prim.Native.Nat.{_+_, _≤_};
 ghost use mathlib.Core.Path.{_≡_};
 ghost use lib.ListN.{length};
 ghost use Rattle.io.specs.Counts.{Counts};
 use terminal::Output;
+
+// The descriptor of standard input.
+const STANDARD_INPUT: i32 = 0;
+
+// How many bytes its name has.
+const STANDARD_INPUT_LENGTH: isize = 14;
 
 // Whether a file could be read, and how many of its bytes stand at the front of the buffer.
 struct Content {
@@ -93,31 +99,71 @@ fn fail(name: &[u8]) -> Content
     }
 }
 
-// Reads the file of a name to the front of the buffer.
-fn read(name: &[u8], buffer: &mut [u8]) -> Content
+// A file that was opened: its descriptor, or a negative number, and how many bytes its name has.
+pub struct Opened {
+    pub file: i32,
+    pub name: usize,
+}
+
+// Opens the file that a word names, and puts the name to the front of a buffer. Of standard input, which is called -,
+// that is what people call it.
+pub fn open(index: usize, name: &mut [u8]) -> Opened
+    ensures { λ r. ⌜ Counts (r .name) (now (name .exit)) ⌝ }
+{
+    let count = os::arg(index, name);
+    if !alphabet::same(&name[..count], b"-") {
+        return Opened {
+            file: os::open_read(&name[..count]),
+            name: count,
+        };
+    }
+    let called = name_standard_input(name);
+    Opened {
+        file: STANDARD_INPUT,
+        name: called,
+    }
+}
+
+// Puts the name of standard input to the front of a buffer, and returns its length.
+fn name_standard_input(name: &mut [u8]) -> usize
+    ensures { λ r. ⌜ Counts r (now (name .exit)) ⌝ }
+{
+    alphabet::put(name, 0, b"standard input");
+    io::count(STANDARD_INPUT_LENGTH, name)
+}
+
+// Closes a file. Standard input stays open: the command may be told to read it once more, and finds its end again.
+pub fn close(file: i32) {
+    if file != STANDARD_INPUT {
+        libc::close(file);
+    }
+}
+
+// Reads a file that was opened to the front of a buffer.
+fn read_opened(file: i32, name: &[u8], buffer: &mut [u8]) -> Content
     ensures { λ r. ⌜ Counts (r .length) (now (buffer .exit)) ⌝ }
 {
-    let file = os::open_read(name);
     if file < 0 {
         return fail(name);
     }
     let content = fill(file, buffer);
     if !content.is_read {
         let failed = fail(name);
-        libc::close(file);
+        close(file);
         return failed;
     }
-    libc::close(file);
+    close(file);
     content
 }
 
 // Reads the file that a word names: the name to the front of one buffer, the file to the front of the other.
-pub fn read_file(index: usize, name: &mut [u8], message: &mut [u8]) -> File
+pub fn read(index: usize, name: &mut [u8], message: &mut [u8]) -> File
     ensures { λ r. ⌜ Counts (r .name) (now (name .exit)) ⌝ }
     ensures { λ r. ⌜ Counts (r .length) (now (message .exit)) ⌝ }
 {
-    let count = os::arg(index, name);
-    let content = read(&name[..count], message);
+    let opened = open(index, name);
+    let count = opened.name;
+    let content = read_opened(opened.file, &name[..count], message);
     File {
         is_read: content.is_read,
         name: count,

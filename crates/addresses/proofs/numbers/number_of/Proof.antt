@@ -3,8 +3,8 @@ use borrow.Author.Needs.{needs}
 use native.Mathlib.Omega.{arith}
 use Prim.Native.Nat.{_≤_, _-_}
 use lib.ListN.{length}
-use Rattle.arguments.proofs.numbers.number_of.Statement.{statement}
-use Rattle.arguments.proofs.numbers.number_of.Tie as tie
+use Rattle.addresses.proofs.numbers.number_of.Statement.{statement}
+use Rattle.addresses.proofs.numbers.number_of.Tie as tie
 
 abbrev Inv-loop : tie.InvT-loop
 Inv-loop word value₀ i₀ value i = i ≤ length word

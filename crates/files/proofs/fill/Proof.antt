@@ -5,8 +5,8 @@ use Prim.Native.Nat.{_≤_, _-_}
 use lib.ListN.{length, take, length-take}
 use mathlib.Core.Path.{_≡_, sym}
 use lib.Seq.{length-take-le}
-use Rattle.arguments.proofs.files.fill.Statement.{statement}
-use Rattle.arguments.proofs.files.fill.Tie as tie
+use Rattle.files.proofs.fill.Statement.{statement}
+use Rattle.files.proofs.fill.Tie as tie
 
 abbrev Inv-loop : tie.InvT-loop
 Inv-loop file buffer₀ held₀ buffer held = (held ≤ length buffer) × (length buffer ≡ length buffer₀)

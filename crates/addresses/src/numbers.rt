@@ -1,7 +1,7 @@
-// The words behind the command that say numbers. Each is copied into a buffer that the caller lends.
+// The number that decimal digits say.
 ghost use mathlib.Core.Path.{_≡_};
 
-// What a word says: a number, or none.
+// What bytes say: a number, or none.
 pub enum Number {
     Value(usize),
     Refused,
@@ -33,16 +33,4 @@ pub fn number_of(word: &[u8]) -> Number {
         i += 1;
     }
     Number::Value(value)
-}
-
-// The number that a word says; one that is missing is 0.
-pub fn number_at(index: usize, word: &mut [u8]) -> Number {
-    if os::arg_count() <= index {
-        return Number::Value(0);
-    }
-    let length = os::arg(index, word);
-    if os::errno() != 0 {
-        return Number::Refused;
-    }
-    number_of(&word[..length])
 }
