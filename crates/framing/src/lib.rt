@@ -47,8 +47,9 @@ fn tell_pieces(
     tell_end(tally, name)
 }
 
-// Tells of the file that a word names, in words or in JSON. The name goes to the front of one buffer, each piece of the file to that of
-// another, and the message of each frame to that of the third, whose length is a frame's limit where it is the smaller.
+// Tells of the file that a word names, in words or in JSON. The name goes to the front of one buffer, each piece of the
+// file to that of another, and the message of each frame to that of the third, whose length is a frame's limit where it
+// is the smaller.
 pub fn tell_file(
     json: bool,
     out: Output,
