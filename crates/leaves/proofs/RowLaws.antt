@@ -1,13 +1,14 @@
--- Laws of rows: eight numbers each, written one behind another, and the state of bytes without separators. Assumes nothing.
+-- Laws of rows: eight numbers each, written one behind another, and the state of bytes without separators; and of the start that a walk has, which
+-- tells a name. Assumes nothing.
 use mathlib.Core.Path.{_≡_, refl, sym, ap, ap₂, _∙_}
 use mathlib.Core.List.{List, [], _∷_, _++_, append-assoc, append-nil}
 use mathlib.Core.Bool.{Bool, true, false, cond, not, _&&_, _||_}
 use Prim.Native.Nat.{ℕ, zero, suc, _+_, _-_, _*_, _≤_, _<_}
 use native.Mathlib.Omega.{arith}
-use lib.Dec.{eqb}
+use lib.Dec.{eqb, ltb}
 use lib.ListN.{length, getD, take, drop, set, length-append, length-set, length-drop, take-append-drop}
 use lib.Seq.{length-take-le, getD-take, getD-drop}
-use borrow.Author.Tests.{eq-eqb, ne-eqb, eqb-true, eqb-false}
+use borrow.Author.Tests.{eq-eqb, ne-eqb, eqb-true, eqb-false, le-ltb, lt-ltb}
 use Rattle.alphabet.specs.Bytes.{isNull}
 use Rattle.alphabet.specs.Filling.{over, pasted}
 use Rattle.alphabet.specs.Lists.{first, find}
@@ -18,7 +19,7 @@ use Rattle.element.specs.States.{blank, isEmpty, stateOf}
 use Rattle.element.specs.declared.address.Address.{Address}
 use Rattle.element.specs.declared.states.State.{State}
 use Rattle.leaves.specs.Leaves.{Leaf, leafAt, stateNumber, row, rows}
-use Rattle.leaves.specs.Walks.{hereOf, plainState, Written}
+use Rattle.leaves.specs.Walks.{hereOf, plainState, stateAt, shown, begins, Written}
 use Rattle.leaves.proofs.LevelLaws.{Clear}
 
 -- ---- eight numbers that are set one behind another
@@ -189,3 +190,53 @@ module _ (m : List ℕ) (start end : ℕ) (h : start ≤ end) (k : end ≤ lengt
 
   pub state-quoted : getD m start 0 ≡ 34 → (eqb (start + 2) end && eqb (getD m (start + 1) 0) 34) ≡ false → 3 ≡ plainState (between m start end)
   state-quoted w e = state-between m start end h k (null-if w ∙ e) n
+
+-- ---- the start that a walk has
+
+pub begins-shown : (a : Address) (start s : ℕ) → start ≡ shown a s → begins a start ≡ s
+begins-shown a start s e = at (eqb (a .field) 0) e
+  where
+    at : (t : Bool) → start ≡ cond t (s + 1048576) s → cond t (start - 1048576) start ≡ s
+    at true q = omega arith
+    at false q = q
+
+pub own-start : (a : Address) (start : ℕ) → (a .field ≡ 0 → ⊥) → begins a start ≡ start
+own-start a start n = rw (ne-eqb (a .field) 0 n)
+
+pub leaf-shown : (a b : Address) (s : ℕ) → a ≡ b → (b .field ≡ 0 → ⊥) → s ≡ shown a s
+leaf-shown a b s e n = rw (ne-eqb (a .field) 0 (λ z. n (sym (ap (λ (x : Address). x .field) e) ∙ z)))
+
+pub name-shown : (a b : Address) (s : ℕ) → a ≡ b → b .field ≡ 0 → s + 1048576 ≡ shown a s
+name-shown a b s e n = rw (eq-eqb (a .field) 0 (ap (λ (x : Address). x .field) e ∙ n))
+
+pub state-leaf : (m : List ℕ) (start end n : ℕ) → start ≤ end → n ≡ plainState (between m start end) → n ≡ stateAt m start end
+state-leaf m start end n h e = rw (le-ltb end start h) e
+
+pub state-name : (m : List ℕ) (start end : ℕ) → end < start → 0 ≡ stateAt m start end
+state-name m start end h = rw (lt-ltb end start h)
+
+-- a leaf has some state
+pub state-some : (bytes : List ℕ) → plainState bytes ≡ 0 → ⊥
+state-some bytes e = at (isNull bytes) (eqb (length bytes) 0) e
+  where
+    at : (t u : Bool) → _≡_ {A = ℕ} (cond t 2 (cond u 1 3)) 0 → ⊥
+    at true u e = absurd (omega arith)
+    at false true e = absurd (omega arith)
+    at false false e = absurd (omega arith)
+
+module _ (m : List ℕ) (a : Address) (start end : ℕ) (h : start ≡ shown a (begins a start)) (k : begins a start ≤ end) where
+  -- no state tells a name, and some state a leaf
+  pub told-name : stateAt m start end ≡ 0 → a .field ≡ 0
+  told-name z = at (eqb (a .field) 0) refl
+    where
+      at : (t : Bool) → eqb (a .field) 0 ≡ t → a .field ≡ 0
+      at true e = eqb-true (a .field) 0 e
+      at false e =
+          let w : start ≤ end = rw e at k in
+          absurd (state-some (between m start end) (state-leaf m start end (plainState (between m start end)) w refl ∙ z))
+
+  pub told-leaf : end < 1048576 → (stateAt m start end ≡ 0 → ⊥) → a .field ≡ 0 → ⊥
+  told-leaf g n z =
+      let e = eq-eqb (a .field) 0 z in
+      let w : start ≡ start - 1048576 + 1048576 = rw e at h in
+      n (sym (state-name m start end (omega arith)))

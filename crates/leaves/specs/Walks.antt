@@ -5,7 +5,7 @@ use mathlib.Core.Path.{_≡_}
 use mathlib.Core.List.{List, [], _∷_, _++_}
 use mathlib.Core.Bool.{Bool, true, cond}
 use lib.ListN.{length, getD, take, drop}
-use lib.Dec.{eqb, leb}
+use lib.Dec.{eqb, leb, ltb}
 use Rattle.alphabet.specs.Bytes.{carriageReturn, isNull}
 use Rattle.alphabet.specs.Lists.{first, among}
 use Rattle.alphabet.specs.Parts.{split}
@@ -76,6 +76,18 @@ AtMost n a = (a .segment ≤ n) × (a .field ≤ n) × (a .repetition ≤ n) × 
 abbrev pub plainState : List ℕ → ℕ
 plainState bytes = cond (isNull bytes) 2 (cond (eqb (length bytes) 0) 1 3)
 
+-- and 0 for a name, whose start is shown behind its end
+abbrev pub stateAt : List ℕ → ℕ → ℕ → ℕ
+stateAt m start end = cond (ltb end start) 0 (plainState (between m start end))
+
+-- what a walk has as the start of what begins at `place`: in a name so much more, behind every byte of a message; and
+-- where that begins
+abbrev pub shown : Address → ℕ → ℕ
+shown a place = cond (eqb (a .field) 0) (place + 1048576) place
+
+abbrev pub begins : Address → ℕ → ℕ
+begins a start = cond (eqb (a .field) 0) (start - 1048576) start
+
 -- a walk has come to `place`, in the leaf at a that begins at `start`: no byte between ends it
 pub record Reached (m : List ℕ) (a : Address) (start place : ℕ) : Type 0 where
   pub begun : start ≤ place
@@ -117,14 +129,16 @@ Ends m end = (end < length m) × (among (endsOf m) (getD m end 0) ≡ true)
 
 -- a walk has come to `place`, and the buffer has room for what is still to come
 abbrev pub Stands : List ℕ → List ℕ → Address → ℕ → ℕ → ℕ → Type 0
-Stands m d a start at place = Reached m a start place × (at + length (restRows m a start) ≤ length d)
+Stands m d a start at place =
+    Reached m a (begins a start) place × (at + length (restRows m a (begins a start)) ≤ length d) × (start ≡ shown a (begins a start))
 
 -- what was still to come of the rows has been written but for what is still to come now
 abbrev pub Writes : List ℕ → List ℕ → Address → ℕ → ℕ → List ℕ → Address → ℕ → ℕ → Type 0
-Writes m d a start at d′ a′ start′ at′ = (W d₀ : List ℕ) → Written W d₀ (restRows m a start) d at → Written W d₀ (restRows m a′ start′) d′ at′
+Writes m d a start at d′ a′ start′ at′ =
+    (W d₀ : List ℕ) → Written W d₀ (restRows m a (begins a start)) d at → Written W d₀ (restRows m a′ (begins a′ start′)) d′ at′
 
 abbrev pub WritesAll : List ℕ → List ℕ → Address → ℕ → ℕ → List ℕ → ℕ → Type 0
-WritesAll m d a start at d′ at′ = (W d₀ : List ℕ) → Written W d₀ (restRows m a start) d at → Written W d₀ [] d′ at′
+WritesAll m d a start at d′ at′ = (W d₀ : List ℕ) → Written W d₀ (restRows m a (begins a start)) d at → Written W d₀ [] d′ at′
 
 -- ---- marks of a block: of each byte up to n, its weight among its eight where it passes the test
 

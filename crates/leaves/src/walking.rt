@@ -11,9 +11,12 @@ ghost use Rattle.alphabet.specs.Filling.{over, pasted};
 ghost use Rattle.alphabet.specs.declared.answers.Check.the-variants.{Passes};
 ghost use Rattle.reading.specs.Segments.{delimitersOf};
 ghost use Rattle.reading.specs.Reading.{reading};
-ghost use Rattle.element.specs.Levels.{between};
 ghost use Rattle.leaves.specs.Leaves.{addressed, rows, leavesOf};
-ghost use Rattle.leaves.specs.Walks.{endsOf, hereIn, Plain, passed, AtMost, plainState, Ends, Marks, Stands, Writes, WritesAll};
+ghost use Rattle.leaves.specs.Walks.{endsOf, passed, AtMost, shown, stateAt, Ends, Marks, Stands, Writes, WritesAll};
+
+// A segment's name is no leaf. In a name a walk's start is so much more than where the name begins: behind every byte of
+// a message. So one comparison with the end tells a name and an empty leaf from most others.
+const NAMED: usize = 1_048_576;
 
 // Where a walk stands: the address of the leaf that it is in, where that begins, and where its row will stand.
 struct Walk {
@@ -22,14 +25,17 @@ struct Walk {
     at: usize,
 }
 
-// The state of a leaf, as its number: it has no separators, so it is empty where it has no bytes. Most others are told by
-// their first byte alone.
+// The state of a leaf, as its number, and 0 for a name. A leaf has no separators, so it is empty where it has no bytes.
+// Most others are told by their first byte alone.
 fn state_number(message: &[u8], start: usize, end: usize) -> u64
-    requires { ⌜ (start ≤ end) × (end ≤ length (now message)) ⌝ }
-    ensures { λ r. ⌜ r ≡ plainState (between (now (message .entry)) start end) ⌝ }
+    requires { ⌜ end ≤ length (now message) ⌝ }
+    ensures { λ r. ⌜ r ≡ stateAt (now (message .entry)) start end ⌝ }
 {
-    if start == end {
-        return 1;
+    if start >= end {
+        if start == end {
+            return 1;
+        }
+        return 0;
     }
     if message[start] != 34 {
         return 3;
@@ -58,30 +64,6 @@ fn put_row(buffer: &mut [u64], at: usize, address: Address, state: u64, start: u
     buffer[at + 7] = end as u64;
 }
 
-// Writes the row of a leaf into the buffer from `at` on, and returns the place behind it. A segment's name is no leaf,
-// and has none.
-fn put_leaf(
-    message: &[u8],
-    buffer: &mut [u64],
-    at: usize,
-    address: Address,
-    start: usize,
-    end: usize,
-) -> usize
-    requires { ⌜ (start ≤ end) × (end ≤ length (now message)) × Plain (now message) start end
-        × (at + length (rows (hereIn (now message) address start end)) ≤ length (now buffer)) ⌝ }
-    ensures { λ r. ⌜ r ≡ at + length (rows (hereIn (now (message .entry)) address start end)) ⌝ }
-    ensures { λ _. ⌜ now (buffer .exit) ≡ pasted (now (buffer .entry)) at
-        (rows (hereIn (now (message .entry)) address start end)) ⌝ }
-{
-    if address.field == 0 {
-        return at;
-    }
-    let state = state_number(message, start, end);
-    put_row(buffer, at, address, state, start, end);
-    at + 8
-}
-
 fn address_of(
     segment: usize,
     field: usize,
@@ -100,34 +82,57 @@ fn address_of(
     }
 }
 
-// The address behind a byte that ends the leaf at an address.
-fn pass(ends: [u8; 5], b: u8, address: Address) -> Address
-    requires { ⌜ AtMost 1048576 address ⌝ }
-    ensures { λ r. ⌜ r ≡ passed ends b address ⌝ }
+// A walk that stands in the leaf at an address.
+fn walk_from(address: Address, start: usize, at: usize) -> Walk
+    ensures { λ r. ⌜ (r .address ≡ address) × (r .start ≡ start) × (r .at ≡ at) ⌝ }
+{
+    Walk {
+        address: address,
+        start: start,
+        at: at,
+    }
+}
+
+// The walk behind a byte at `end` that ends the leaf at an address.
+fn pass(ends: [u8; 5], b: u8, address: Address, end: usize, at: usize) -> Walk
+    requires { ⌜ AtMost 1048576 address × (end < 1048576) ⌝ }
+    ensures { λ r. ⌜ (r .address ≡ passed ends b address) × (r .at ≡ at) ⌝ }
+    ensures { λ r. ⌜ ((address .field ≡ 0 → ⊥) → r .start ≡ shown (r .address) (end + 1)) ⌝ }
 {
     let segment = address.segment;
     let field = address.field;
     let repetition = address.repetition;
     let component = address.component;
+    let next = end + 1;
     if b == ends[1] {
-        return address_of(segment, field + 1, 1, 1, 1);
+        return walk_from(address_of(segment, field + 1, 1, 1, 1), next, at);
     }
     if b == ends[2] {
-        return address_of(segment, field, repetition, component + 1, 1);
+        let to = address_of(segment, field, repetition, component + 1, 1);
+        return walk_from(to, next, at);
     }
     if b == ends[0] {
-        return address_of(segment + 1, 0, 1, 1, 1);
+        return walk_from(address_of(segment + 1, 0, 1, 1, 1), next + NAMED, at);
     }
     if b == ends[3] {
-        return address_of(segment, field, repetition + 1, 1, 1);
+        return walk_from(address_of(segment, field, repetition + 1, 1, 1), next, at);
     }
-    address_of(
-        segment,
-        field,
-        repetition,
-        component,
-        address.subcomponent + 1,
-    )
+    let part = address.subcomponent + 1;
+    let to = address_of(segment, field, repetition, component, part);
+    walk_from(to, next, at)
+}
+
+// The same behind a byte that ends a name.
+fn pass_name(ends: [u8; 5], b: u8, walk: Walk, end: usize) -> Walk
+    requires { ⌜ AtMost 1048576 (walk .address) × (end < 1048576) ⌝ }
+    ensures { λ r. ⌜ (r .address ≡ passed ends b (walk .address)) × (r .at ≡ walk .at)
+        × (r .start ≡ shown (r .address) (end + 1)) ⌝ }
+{
+    let next = pass(ends, b, walk.address, end, walk.at);
+    if next.address.field == 0 {
+        return walk_from(next.address, end + 1 + NAMED, walk.at);
+    }
+    walk_from(next.address, end + 1, walk.at)
 }
 
 // One leaf, which ends at `end`: its row is written, and the walk stands behind it.
@@ -139,13 +144,12 @@ fn turn(message: &[u8], buffer: &mut [u64], ends: [u8; 5], walk: Walk, end: usiz
     ensures { λ r. ⌜ Writes (now (message .entry)) (now (buffer .entry)) (walk .address) (walk .start) (walk .at)
         (now (buffer .exit)) (r .address) (r .start) (r .at) ⌝ }
 {
-    let at = put_leaf(message, buffer, walk.at, walk.address, walk.start, end);
-    let address = pass(ends, message[end], walk.address);
-    Walk {
-        address: address,
-        start: end + 1,
-        at: at,
+    let state = state_number(message, walk.start, end);
+    if state == 0 {
+        return pass_name(ends, message[end], walk, end);
     }
+    put_row(buffer, walk.at, walk.address, state, walk.start, end);
+    pass(ends, message[end], walk.address, end, walk.at + 8)
 }
 
 // The leaves that end in a block, which begins at `place` and has these marks: their rows are written, and the walk
@@ -255,10 +259,6 @@ pub fn list_all(message: &[u8], buffer: &mut [u64]) -> usize
     let encoding = address_of(0, 2, 1, 1, 1);
     put_row(buffer, 0, address_of(0, 1, 1, 1, 1), 3, 3, 4);
     put_row(buffer, 8, encoding, 3, 4, 8);
-    let walk = Walk {
-        address: pass(ends_of(message), message[8], encoding),
-        start: 9,
-        at: 16,
-    };
+    let walk = pass(ends_of(message), message[8], encoding, 8, 16);
     list_rest(message, buffer, walk, 9)
 }

@@ -9,8 +9,8 @@ use denote.Ref.{now}
 use Rattle.alphabet.specs.Filling.{pasted}
 use Rattle.element.specs.declared.address.Address.{Address}
 use Rattle.leaves.specs.Leaves.{addressed, rows, leavesOf}
-use Rattle.leaves.specs.Walks.{endsOf, passed, AtMost, Reached, Written, restRows}
-use Rattle.leaves.proofs.RowLaws.{pasted-length, written-end}
+use Rattle.leaves.specs.Walks.{endsOf, passed, AtMost, shown, begins, Reached, Written, restRows}
+use Rattle.leaves.proofs.RowLaws.{pasted-length, written-end, begins-shown}
 use Rattle.leaves.proofs.HeaderLaws.{start-reached, start-length, start-written, long-enough}
 use Rattle.leaves.proofs.walking.list_all.Statement.{statement}
 use Rattle.leaves.proofs.walking.list_all.Tie as tie
@@ -51,28 +51,38 @@ two-length c =
     let n = one-length b in
     ap length (two c) ∙ pasted-length (b .put-row .last .0) (0 ∷ 2 ∷ 1 ∷ 1 ∷ 1 ∷ 3 ∷ 4 ∷ 8 ∷ []) 8 (omega arith) ∙ n
 
--- the address at which the walk begins
-begins : (c : tie.After-pass) → let s = c .before .before .before .before .before .before .before .before .before .before .before .before .before .before .before in c .pass .result ≡ passed (endsOf (now (s .args .message))) (getD (now (s .args .message)) 8 0) (addressed 0 2 1 1 1)
-begins c =
+-- the address at which the walk begins, and where
+walks : (c : tie.After-pass) → let s = c .before .before .before .before .before .before .before .before .before .before .before .before .before .before .before in c .pass .result .address ≡ passed (endsOf (now (s .args .message))) (getD (now (s .args .message)) 8 0) (addressed 0 2 1 1 1)
+walks c =
     let s = c .before .before .before .before .before .before .before .before .before .before .before .before .before .before .before in
-    c .pass .ensures
+    c .pass .ensures .0 .0
     ∙ ap₂ (λ (x : List ℕ) (y : Address). passed x (getD (now (s .args .message)) 8 0) y) (c .before .before .ends-of .ensures) (c .before .before .before .before .before .before .before .before .before .before .before .before .address-of .ensures)
 
+start : (c : tie.After-pass) → c .pass .result .start ≡ shown (c .pass .result .address) 9
+start c = c .pass .ensures .1 (λ z. let e = ap (λ (x : Address). x .field) (c .before .before .before .before .before .before .before .before .before .before .before .before .address-of .ensures) in omega arith)
+
+from-nine : (c : tie.After-pass) → begins (c .pass .result .address) (c .pass .result .start) ≡ 9
+from-nine c = begins-shown (c .pass .result .address) (c .pass .result .start) 9 (start c)
+
 pass-requires : tie.Need-pass-requires
-pass-requires c κs = subst (AtMost 1048576) (sym (c .before .before .before .before .before .before .before .before .before .before .before .address-of .ensures)) (omega arith, omega arith, omega arith, omega arith, omega arith)
+pass-requires c κs = (subst (AtMost 1048576) (sym (c .before .before .before .before .before .before .before .before .before .before .before .address-of .ensures)) (omega arith, omega arith, omega arith, omega arith, omega arith), omega arith)
 
 list-rest-requires : tie.Need-list-rest-requires
 list-rest-requires c κs =
     let q = c .before in
     let s = q .before .before .before .before .before .before .before .before .before .before .before .before .before .before .before in
     let m = now (s .args .message) in
+    let a = q .pass .result .address in
     let ok = s .pre .1 in
-    let e = sym (begins q) in
+    let e = sym (walks q) in
+    let i = sym (from-nine q) in
     let n = start-length m ok in
     let r = s .pre .0 in
     let t = two-length (q .before .before .before .before .before) in
     let z = ap (λ (x : Address). length (restRows m x 9)) e in
-    (long-enough m ok, (subst (λ (x : Address). Reached m x 9 9) e (start-reached m ok), omega arith), ok)
+    let y = ap (λ (x : ℕ). length (restRows m a x)) i in
+    let at = q .pass .ensures .0 .1 in
+    (long-enough m ok, (subst (λ (x : ℕ). Reached m a x 9) i (subst (λ (x : Address). Reached m x 9 9) e (start-reached m ok)), omega arith, start q ∙ ap (shown a) i), ok)
 
 returns : tie.Need-returns
 returns c =
@@ -80,9 +90,13 @@ returns c =
     let s = q .before .before .before .before .before .before .before .before .before .before .before .before .before .before .before in
     let m = now (s .args .message) in
     let d = now (s .args .buffer) in
+    let a = q .pass .result .address in
+    let d₂ = q .before .before .before .before .before .put-row2 .last .0 in
     let w = start-written m (s .pre .1) d _ _ (one (q .before .before .before .before .before .before .before .before .before)) (two (q .before .before .before .before .before)) in
-    let v = subst (λ (x : Address). Written (rows (leavesOf m)) d (restRows m x 9) (q .before .before .before .before .before .put-row2 .last .0) 16) (sym (begins q)) w in
-    written-end (rows (leavesOf m)) d _ _ (c .before .before .list-rest .ensures (rows (leavesOf m)) d v)
+    let v = subst (λ (x : Address). Written (rows (leavesOf m)) d (restRows m x 9) d₂ 16) (sym (walks q)) w in
+    let u = subst (λ (x : ℕ). Written (rows (leavesOf m)) d (restRows m a x) d₂ 16) (sym (from-nine q)) v in
+    let t = subst (λ (x : ℕ). Written (rows (leavesOf m)) d (restRows m a (begins a (q .pass .result .start))) d₂ x) (sym (q .pass .ensures .0 .1)) u in
+    written-end (rows (leavesOf m)) d _ _ (c .before .before .list-rest .ensures (rows (leavesOf m)) d t)
 
 pub list-all-spec : {M : Type 1} → statement M
 list-all-spec =

@@ -6,7 +6,7 @@ use mathlib.Core.List.{List, []}
 use lib.ListN.{length}
 use native.Mathlib.Omega.{arith}
 use denote.Ref.{now}
-use Rattle.leaves.specs.Walks.{Stands, Writes, Written, Reached, restRows}
+use Rattle.leaves.specs.Walks.{Stands, Writes, Written, Reached, begins, restRows}
 use Rattle.leaves.proofs.HeaderLaws.{rest-over}
 use Rattle.leaves.proofs.walking.list_few.Statement.{statement}
 use Rattle.leaves.proofs.walking.list_few.Tie as tie
@@ -32,7 +32,8 @@ returns c =
     let m = now (a .args .message) in
     let k = l .loop .inv .0 in
     let e : l .loop .i ≡ length m = omega arith in
-    let z = rest-over m (a .pre .3) (l .loop .here .address) (l .loop .here .start) (subst (Reached m (l .loop .here .address) (l .loop .here .start)) e (l .loop .inv .1 .0)) in
+    let s = begins (l .loop .here .address) (l .loop .here .start) in
+    let z = rest-over m (a .pre .3) (l .loop .here .address) s (subst (Reached m (l .loop .here .address) s) e (l .loop .inv .1 .0)) in
     λ W d₀ w. subst (λ (x : List ℕ). Written W d₀ x (l .loop .buffer) (l .loop .here .at)) z (l .loop .inv .2 W d₀ w)
 
 pub list-few-spec : {M : Type 1} → statement M

@@ -35,6 +35,7 @@ passes c =
         reached-on m _ _ (s .args .place) (s .args .place + 1) (s .pre .1 .0) (omega arith) (omega arith)
             (λ j k. let e : s .args .place + j ≡ s .args .place = omega arith in ap (λ (x : ℕ). among (endsOf m) (getD m x 0)) e ∙ none),
         s .pre .1 .1,
+        s .pre .1 .2,
       ),
       (λ W d₀ w. w),
     )

@@ -1,16 +1,20 @@
 -- Rests on the laws of a turn: the row of the leaf is written, and what is still to come begins behind it.
 use borrow.Author.Needs.{needs}
 use Prim.Native.Nat.{ℕ, _≤_, _<_, _+_, _-_}
-use mathlib.Core.Path.{_≡_, refl, sym, ap, subst, _∙_}
-use mathlib.Core.List.{List, _++_}
+use mathlib.Core.Path.{_≡_, refl, sym, ap, ap₂, subst, _∙_}
+use mathlib.Core.List.{List, [], _∷_, _++_}
 use lib.ListN.{length, getD, length-append}
 use native.Mathlib.Omega.{arith}
 use denote.Ref.{now}
+use Rattle.alphabet.specs.Filling.{pasted}
+use Rattle.reading.specs.Segments.{delimitersOf}
+use Rattle.element.specs.Levels.{between}
 use Rattle.element.specs.declared.address.Address.{Address}
+use Rattle.element.proofs.LevelLaws.{between-length}
 use Rattle.leaves.specs.Leaves.{rows}
-use Rattle.leaves.specs.Walks.{endsOf, passed, Reached, AtMost, restRows, hereIn}
-use Rattle.leaves.proofs.RowLaws.{written-more, pasted-length}
-use Rattle.leaves.proofs.TurnLaws.{turn-rows, turn-reached, message-most}
+use Rattle.leaves.specs.Walks.{endsOf, passed, Reached, AtMost, restRows, hereIn, stateAt, plainState, shown, begins, Stands, Writes}
+use Rattle.leaves.proofs.RowLaws.{written-more, pasted-length, pasted-nothing, here-name, here-leaf, begins-shown, state-leaf, told-name, told-leaf, own-start}
+use Rattle.leaves.proofs.TurnLaws.{plain-clear, turn-rows, turn-reached, message-most}
 use Rattle.leaves.proofs.walking.turn.Statement.{statement}
 use Rattle.leaves.proofs.walking.turn.Tie as tie
 
@@ -21,8 +25,12 @@ module _ (s : tie.Start) where
   abbrev a : Address
   a = s .args .walk .address
 
+  abbrev start : ℕ
+  start = s .args .walk .start
+
+  -- where the leaf or the name begins
   abbrev from : ℕ
-  from = s .args .walk .start
+  from = begins a start
 
   abbrev end : ℕ
   end = s .args .end
@@ -63,36 +71,102 @@ module _ (s : tie.Start) where
       let w4 = w .4 in
       (omega arith, omega arith, omega arith, omega arith, omega arith)
 
-put-leaf-requires : tie.Need-put-leaf-requires
-put-leaf-requires c κs =
-    let s = c .before .before .before in
-    let k = s .pre .0 .0 in
-    (s .pre .1 .0 .begun, (omega arith), s .pre .1 .0 .free, room s)
+  low : end < 1048576
+  low =
+      let k = s .pre .0 .0 in
+      let t = message-most m (s .pre .3) in
+      omega arith
 
-returns : tie.Need-returns
-returns c =
-    let q = c .before .before .before .before in
-    let s = q .before .before .before .before in
-    let bytes = m s in
-    let e : c .pass .result ≡ on s = c .pass .ensures ∙ ap (λ (x : List ℕ). passed x (getD bytes (end s) 0) (a s)) (s .pre .2) in
-    let to : restRows bytes (a s) (from s) ≡ here s ++ restRows bytes (c .pass .result) (end s + 1) =
-    next s ∙ ap (λ (x : Address). here s ++ restRows bytes x (end s + 1)) (sym e) in
-    let n = ap length to in
-    let k = length-append (here s) (restRows bytes (c .pass .result) (end s + 1)) in
-    let r = s .pre .1 .1 in
-    let z = q .put-leaf .ensures .0 in
-    let y = ap length (q .put-leaf .ensures .1) ∙ pasted-length (now (s .args .buffer)) (here s) (s .args .walk .at) (room s) in (
-      (subst (λ (x : Address). Reached bytes x (end s + 1) (end s + 1)) (sym e) (reached s), omega arith),
-      (λ W d₀ w. written-more (here s) (restRows bytes (c .pass .result) (end s + 1)) _ _ w to (q .put-leaf .ensures .1) z),
-    )
+  -- the row of what is no name
+  leaf : (a .field ≡ 0 → ⊥) → here ≡ a .segment ∷ a .field ∷ a .repetition ∷ a .component ∷ a .subcomponent ∷ stateAt m start end ∷ start ∷ end ∷ []
+  leaf n =
+      let r = s .pre .1 .0 in
+      let b = r .begun in
+      let k = s .pre .0 .0 in
+      let o = own-start a start n in
+      let p = between m from end in
+      let l = between-length m from end b (omega arith) in
+      let e : from + length p ≡ end = omega arith in
+      let t = state-leaf m start end (plainState (between m start end)) (omega arith) refl in
+      here-leaf (delimitersOf m) a from p n (plain-clear m from end b (omega arith) (r .free))
+      ∙ ap (λ (x : ℕ). a .segment ∷ a .field ∷ a .repetition ∷ a .component ∷ a .subcomponent ∷ plainState p ∷ from ∷ x ∷ []) e
+      ∙ ap (λ (x : ℕ). a .segment ∷ a .field ∷ a .repetition ∷ a .component ∷ a .subcomponent ∷ plainState (between m x end) ∷ x ∷ end ∷ []) o
+      ∙ ap (λ (x : ℕ). a .segment ∷ a .field ∷ a .repetition ∷ a .component ∷ a .subcomponent ∷ x ∷ start ∷ end ∷ []) t
+
+  -- the walk behind the byte, whose start is shown, and the buffer with the row
+  behind : (b : Address) (to at : ℕ) (d : List ℕ) → b ≡ on → to ≡ shown b (end + 1) → d ≡ pasted (now (s .args .buffer)) (s .args .walk .at) here → at ≡ s .args .walk .at + length here
+      → Stands m d b to at (end + 1) × Writes m (now (s .args .buffer)) a start (s .args .walk .at) d b to at
+  behind b to at d e t q z =
+      let o = begins-shown b to (end + 1) t in
+      let go : restRows m a from ≡ here ++ restRows m b (begins b to) = next ∙ ap₂ (λ (x : Address) (i : ℕ). here ++ restRows m x i) (sym e) (sym o) in
+      let n = ap length go in
+      let k = length-append here (restRows m b (begins b to)) in
+      let r = s .pre .1 .1 in
+      let y = ap length q ∙ pasted-length (now (s .args .buffer)) here (s .args .walk .at) room in (
+        (subst (λ (i : ℕ). Reached m b i (end + 1)) (sym o) (subst (λ (x : Address). Reached m x (end + 1) (end + 1)) (sym e) reached), omega arith, t ∙ ap (shown b) (sym o)),
+        (λ W d₀ w. written-more here (restRows m b (begins b to)) d at w go q z),
+      )
+
+pass-name-requires : tie.Need-pass-name-requires
+pass-name-requires c κs = let s = c .before .before .before .before .before in (small s, low s)
+
+name-returns : tie.Need-returns
+name-returns c =
+    let t = c .before .before in
+    let s = t .before .before .before .before in
+    let p = c .pass-name .ensures in
+    let f = told-name (m s) (a s) (start s) (end s) (s .pre .1 .2) (s .pre .1 .0 .begun) (sym (t .before .state-number .ensures) ∙ t .if1 .taken) in
+    let e = here-name (delimitersOf (m s)) (a s) (from s) (between (m s) (from s) (end s)) f in
+    let n = ap length e in
+    let r = room s in
+    let p1 = p .1 in
+    behind s _ _ _ _ (p .0 ∙ ap (λ (x : List ℕ). passed x (getD (m s) (end s) 0) (a s)) (s .pre .2)) (p .2)
+    (sym (ap (pasted (now (s .args .buffer)) (s .args .walk .at)) e ∙ pasted-nothing (now (s .args .buffer)) (s .args .walk .at) (omega arith))) (omega arith)
+
+-- what has a state is no name
+no-name : (c : tie.Else1) → c .before .before .before .before .args .walk .address .field ≡ 0 → ⊥
+no-name c =
+    let s = c .before .before .before .before in
+    told-leaf (m s) (a s) (start s) (end s) (s .pre .1 .2) (s .pre .1 .0 .begun) (low s) (λ z. c .if1 .left (c .before .state-number .ensures ∙ z))
+
+put-row-requires : tie.Need-put-row-requires
+put-row-requires c κs =
+    let k = c .before in
+    let s = k .before .before .before .before in
+    let n = ap length (leaf s (no-name k)) in
+    let r = room s in
+    omega arith
+
+pass-requires : tie.Need-pass-requires
+pass-requires c κs = let s = c .before .before .before .before .before .before .before .before .before .before in (small s, low s)
+
+leaf-returns : tie.Need-returns-2
+leaf-returns c =
+    let q = c .before .before .before .before .before in
+    let k = q .before .before in
+    let s = k .before .before .before .before in
+    let n = no-name k in
+    let p = c .pass .ensures in
+    let e = leaf s n in
+    let l = ap length e in
+    let p1 = p .0 .1 in
+    behind s _ _ _ _ (p .0 .0 ∙ ap (λ (x : List ℕ). passed x (getD (m s) (end s) 0) (a s)) (s .pre .2)) (p .1 n)
+    (q .put-row .ensures
+    ∙ ap (λ (x : ℕ). pasted (now (s .args .buffer)) (s .args .walk .at) (a s .segment ∷ a s .field ∷ a s .repetition ∷ a s .component ∷ a s .subcomponent ∷ x ∷ start s ∷ end s ∷ [])) (k .before .state-number .ensures)
+    ∙ ap (pasted (now (s .args .buffer)) (s .args .walk .at)) (sym e))
+    (omega arith)
 
 pub turn-spec : {M : Type 1} → statement M
 turn-spec =
     tie.close
     (tie.spec
-    put-leaf-requires
-    (λ c. c .before .before .before .before .before .before .before .pre .0 .0)
-    (λ c κs. small (c .before .before .before .before .before .before .before))
+    (λ c κs. search needs)
+    (λ c. search needs)
+    pass-name-requires
+    name-returns
+    put-row-requires
     (λ c. search needs)
     (λ c. search needs)
-    returns)
+    pass-requires
+    (λ c. search needs)
+    leaf-returns)
