@@ -89,7 +89,7 @@ static inline const char *turrethog_words(uint32_t number)
     case TURRETHOG_SEGMENT_NAME: return "this segment does not begin with a name";
     case TURRETHOG_SECOND_HEADER: return "this is a second MSH";
     case TURRETHOG_TOO_MANY_SEGMENTS: return "with this one there are more segments than a message may have";
-    case TURRETHOG_NOT_ACKNOWLEDGEABLE: return "this has no header that could be acknowledged";
+    case TURRETHOG_NOT_ACKNOWLEDGEABLE: return "this cannot be acknowledged";
     case TURRETHOG_ACKNOWLEDGEMENT_TOO_LONG: return "the acknowledgement would be too long";
     case TURRETHOG_SEPARATOR: return "a delimiter stands here as itself: this has parts, and is no text";
     case TURRETHOG_UNKNOWN_ESCAPE: return "an escape that is not known";
