@@ -1,5 +1,7 @@
 // The code of an acknowledgement, two letters by which the sender knows what became of his message: whether he may
 // delete his copy. It goes by the verdict's record, which is the first fault in the judges' order.
+#![tactic(auto)]
+
 ghost use Rattle.std.specs.Prelude.{◌≡◌};
 ghost use Rattle.acknowledgement_code.specs.Codes.{rejects, code_of};
 

@@ -1,6 +1,8 @@
 // The question `ack MSG TIME ID ROOM`: the acknowledgement of a message, written into a buffer that the answer shows
 // whole. The bytes of its first three words are decoded one behind another into one buffer. The buffers are lent by the
 // program, which has room in them: so it is required.
+#![tactic(auto)]
+
 ghost use Rattle.std.specs.Prelude.{◌≤◌, length};
 ghost use Rattle.answering.specs.Answers.{Roomy};
 

@@ -1,6 +1,8 @@
 // `ack`: the acknowledgement of a message, for a time and an ID that two words say. It goes to a line and not to a
 // terminal, so that its bytes are written as they are. Which letters it has and why is said beside it, on standard
 // error.
+#![tactic(auto)]
+
 mod reasons;
 
 ghost use Rattle.std.specs.Prelude.{◌≤◌};

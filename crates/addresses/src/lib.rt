@@ -1,6 +1,8 @@
 // The address of an element that words of the command line say: one word as it is printed, PID-5.1, or a word for the
 // segment and numbers behind it, PID 5 1 1. Whether words are an address is known without a message; which segment is
 // meant, only with one. Words are counted from 1.
+#![tactic(auto)]
+
 mod numbers;
 mod written;
 

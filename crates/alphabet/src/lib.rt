@@ -1,5 +1,7 @@
 // What every other crate shares: what a byte may be, the five delimiters, the refusals and the
 // answer that carries one, the limits, how bytes fall into parts at a separator, and how a buffer is filled.
+#![tactic(auto)]
+
 mod answers;
 mod bytes;
 mod delimiters;

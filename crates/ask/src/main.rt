@@ -1,6 +1,8 @@
 // `ask` answers questions about messages, so that the library can be compared with others: one question to a line of
 // standard input, one line of standard output for each, in order, until the input ends. This file reads the input in
 // pieces, and lends the buffers.
+#![tactic(auto)]
+
 ghost use Rattle.std.specs.Prelude.{◌≡◌, length};
 ghost use Rattle.io.specs.Counts.{IsPrefixLen};
 ghost use Rattle.answering.specs.Answers.{Roomy};

@@ -1,4 +1,6 @@
 // Dates, clocks and offsets: what was sent of a time, and whether there is such a day, such an hour and such an offset.
+#![tactic(auto)]
+
 mod dates;
 mod figures;
 

@@ -2,6 +2,8 @@
 // frames of a file, `frames`. What they find is printed to the output that they are handed. Why there is nothing to
 // find is said on standard error, as `check` says it where there is no message; and so are the letters of an
 // acknowledgement, and why.
+#![tactic(auto)]
+
 ghost use Rattle.std.specs.Prelude.{◌≤◌};
 
 use alphabet::Refusal;

@@ -1,5 +1,7 @@
 // An input is taken in pieces: its lines are gathered, and each is answered on standard output as soon as it ends. The
 // buffers are lent by the program, which has room in them: so it is required.
+#![tactic(auto)]
+
 ghost use Rattle.std.specs.Prelude.{length};
 ghost use Rattle.io.specs.Counts.{IsPrefixLen};
 ghost use Rattle.answering.specs.Answers.{Roomy};

@@ -1,6 +1,8 @@
 // The verdict on a message as people are told it: a line that says accepted or refused, and under a refusal the place
 // that is meant, drawn with a mark under it; or, where one line is all there is for it, named in that line. What helps
 // stands below: what would have been right, and a hint where the bytes show what was sent.
+#![tactic(auto)]
+
 mod faults;
 mod naming;
 

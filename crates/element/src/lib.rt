@@ -1,5 +1,7 @@
 // Where an element of a message stands and in which of the four states it is: absent, empty, null or present.
 // Any bytes may be handed in as the message and any numbers as the address.
+#![tactic(auto)]
+
 mod address;
 mod levels;
 mod states;

@@ -1,6 +1,8 @@
 // An element in an answer: the number of the refusal, its place and the element's state, and a time, part by part. It
 // serves the program that answers questions and is no part of the library that is shipped, so its functions require
 // room in the answer.
+#![tactic(auto)]
+
 mod figures;
 mod states;
 

@@ -1,6 +1,8 @@
 // What `show` and `get` find, as objects of JSON for another program: an object a line for each leaf of a message, or for
 // the one element that is asked for. docs/JSON.md tells of each member. The leaves come as rows of numbers, of which
 // nothing is assumed.
+#![tactic(auto)]
+
 mod values;
 
 use element::{Address, Element};

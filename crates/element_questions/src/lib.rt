@@ -2,6 +2,8 @@
 // as a time (`dt`, `tm`, `ts`). Each has the words `VERB MSG S F R C U`; they are decoded, the library is called once,
 // and what came back is put into the answer. The buffers are lent by the program, which has room in them: so it is
 // required.
+#![tactic(auto)]
+
 mod lookups;
 mod signed;
 

@@ -1,6 +1,8 @@
 // Where the parts of some bytes end, noted in one walk, for one who asks for many of them, as for the fields of a
 // segment. The separators are marked eight bytes at a time, and each mark is an end. A part is then cut out between its
 // noted end and that of the one before it.
+#![tactic(auto)]
+
 ghost use Rattle.std.specs.Prelude.{◌≡◌, [], ℕ, ◌+◌, ◌≤◌, ◌<◌, length, get_or};
 ghost use Rattle.alphabet.specs.Parts.{split};
 ghost use Rattle.ends.specs.Ends.{Noted, Reached, Marked};

@@ -1,6 +1,8 @@
 // What would have been right, told on a line below a refusal: the types of message that are known, the list of a field,
 // the form of its type or its limit; and the name that HL7 gives a field. What a field is judged by is asked of the
 // table of fields itself.
+#![tactic(auto)]
+
 mod forms;
 mod judged;
 mod lists;

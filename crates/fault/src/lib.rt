@@ -1,5 +1,7 @@
 // The fault record that all judges share: what is wrong with a message and where, or that nothing is. The structure
 // judge and the field judge build it alike, and the verdict hands on the first.
+#![tactic(auto)]
+
 ghost use Rattle.std.specs.Prelude.{◌≡◌, []};
 ghost use Rattle.fault.specs.Faults.{name_list, plain, at_field};
 

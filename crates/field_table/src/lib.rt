@@ -1,5 +1,7 @@
 // The table of document 01, 'Fields judged', as data: its rows, and the lists of values that they name. The judge takes
 // the rows one by one, and knows nothing of what stands in them.
+#![tactic(auto)]
+
 ghost use Rattle.std.specs.Prelude.{◌≡◌, ◌<◌, get_or};
 ghost use Rattle.field_table.specs.Table.{values_of, member, rows, no_row};
 ghost use Rattle.field_table.specs.declared.Values.TheVariants.{ValueTypes, Codes};

@@ -1,5 +1,7 @@
 // The fields of a message judged by the table of document 01, 'Fields judged': numbers 31 to 37.
 // The judge takes any bytes, and looks for no fault of reading: whoever asks it has read the message.
+#![tactic(auto)]
+
 mod plain;
 mod walk;
 

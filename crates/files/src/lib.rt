@@ -1,5 +1,7 @@
 // A file is read whole into a buffer of one byte more than the command takes, so that a longer one is seen to be longer.
 // What cannot be read is said on standard error, by the file's name. The name - is standard input's.
+#![tactic(auto)]
+
 ghost use Rattle.std.specs.Prelude.{◌+◌, ◌≤◌, ◌≡◌, length};
 ghost use Rattle.io.specs.Counts.{IsPrefixLen};
 

@@ -1,4 +1,6 @@
 // Formatted text: which sequences are commands, and what each asks of the layout.
+#![tactic(auto)]
+
 mod numbers;
 mod orders;
 

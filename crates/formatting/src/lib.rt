@@ -1,5 +1,7 @@
 // Formatted text: the plain lines that a text with commands becomes. They are written to the front of a buffer that the
 // caller lends, and a refusal leaves the buffer as it was.
+#![tactic(auto)]
+
 mod bytes;
 mod formatting;
 mod laying;

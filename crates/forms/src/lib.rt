@@ -1,5 +1,7 @@
 // How a DT, a TM and a TS are written: how many digits stand in front, behind a point and behind a sign. Which figures
 // they say, and whether there is such a time, is not asked here.
+#![tactic(auto)]
+
 mod layouts;
 mod parts;
 

@@ -1,5 +1,7 @@
 // Messages off the wire: the frames of an MLLP link, read from pieces of any size into a buffer that the caller lends.
 // The state goes in with each piece and comes back; the reader stops behind each frame and each dropped frame.
+#![tactic(auto)]
+
 mod feeding;
 mod runs;
 mod state;

@@ -1,5 +1,7 @@
 // `frames`: what was taken off a link, frame by frame. The file is read in pieces, so that it may be longer than any
 // message, and each frame and each dropped frame is told as soon as the reader stops at it.
+#![tactic(auto)]
+
 mod ending;
 mod stops;
 mod tally;

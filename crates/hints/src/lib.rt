@@ -1,6 +1,8 @@
 // Hints for what people really send in place of a message, where its bytes show which of these it is: a frame off a
 // link, a batch file, a byte order mark, the line ends of a text file, or UTF-8. Each says what mends it, on a line of
 // its own below the refusal.
+#![tactic(auto)]
+
 use terminal::Output;
 
 // 0B, which opens a frame.

@@ -1,6 +1,8 @@
 // Every leaf of a message in one call: each subcomponent of each component of each repetition of each field, with its
 // full address, its state and where it stands, as rows of numbers in a buffer that the caller lends. The message is
 // read once and walked along once.
+#![tactic(auto)]
+
 mod marks;
 mod walking;
 

@@ -1,6 +1,8 @@
 // A segment is drawn on a line, and on the next one stand marks under the bytes that are meant. Both lines have 80
 // columns at most: a wide segment is cut to a window around the marks, and dots stand where it goes on. No bytes are
 // marked by one mark, at the place where they would be.
+#![tactic(auto)]
+
 ghost use Rattle.std.specs.Prelude.{◌≤◌, length};
 
 use terminal::Output;

@@ -1,6 +1,8 @@
 // The members of an object of JSON, and where a part of a message stands, as members. Objects stand in a line each, in
 // printable ASCII, and docs/JSON.md tells of each member. What stands before a value is handed in whole, with the comma
 // and the name: most are one write, since a call for each piece would take most of the time.
+#![tactic(auto)]
+
 mod addresses;
 mod letters;
 

@@ -1,5 +1,7 @@
 // From bytes to a number: NM and SI, and the digits that they are written with. Raw bytes are judged, with no
 // unescaping.
+#![tactic(auto)]
+
 mod digits;
 mod marks;
 mod numerals;

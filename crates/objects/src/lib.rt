@@ -1,5 +1,7 @@
 // What `check` and `frames` find, as objects of JSON for another program: one object a line, with the same members in
 // the same order. docs/JSON.md tells of each.
+#![tactic(auto)]
+
 mod frames;
 mod names;
 mod verdicts;

@@ -1,5 +1,7 @@
 // Where the parts of a message stand, and the address by which people name them; and the lines of a text. Places are
 // looked for without a proof that a message was read: whoever draws or shows has any bytes.
+#![tactic(auto)]
+
 mod addresses;
 mod lines;
 mod parts;

@@ -1,6 +1,8 @@
 // The three demands of the mission as theorems, each proved from the definitions that the public contracts cite;
 // docs/PROMISES.md leads from each sentence to its theorem. Two of its sentences are about slices, whose elements are
 // bytes by their type and not by a premise: these stand here as the contracts of functions that do what a caller does.
+#![tactic(auto)]
+
 ghost use Rattle.std.specs.Prelude.{◌≡◌, ◌≤◌, length, take};
 ghost use Rattle.alphabet.specs.Delimiters.{first_wrong_delimiter};
 ghost use Rattle.alphabet.specs.Filling.{over};

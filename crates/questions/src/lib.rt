@@ -1,6 +1,8 @@
 // The questions that the program knows, by their verbs. A family of verbs has a library of its own, which counts a
 // line's words, decodes them and puts the answer; here stands which family a verb is of. A line with no verb is no
 // question. The buffers are lent by the program, which has room in them: so it is required.
+#![tactic(auto)]
+
 ghost use Rattle.std.specs.Prelude.{◌≡◌, [], length, take, get_or};
 ghost use Rattle.io.specs.Counts.{IsPrefixLen};
 ghost use Rattle.answering.specs.Answers.{Roomy, no_question};

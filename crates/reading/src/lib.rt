@@ -1,5 +1,7 @@
 // Is this a message at all? Numbers 1 to 8 of document 01, the delimiters of a message, and where its
 // segments stand. Every function takes any bytes.
+#![tactic(auto)]
+
 mod checks;
 mod segments;
 

@@ -1,5 +1,7 @@
 // What a row of the table of document 01, 'Fields judged', asks of a field, whatever message it stands in.
 // The walk along a message is the crate `fields`.
+#![tactic(auto)]
+
 mod checks;
 mod plain;
 

@@ -1,6 +1,8 @@
 // Sample 13 of document 01, which is run: an accepted message is acknowledged, into a buffer that just takes it and
 // into one that is a byte short. What it writes is held to the stored output. The starred samples are the table in
 // specs/, and are proved.
+#![tactic(auto)]
+
 use libc::STDOUT_FILENO;
 
 // The code that acknowledging gives for a buffer of dots, in words, behind the buffer as it is then.

@@ -1,6 +1,8 @@
 // Where one of five bytes first stands, told of 32 bytes together: the tests are free of branches and every byte of a
 // block is looked at, so that the compiler takes many bytes in one step. The same search ends, where it is told to, at
 // bytes that are not printable.
+#![tactic(auto)]
+
 mod both;
 mod far;
 mod one;

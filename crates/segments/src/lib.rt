@@ -1,5 +1,7 @@
 // The segments of a message, asked for one by one: how many there are, and of each its name and where it stands. Any
 // bytes may be handed in as the message and any number as the index.
+#![tactic(auto)]
+
 ghost use Rattle.std.specs.Prelude.{◌≡◌, ◌+◌, ◌≤◌, length, drop};
 ghost use Rattle.reading.specs.Segments.{segments};
 ghost use Rattle.segments.specs.Asked.{counting, segment_found, refused_with};

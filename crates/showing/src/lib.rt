@@ -2,6 +2,8 @@
 // state and its text. The leaves come as rows of numbers, of which nothing is assumed, and an address tells the levels
 // that are split. A result of formatted text is laid out in lines below its address. `get` shows one element, and
 // `lines` lays it out.
+#![tactic(auto)]
+
 use alphabet::{Delimiters, Part, Refusal};
 use element::{Address, Element, State};
 use places::Segment;

@@ -1,5 +1,7 @@
 // Which segments stand in a message, and whether its structure yields them. A refusal says at which segment, what could
 // have stood there, and whether the message could have ended there. Every function takes any bytes.
+#![tactic(auto)]
+
 mod ack;
 mod adt_a01;
 mod adt_a02;

@@ -2,6 +2,8 @@
 // may hold any of them. So printable ASCII alone is printed as it stands, and any other byte as its two hex digits in
 // braces: LF is {0A}. An opening brace is {7B}, so that what is seen says which bytes there are. And whoever prints is
 // told whether it was written: each function takes an output and returns it.
+#![tactic(auto)]
+
 ghost use Rattle.std.specs.Prelude.{◌≤◌, ◌≡◌, length};
 ghost use Rattle.alphabet.specs.Lists.{first};
 ghost use Rattle.terminal.specs.Terminal.{plain, not_plain, in_braces};

@@ -1,5 +1,7 @@
 // Reading a text: what bytes that stand in a field say. It is written to the front of a buffer that the caller lends,
 // and a refusal leaves the buffer as it was.
+#![tactic(auto)]
+
 mod sequences;
 mod unescaping;
 

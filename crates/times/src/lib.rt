@@ -1,4 +1,6 @@
 // From bytes to a time: DT, TM and TS. Raw bytes are judged, with no unescaping.
+#![tactic(auto)]
+
 mod figures;
 mod judging;
 mod moments;

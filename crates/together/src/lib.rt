@@ -1,5 +1,7 @@
 // Bytes that are put together of pieces, one behind another. All pieces are measured before the first is written, so
 // that what does not fit writes nothing.
+#![tactic(auto)]
+
 ghost use Rattle.std.specs.Prelude.{◌≡◌, map, ◌≤◌, length};
 ghost use Rattle.alphabet.specs.Filling.{over};
 ghost use Rattle.escaping.specs.Outcomes.{room_for};

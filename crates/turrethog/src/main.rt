@@ -1,6 +1,8 @@
 // `turrethog` is the command of the person on the bench: it tells whether a file holds a message that is accepted,
 // shows what it says, gets an element out of it or its lines, acknowledges it, and tells of each frame that was taken
 // off a link. This file holds it together: it reads the arguments, lends the buffers, and hands the files on.
+#![tactic(auto)]
+
 mod status;
 
 ghost use Rattle.std.specs.Prelude.{◌≤◌, ◌<◌};

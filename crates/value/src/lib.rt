@@ -1,4 +1,6 @@
 // A number or a time asked of an element of a message: NM, SI, DT, TM and TS.
+#![tactic(auto)]
+
 mod asked;
 
 pub use asked::{NumberFound, TimeFound, dt, nm, si, tm, ts};

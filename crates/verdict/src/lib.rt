@@ -1,5 +1,7 @@
 // The verdict on a message: reading, structure and fields, in the order of the judges. The first fault decides, and one
 // record tells it for all of them. Any bytes may be handed in. The segments are walked once for all three judges.
+#![tactic(auto)]
+
 mod walk;
 
 ghost use Rattle.verdict.specs.Verdicts.{Verdicts};

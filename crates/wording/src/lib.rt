@@ -1,5 +1,7 @@
 // What the command says in words: a refusal by its number, what could have stood at a place, the state of an element,
 // and what it can be asked itself. Each function takes the output that it prints to, and returns it.
+#![tactic(auto)]
+
 mod names;
 mod refusals;
 mod states;
