@@ -1,6 +1,6 @@
 #!/usr/bin/env python3
-"""Brings this repository's own definitions and lemmas to the library's spelling: words in snake case, `'` for a prime, and a dash only
-where it joins two names. Run it once, at the top, right after the kit's port.py; it prints what it renamed and what falls together.
+"""Brings this repository's own definitions and lemmas to the library's spelling: words in snake case, and `'` for a prime. Run it once, at
+the top, right after the kit's port.py; it prints what it renamed and what falls together.
 
     python3 tools/respell.py [--dry]
 
@@ -19,10 +19,6 @@ DECLARED = re.compile(r"^\s*(?:(?:abbrev|unfoldable|pub|data|record|private)\s+)
 LOCAL = re.compile(r"^\s*(?:let|where|at|in|λ)\b")
 IMPORT = re.compile(r"^\s*(?:pub )?(?:ghost )?use ([^\s{;]+)\.\{([^}]*)\}")
 GENERATED = re.compile(r"^(in|if|then|else|loop|match|returns|bounds|slice_bounds|overflow\w*|invariant|decreases|Need)-")
-# words that are names of operations in the library's lemmas
-NAMES = set("""append cons nil zero suc length take drop get_or set map paste fill find first same split sum reverse filter leb ltb eqb le lt eq
-add sub mul div mod pow not and or cond true false none some""".split())
-
 
 # where two names fall together, and neither is a lemma
 APART = {"bad-id": "by_bad_id", "is-time": "is_time_row", "no-time": "no_time_row", "of-text": "of_text_verb"}
@@ -52,15 +48,10 @@ def part_of(word):
     return snake(word) if is_camel(word) else word
 
 
-def respelt(name, known):
+def respelt(name):
     if "◌" in name or not re.match(r"^[A-Za-z]", name):
         return name
-    parts = [part_of(p) for p in name.replace("′", "'").split("-")]
-    out = parts[0]
-    for left, right in zip(parts, parts[1:]):
-        joins = left in known and right in known
-        out += ("-" if joins else "_") + right
-    return out
+    return "_".join(part_of(p) for p in name.replace("′", "'").split("-"))
 
 
 def main():
@@ -78,15 +69,9 @@ def main():
             m = re.match(r"^\s*(?:pub )?(?:data|record) ([^\s(){}:]+)", line)
             if m:
                 declared[m.group(1)].add(path)
-    known = set(NAMES)
-    for name, where in declared.items():
-        if any("/specs/" in p for p in where):
-            known.add(part_of(name) if "-" not in name else name)
     turned = {}
     for name in declared:
-        if GENERATED.match(name):
-            continue
-        new = respelt(name, known)
+        new = respelt(name)
         if new != name:
             turned[name] = new
     # what falls together, in one file or where one of the two is asked to stand apart
@@ -136,7 +121,7 @@ def main():
                 return word
             before = text[max(0, m.start() - 1):m.start()]
             if before == ".":
-                return turned[word]
+                return word if GENERATED.match(word) and word not in fields else turned[word]
             if word in foreign:
                 return word
             is_field = word in fields and re.match(r"\s*=(?!=)", text[m.end():m.end() + 3]) and not text[:m.start()].rstrip().endswith("let")

@@ -22,7 +22,7 @@ use Rattle.fault.specs.declared.FaultRecord.{FaultRecord}
 use Rattle.verdict.proofs.VerdictLaws.{one_verdict}
 use Rattle.reading.specs.Message.{ended}
 use Rattle.error_segment.specs.Errors.{error_lines}
-use Rattle.acknowledgement.proofs.PieceLaws.{lines-behind}
+use Rattle.acknowledgement.proofs.PieceLaws.{lines_behind}
 use Rattle.acknowledgement_code.specs.Codes.{code_of}
 use Rattle.acknowledgement_code.specs.declared.Code.{Code}
 
@@ -33,7 +33,7 @@ module _ (m time id lent : List ℕ) where
       → Acknowledges m time id lent r x
   meets h e code found r x n v q k l a f =
       let w : acknowledgement h time id code [] ++ e ≡ answer_to m time id found =
-      (λ i. acknowledgement (q i) time id (k i) [] ++ l i) ∙ lines-behind (header m) time id (code_of found) (error_lines m found) in
+      (λ i. acknowledgement (q i) time id (k i) [] ++ l i) ∙ lines_behind (header m) time id (code_of found) (error_lines m found) in
       let o = ap (roomy (length lent)) w in
       subst (λ (y : Answer). Acknowledges m time id lent y x) (sym (a ∙ ap answer o))
       (subst (λ (y : List ℕ). Acknowledges m time id lent (answer (roomy (length lent) (answer_to m time id found))) y) (sym (f ∙ ap (λ (y : Outcome ℕ). filled y lent) o))
@@ -94,10 +94,10 @@ pub record Writes (m time id lent : List ℕ) (r : Answer) (x : List ℕ) : Type
   pub behind : drop r.length x ≡ drop r.length lent
   pub most : length (answer_to m time id found) ≤ message_limit
 
-pub zero-writes : (m time id lent : List ℕ) {r : Answer} {x : List ℕ} → Acknowledges m time id lent r x → r.kind ≡ None → Writes m time id lent r x
+pub zero_writes : (m time id lent : List ℕ) {r : Answer} {x : List ℕ} → Acknowledges m time id lent r x → r.kind ≡ None → Writes m time id lent r x
 unfolding answer filled roomy
-zero-writes m time id lent (not_written n) zero = absurd (n zero)
-zero-writes m time id lent (written e found v) zero =
+zero_writes m time id lent (not_written n) zero = absurd (n zero)
+zero_writes m time id lent (written e found v) zero =
     at (leb (length (answer_to m time id found)) (length lent)) (leb (length (answer_to m time id found)) message_limit) refl zero
   where
     at : (s t : Bool) → leb (length (answer_to m time id found)) message_limit ≡ t → (answer (outcome (answer_to m time id found) (s && t))).kind ≡ None

@@ -16,8 +16,8 @@ use Rattle.alphabet.specs.declared.answers.Check.{Check}
 use Rattle.alphabet.specs.declared.answers.Check.TheVariants.{Passes, Fails}
 use Rattle.alphabet.specs.declared.answers.Refusal.{Refusal}
 use Rattle.alphabet.specs.declared.answers.Refusal.TheVariants.{None, NotAcknowledgeable, CallersTime, CallersId}
-use Rattle.alphabet.proofs.ListLaws.{first-le}
-use Rattle.alphabet.proofs.BoolLaws.{false-true, and_both, or_neither}
+use Rattle.alphabet.proofs.ListLaws.{first_le}
+use Rattle.alphabet.proofs.BoolLaws.{false_true, and_both, or_neither}
 use Rattle.reading.specs.Reading.{opening}
 use Rattle.reading.specs.Message.{Opened}
 use Rattle.reading.proofs.Accepted.{opened_if}
@@ -27,17 +27,17 @@ use Rattle.acknowledgement.specs.Acknowledgement.{header, sent, type_part, prese
 
 module _ (m : List ℕ) where
   -- without a CR all bytes are taken
-  pub header-whole : find carriage_return m ≡ length m → m ≡ header m
-  header-whole e = sym (take_all (find carriage_return m + 1) m (omega arith))
+  pub header_whole : find carriage_return m ≡ length m → m ≡ header m
+  header_whole e = sym (take_all (find carriage_return m + 1) m (omega arith))
 
-  pub no-return-no : find carriage_return m ≡ length m → acknowledgeable m ≡ false
+  pub no_return_no : find carriage_return m ≡ length m → acknowledgeable m ≡ false
   unfolding acknowledgeable
-  no-return-no e = rw (le-ltb (find carriage_return m) (length m) (omega arith))
+  no_return_no e = rw (le-ltb (find carriage_return m) (length m) (omega arith))
 
   module _ (h : find carriage_return m < length m) where
-    pub unsound-no : (kind : Refusal) (place : ℕ) → opening (header m) ≡ Fails kind place → acknowledgeable m ≡ false
+    pub unsound_no : (kind : Refusal) (place : ℕ) → opening (header m) ≡ Fails kind place → acknowledgeable m ≡ false
     unfolding acknowledgeable
-    unsound-no kind place e = rw (lt-ltb (find carriage_return m) (length m) h) (ap (λ (c : Check). passes c && rest) e)
+    unsound_no kind place e = rw (lt-ltb (find carriage_return m) (length m) h) (ap (λ (c : Check). passes c && rest) e)
       where
         rest : Bool
         rest = not (same (type_part (header m) 1) (ascii "ACK")) && (present (header m) (sent (header m) 10) && leb (length (sent (header m) 10)) id_limit)
@@ -101,30 +101,30 @@ first_taken test (b ∷ r) h = at (test b) refl h (first_taken test r)
         let n = suc-add (first test r) 1 in
         rw (n, e) (ap suc (again (omega arith)))
 
-pub header-find : (m : List ℕ) → find carriage_return m < length m → find carriage_return (header m) ≡ find carriage_return m
-header-find m h = first_taken (eqb carriage_return) m h
+pub header_find : (m : List ℕ) → find carriage_return m < length m → find carriage_return (header m) ≡ find carriage_return m
+header_find m h = first_taken (eqb carriage_return) m h
 
 -- it ends in its own CR
-pub header-ends : (m : List ℕ) → find carriage_return m < length m → find carriage_return (header m) + 1 ≡ length (header m)
-header-ends m h =
-    let n = header-find m h in
+pub header_ends : (m : List ℕ) → find carriage_return m < length m → find carriage_return (header m) + 1 ≡ length (header m)
+header_ends m h =
+    let n = header_find m h in
     let l = length-take-le (find carriage_return m + 1) m (omega arith) in
     omega arith
 
 -- it is sound
-pub sound-header : (m : List ℕ) → acknowledgeable m ≡ true → Opened (header m)
+pub sound_header : (m : List ℕ) → acknowledgeable m ≡ true → Opened (header m)
 unfolding acknowledgeable
-sound-header m e =
+sound_header m e =
     let there = and_both (ltb (find carriage_return m) (length m)) _ e in
     opened_if (header m) (passing (opening (header m)) (and_both (passes (opening (header m))) _ there.1).0)
   where
     passing : (c : Check) → passes c ≡ true → c ≡ Passes
     passing Passes q = refl
-    passing (Fails kind place) q = absurd (false-true q)
+    passing (Fails kind place) q = absurd (false_true q)
 
-pub return-inside : (m : List ℕ) → acknowledgeable m ≡ true → find carriage_return m < length m
+pub return_inside : (m : List ℕ) → acknowledgeable m ≡ true → find carriage_return m < length m
 unfolding acknowledgeable
-return-inside m e = ltb-true (find carriage_return m) (length m) (and_both (ltb (find carriage_return m) (length m)) _ e).0
+return_inside m e = ltb-true (find carriage_return m) (length m) (and_both (ltb (find carriage_return m) (length m)) _ e).0
 
 -- its control ID is present
 pub id_present : (m : List ℕ) → acknowledgeable m ≡ true → present (header m) (sent (header m) 10) ≡ true
@@ -137,12 +137,12 @@ id_present m e =
 
 -- ---- the header without its CR
 
-pub line-long : (m : List ℕ) → length (line_in m) ≡ find carriage_return m
-line-long m = length-take-le (find carriage_return m) m (first-le (eqb carriage_return) m)
+pub line_long : (m : List ℕ) → length (line_in m) ≡ find carriage_return m
+line_long m = length-take-le (find carriage_return m) m (first_le (eqb carriage_return) m)
 
-pub line-header : (m : List ℕ) → find carriage_return m < length m → line_in m ≡ line_in (header m)
-line-header m h = sym (ap (λ (n : ℕ). take n (header m)) (header-find m h) ∙ take-take (find carriage_return m) (find carriage_return m + 1) m (omega arith))
+pub line_header : (m : List ℕ) → find carriage_return m < length m → line_in m ≡ line_in (header m)
+line_header m h = sym (ap (λ (n : ℕ). take n (header m)) (header_find m h) ∙ take-take (find carriage_return m) (find carriage_return m + 1) m (omega arith))
 
 -- what was taken ends in its only CR
 pub one_return : (m h : List ℕ) → find carriage_return m < length m → h ≡ header m → find carriage_return h + 1 ≡ length h
-one_return m h i e = ap (λ (x : List ℕ). find carriage_return x + 1) e ∙ header-ends m i ∙ sym (ap length e)
+one_return m h i e = ap (λ (x : List ℕ). find carriage_return x + 1) e ∙ header_ends m i ∙ sym (ap length e)

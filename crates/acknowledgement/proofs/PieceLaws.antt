@@ -8,9 +8,9 @@ use lib.ListN.{length, get_or, take, drop, drop_of_length-le}
 use lib.Seq.{take-length}
 use lib.Dec.{leb, ltb, eqb}
 use borrow.Author.Tests.{eqb-true, ne_eqb, le-leb, lt-leb}
-use Rattle.alphabet.proofs.BoolLaws.{false-true, and_both}
+use Rattle.alphabet.proofs.BoolLaws.{false_true, and_both}
 use Rattle.alphabet.proofs.LimitLaws.{id_limit_small}
-use Rattle.alphabet.proofs.ListLaws.{drop-next}
+use Rattle.alphabet.proofs.ListLaws.{drop_next}
 use Rattle.alphabet.proofs.HexLaws.{drop_two}
 use Rattle.alphabet.specs.Bytes.{carriage_return, ascii, is_null}
 use Rattle.alphabet.specs.Delimiters.{first_wrong_delimiter}
@@ -26,7 +26,7 @@ use Rattle.escaping.specs.Escape.{escape_bytes, escape}
 use Rattle.escaping.proofs.RunLaws.{bytes_run}
 use Rattle.escaping.specs.Outcomes.{text, fault}
 use Rattle.escaping.specs.Outcomes.{escaping}
-use Rattle.escaping.proofs.OutcomeLaws.{escape-other, escape-most, escaping-fits}
+use Rattle.escaping.proofs.OutcomeLaws.{escape_other, escape_most, escaping_fits}
 use Rattle.acknowledgement.specs.Acknowledgement.{sent, type_part, present, encoding, type_sent, version, header_parts, answer_parts, acknowledgement, roomy}
 use Rattle.together.specs.Together.{together, least}
 use Rattle.together.proofs.PieceLaws.{least_both}
@@ -34,7 +34,7 @@ use Rattle.acknowledgement_code.specs.Codes.{letters_of}
 use Rattle.ends.specs.Ends.{cut_out}
 use Rattle.acknowledgement.specs.Fields.{ends_of}
 use Rattle.acknowledgement.specs.Pieces.{event_mark, event, fixed_text, pieces}
-use Rattle.acknowledgement.proofs.FieldLaws.{sent-cut, before_id, earlier, two_cut}
+use Rattle.acknowledgement.proofs.FieldLaws.{sent_cut, before_id, earlier, two_cut}
 use Rattle.acknowledgement_code.specs.declared.Code.{Code}
 use Rattle.acknowledgement_code.specs.declared.Code.TheVariants.{Accept, Error, Reject}
 
@@ -42,7 +42,7 @@ use Rattle.acknowledgement_code.specs.declared.Code.TheVariants.{Accept, Error, 
 
 -- a part of one byte is that byte
 pub one_byte : (l : List ℕ) (i : ℕ) → i < length l → take 1 (drop i l) ≡ get_or l i 0 ∷ []
-one_byte l i h = ap (take 1) (drop-next l i h)
+one_byte l i h = ap (take 1) (drop_next l i h)
 
 -- the front of a header is MSH and its delimiters
 pub front_bytes : (h : List ℕ) → 8 ≤ length h → is_header h ≡ true → take 8 h ≡ ascii "MSH" ++ field_separator h ∷ encoding h
@@ -57,16 +57,16 @@ front_bytes h l is =
 
 -- ---- room
 
-and-false : (t : Bool) → (t && false) ≡ false
-and-false true = refl
-and-false false = refl
+and_false : (t : Bool) → (t && false) ≡ false
+and_false true = refl
+and_false false = refl
 
-least-over : (a b n : ℕ) → least a b < n → (leb n a && leb n b) ≡ false
-least-over a b n h = at (ltb a b) refl h
+least_over : (a b n : ℕ) → least a b < n → (leb n a && leb n b) ≡ false
+least_over a b n h = at (ltb a b) refl h
   where
     at : (t : Bool) → ltb a b ≡ t → cond t a b < n → (leb n a && leb n b) ≡ false
     at true e l = rw (lt-leb n a (omega arith))
-    at false e l = ap (λ (t : Bool). leb n a && t) (lt-leb n b (omega arith)) ∙ and-false (leb n a)
+    at false e l = ap (λ (t : Bool). leb n a && t) (lt-leb n b (omega arith)) ∙ and_false (leb n a)
 
 pub roomy_takes : (room : ℕ) (w : List ℕ) → length w ≤ least room message_limit → roomy room w ≡ text w
 unfolding roomy
@@ -74,22 +74,22 @@ roomy_takes room w h =
     let l = least_both room message_limit in
     rw (le-leb (length w) room (omega arith)) (rw (le-leb (length w) message_limit (omega arith)))
 
-pub roomy-short : (room : ℕ) (w : List ℕ) → least room message_limit < length w → roomy room w ≡ fault AcknowledgementTooLong 0
+pub roomy_short : (room : ℕ) (w : List ℕ) → least room message_limit < length w → roomy room w ≡ fault AcknowledgementTooLong 0
 unfolding roomy
-roomy-short room w h = rw (least-over room message_limit (length w) h)
+roomy_short room w h = rw (least_over room message_limit (length w) h)
 
 -- the caller's ID, written as text, goes into a buffer of five times the longest
 pub id_fits : (ds id : List ℕ) (room : ℕ) → first_wrong_delimiter ds ≡ 5 → length id ≤ id_limit → room ≡ 1000 → (escaping ds id room ≡ text (escape ds id)) × (length (escape ds id) ≤ room)
 id_fits ds id room d l e =
-    let fits : length (escape ds id) ≤ room = omega (arith, escape-most ds id, id_limit_small) in
-    (escaping-fits ds id (escape ds id) room (omega arith) refl fits, fits)
+    let fits : length (escape ds id) ≤ room = omega (arith, escape_most ds id, id_limit_small) in
+    (escaping_fits ds id (escape ds id) room (omega arith) refl fits, fits)
 
 -- one that is plain is written as it is
 pub id_plain : (ds id : List ℕ) → first (special ds) id ≡ length id → is_null id ≡ false → escape ds id ≡ id
 unfolding escape_bytes
 id_plain ds id e n =
     let gone : length id ≤ length id = omega arith in
-    escape-other ds id n ∙ bytes_run ds id (length id) (omega arith)
+    escape_other ds id n ∙ bytes_run ds id (length id) (omega arith)
     ∙ ap (λ (x : List ℕ). take (length id) id ++ escape_bytes ds x) (drop_of_length-le id gone) ∙ append-nil (take (length id) id) ∙ take-length id
 
 -- ---- the acknowledgement
@@ -107,13 +107,13 @@ join_spread sep (p ∷ []) w = refl
 join_spread sep (p ∷ q ∷ ps) w = append_assoc p (sep ∷ join sep (q ∷ ps)) w ∙ ap (λ (z : List ℕ). p ++ sep ∷ z) (join_spread sep (q ∷ ps) w)
 
 -- the event and the separator before it are there or not together: what is present has a byte
-event-whole : (h z : List ℕ) → event_mark h (event h) ++ (event h ++ z) ≡ cond (present h (type_part h 2)) (get_or h 4 0 ∷ type_part h 2) [] ++ z
+event_whole : (h z : List ℕ) → event_mark h (event h) ++ (event h ++ z) ≡ cond (present h (type_part h 2)) (get_or h 4 0 ∷ type_part h 2) [] ++ z
 unfolding state_of first
-event-whole h z = at (type_part h 2) (present h (type_part h 2)) refl
+event_whole h z = at (type_part h 2) (present h (type_part h 2)) refl
   where
     at : (e : List ℕ) (t : Bool) → present h e ≡ t → event_mark h (cond t e []) ++ (cond t e [] ++ z) ≡ cond t (get_or h 4 0 ∷ e) [] ++ z
     at e false p = refl
-    at [] true p = absurd (false-true p)
+    at [] true p = absurd (false_true p)
     at (b ∷ r) true p = rw (ne_eqb (length (b ∷ r)) 0 (λ e. omega arith))
 
 module _ (h time id : List ℕ) where
@@ -152,8 +152,8 @@ module _ (h time id : List ℕ) where
   cut Reject e = refl
 
   -- two parts with a separator behind each, and more behind them
-  pair-behind : (a b z : List ℕ) → (a ++ sep ∷ (b ++ sep ∷ [])) ++ z ≡ a ++ sep ∷ (b ++ sep ∷ z)
-  pair-behind a b z = append_assoc a (sep ∷ (b ++ sep ∷ [])) z ∙ ap (λ (y : List ℕ). a ++ sep ∷ y) (append_assoc b (sep ∷ []) z)
+  pair_behind : (a b z : List ℕ) → (a ++ sep ∷ (b ++ sep ∷ [])) ++ z ≡ a ++ sep ∷ (b ++ sep ∷ z)
+  pair_behind a b z = append_assoc a (sep ∷ (b ++ sep ∷ [])) z ∙ ap (λ (y : List ℕ). a ++ sep ∷ y) (append_assoc b (sep ∷ []) z)
 
   -- with the fields that are sent in the place of what is cut out
   uncut : (receiver sender eleven ten : List ℕ) (code : Code) (e : List ℕ)
@@ -167,13 +167,13 @@ module _ (h time id : List ℕ) where
       (λ i. take 8 h ++ sep ∷ (r i ++ (s i
       ++ (time ++ sep ∷ sep ∷ (ascii "ACK" ++ (event_mark h (event h) ++ (event h ++ sep ∷ (escape (delimiters_of h) id ++ sep ∷ (f i
       ++ sep ∷ (version ++ carriage_return ∷ (ascii "MSA" ++ sep ∷ (letters_of code ++ sep ∷ (t i ++ carriage_return ∷ e)))))))))))))
-      ∙ ap (λ (y : List ℕ). take 8 h ++ sep ∷ y) (pair-behind (sent h 5) (sent h 6) _)
-      ∙ ap (λ (y : List ℕ). take 8 h ++ sep ∷ (sent h 5 ++ sep ∷ (sent h 6 ++ sep ∷ y))) (pair-behind (sent h 3) (sent h 4) _)
+      ∙ ap (λ (y : List ℕ). take 8 h ++ sep ∷ y) (pair_behind (sent h 5) (sent h 6) _)
+      ∙ ap (λ (y : List ℕ). take 8 h ++ sep ∷ (sent h 5 ++ sep ∷ (sent h 6 ++ sep ∷ y))) (pair_behind (sent h 3) (sent h 4) _)
 
-  pub pieces-together : (code : Code) (e : List ℕ) → 8 ≤ length h → find carriage_return h + 1 ≡ length h → is_header h ≡ true → present h (sent h 10) ≡ true
+  pub pieces_together : (code : Code) (e : List ℕ) → 8 ≤ length h → find carriage_return h + 1 ≡ length h → is_header h ≡ true → present h (sent h 10) ≡ true
       → together (pieces h time (escape (delimiters_of h) id) (fixed_text sep code) e) ≡ acknowledgement h time id code [] ++ e
   unfolding header_parts type_sent spread
-  pieces-together code e l one is there =
+  pieces_together code e l one is there =
       let long : 4 ≤ length h = omega arith in
       let eight = before_id h long one there in
       let seven = earlier h long one 7 eight in
@@ -182,14 +182,14 @@ module _ (h time id : List ℕ) where
       let four = earlier h long one 4 five in
       let three = earlier h long one 3 four in
       cut code e
-      ∙ uncut _ _ _ _ code (e ++ []) (two_cut h long one 3 five) (two_cut h long one 1 three) (sent-cut h long one 9 11 refl) (sent-cut h long one 8 10 refl)
+      ∙ uncut _ _ _ _ code (e ++ []) (two_cut h long one 3 five) (two_cut h long one 1 three) (sent_cut h long one 9 11 refl) (sent_cut h long one 8 10 refl)
       ∙ ap (λ (z : List ℕ). z ++ names (ascii "ACK" ++ (event_mark h (event h) ++ (event h ++ rest code (e ++ []))))) (front_bytes h l is)
-      ∙ ap (λ (z : List ℕ). (ascii "MSH" ++ sep ∷ encoding h) ++ names (ascii "ACK" ++ z)) (event-whole h (rest code (e ++ [])))
+      ∙ ap (λ (z : List ℕ). (ascii "MSH" ++ sep ∷ encoding h) ++ names (ascii "ACK" ++ z)) (event_whole h (rest code (e ++ [])))
       ∙ spread_is code (e ++ []) ∙ ap (λ (z : List ℕ). acknowledgement h time id code [] ++ z) (append-nil e)
 
   -- lines behind MSA stand behind what is written without them
-  pub lines-behind : (code : Code) (es : List (List ℕ)) → acknowledgement h time id code [] ++ ended es ≡ acknowledgement h time id code es
+  pub lines_behind : (code : Code) (es : List (List ℕ)) → acknowledgement h time id code [] ++ ended es ≡ acknowledgement h time id code es
   unfolding acknowledgement ended
-  lines-behind code es =
+  lines_behind code es =
       append_assoc (join sep (header_parts h time id)) (carriage_return ∷ (join sep (answer_parts h code) ++ (carriage_return ∷ []))) (ended es)
       ∙ ap (λ (z : List ℕ). join sep (header_parts h time id) ++ (carriage_return ∷ z)) (append_assoc (join sep (answer_parts h code)) (carriage_return ∷ []) (ended es))

@@ -9,9 +9,9 @@ use borrow.Author.Tests.{eq-eqb, ne_eqb, eqb-true, eqb-false, le-leb, lt-leb, lt
 use Rattle.alphabet.specs.Bytes.{carriage_return, from_to, allowed}
 use Rattle.alphabet.specs.Allowed.{height_of, turned_of}
 
-and-false : (x : Bool) → false ≡ (x && false)
-and-false true = refl
-and-false false = refl
+and_false : (x : Bool) → false ≡ (x && false)
+and_false true = refl
+and_false false = refl
 
 -- ---- the lesser and the greater of two
 
@@ -20,14 +20,14 @@ least_of k a b h = at (leb k a) refl
   where
     at : (t : Bool) → leb k a ≡ t → leb k a ≡ (leb k b && leb k a)
     at true e = let l = leb-true k a e in rw (e, le-leb k b (omega arith))
-    at false e = rw e (and-false (leb k b))
+    at false e = rw e (and_false (leb k b))
 
 pub most_of : (k a b : ℕ) → a ≤ b → leb b k ≡ (leb a k && leb b k)
 most_of k a b h = at (leb b k) refl
   where
     at : (t : Bool) → leb b k ≡ t → leb b k ≡ (leb a k && leb b k)
     at true e = let l = leb-true b k e in rw (e, le-leb a k (omega arith))
-    at false e = rw e (and-false (leb a k))
+    at false e = rw e (and_false (leb a k))
 
 pub and_turn : (x y : Bool) → (x && y) ≡ (y && x)
 and_turn true true = refl

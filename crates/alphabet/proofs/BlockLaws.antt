@@ -11,7 +11,7 @@ use lib.ListN.{length, get_or, take, drop, length-drop}
 use lib.Seq.{length-take-le}
 use borrow.Author.Tests.{le-leb, lt-leb, lt-ltb, le-ltb, leb-true}
 use Rattle.alphabet.specs.Lists.{first, among}
-use Rattle.alphabet.proofs.ListLaws.{first_passes, first-before, first-le}
+use Rattle.alphabet.proofs.ListLaws.{first_passes, first_before, first_le}
 
 -- ---- the test of a byte, against each of the five
 
@@ -55,8 +55,8 @@ module _ (test : ℕ → Bool) (l : List ℕ) where
   pub least_begin : length l ≡ least_of test l 0
   least_begin = rw (le-leb 0 (first test l) (omega arith))
 
-  pub least-most : (i : ℕ) → least_of test l i ≤ length l
-  least-most i = at (leb i (first test l)) (first-le test l)
+  pub least_most : (i : ℕ) → least_of test l i ≤ length l
+  least_most i = at (leb i (first test l)) (first_le test l)
     where
       at : (t : Bool) → first test l ≤ length l → cond t (length l) (first test l) ≤ length l
       at true h = omega arith
@@ -66,7 +66,7 @@ module _ (test : ℕ → Bool) (l : List ℕ) where
   least_step i h = at (dec_lt i (first test l)) (dec_lt (first test l) i)
     where
       at : Dec (i < first test l) → Dec (first test l < i) → cond (test (get_or l i 0) && ltb i (least_of test l i)) i (least_of test l i) ≡ least_of test l (i + 1)
-      at (yes k) x = rw (first-before test l i k, le-leb i (first test l) (omega arith), le-leb (i + 1) (first test l) (omega arith))
+      at (yes k) x = rw (first_before test l i k, le-leb i (first test l) (omega arith), le-leb (i + 1) (first test l) (omega arith))
       at (no k) (yes j) = rw (lt-leb i (first test l) j, lt-leb (i + 1) (first test l) (omega arith), le-ltb i (first test l) (omega arith)) (none (test (get_or l i 0)))
         where
           none : (t : Bool) → cond (t && false) i (first test l) ≡ first test l
@@ -77,11 +77,11 @@ module _ (test : ℕ → Bool) (l : List ℕ) where
           let p : test (get_or l i 0) ≡ true = ap (λ (n : ℕ). test (get_or l n 0)) (sym e) ∙ first_passes test l (omega arith) in
           rw (p, le-leb i (first test l) (omega arith), lt-leb (i + 1) (first test l) (omega arith), lt-ltb i (length l) h) (sym e)
 
-  pub least-end : (i : ℕ) → length l ≤ i → least_of test l i ≡ first test l
-  least-end i h = at (leb i (first test l)) refl
+  pub least_end : (i : ℕ) → length l ≤ i → least_of test l i ≡ first test l
+  least_end i h = at (leb i (first test l)) refl
     where
       at : (t : Bool) → leb i (first test l) ≡ t → cond t (length l) (first test l) ≡ first test l
-      at true e = let k = leb-true i (first test l) e in let m = first-le test l in omega arith
+      at true e = let k = leb-true i (first test l) e in let m = first_le test l in omega arith
       at false e = refl
 
 -- the lesser of two places, the second where a test holds
@@ -109,11 +109,11 @@ module _ (test : ℕ → Bool) where
       at true ih h = absurd (omega arith)
       at false ih h = let e = ih (omega arith) in omega arith
 
-  pub first-inside : (l : List ℕ) (k : ℕ) → first test (take k l) < length (take k l) → first test l ≡ first test (take k l)
+  pub first_inside : (l : List ℕ) (k : ℕ) → first test (take k l) < length (take k l) → first test l ≡ first test (take k l)
   unfolding first
-  first-inside l zero h = absurd (omega arith)
-  first-inside [] (suc k) h = refl
-  first-inside (x ∷ r) (suc k) h = at (test x) (first-inside r k) h
+  first_inside l zero h = absurd (omega arith)
+  first_inside [] (suc k) h = refl
+  first_inside (x ∷ r) (suc k) h = at (test x) (first_inside r k) h
     where
       at : (t : Bool) → (first test (take k r) < length (take k r) → first test r ≡ first test (take k r))
           → cond t 0 (suc (first test (take k r))) < suc (length (take k r)) → cond t 0 (suc (first test r)) ≡ cond t 0 (suc (first test (take k r)))

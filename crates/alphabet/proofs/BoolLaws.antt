@@ -6,23 +6,23 @@ use lib.Dec.{T, leb}
 use borrow.Author.Tests.{leb-true}
 use Rattle.alphabet.specs.Bytes.{from_to}
 
-pub false-true : {A : Type 0} → false ≡ true → A
-false-true e = absurd (subst (λ (t : Bool). T (not t)) e tt)
+pub false_true : {A : Type 0} → false ≡ true → A
+false_true e = absurd (subst (λ (t : Bool). T (not t)) e tt)
 
-pub not-not : (x : Bool) → not (not x) ≡ x
-not-not true = refl
-not-not false = refl
+pub not_not : (x : Bool) → not (not x) ≡ x
+not_not true = refl
+not_not false = refl
 
 pub and_both : (x y : Bool) → (x && y) ≡ true → (x ≡ true) × (y ≡ true)
 and_both true y e = (refl, e)
-and_both false y e = false-true e
+and_both false y e = false_true e
 
 pub both_and : {x y : Bool} → x ≡ true → y ≡ true → (x && y) ≡ true
 both_and e f = rw (e, f)
 
 pub or_neither : (x y : Bool) → (x || y) ≡ false → (x ≡ false) × (y ≡ false)
 or_neither false y e = (refl, e)
-or_neither true y e = false-true (sym e)
+or_neither true y e = false_true (sym e)
 
 pub neither_or : {x y : Bool} → x ≡ false → y ≡ false → (x || y) ≡ false
 neither_or e f = rw (e, f)

@@ -12,8 +12,8 @@ use Rattle.alphabet.specs.declared.answers.Check.TheVariants.{Passes, Fails}
 pub fails_or : {c : Check} {kind : Refusal} {place : ℕ} → c ≡ Fails kind place → (later : Check) → or_else c later ≡ Fails kind place
 fails_or e later = rw e
 
-pub passes-or : {c : Check} → c ≡ Passes → (later : Check) → or_else c later ≡ later
-passes-or e later = rw e
+pub passes_or : {c : Check} → c ≡ Passes → (later : Check) → or_else c later ≡ later
+passes_or e later = rw e
 
 -- where the whole passes, each passes
 pub both_pass : (c later : Check) → or_else c later ≡ Passes → (c ≡ Passes) × (later ≡ Passes)
@@ -27,9 +27,9 @@ fails_if_lem e kind place = rw e
 pub passes_if : {test : Bool} → test ≡ false → (kind : Refusal) (place : ℕ) → fails_if test kind place ≡ Passes
 passes_if e kind place = rw e
 
-pub passes-not : (test : Bool) (kind : Refusal) (place : ℕ) → fails_if test kind place ≡ Passes → test ≡ false
-passes-not false kind place e = refl
-passes-not true kind place e = absurd (let z : ◌≡◌ {A = ℕ} 0 1 = cc in omega arith)
+pub passes_not : (test : Bool) (kind : Refusal) (place : ℕ) → fails_if test kind place ≡ Passes → test ≡ false
+passes_not false kind place e = refl
+passes_not true kind place e = absurd (let z : ◌≡◌ {A = ℕ} 0 1 = cc in omega arith)
 
 -- ---- for code that makes checks one after another, where r is what the check c gave
 
@@ -39,7 +39,7 @@ stops later e f = f ∙ sym (fails_or (sym e ∙ f) later)
 
 -- r passes, and the answer x is that of the later checks
 pub goes_on : {r c later x : Check} → r ≡ c → r ≡ Passes → x ≡ later → x ≡ or_else c later
-goes_on {later = later} e p q = q ∙ sym (passes-or (sym e ∙ p) later)
+goes_on {later = later} e p q = q ∙ sym (passes_or (sym e ∙ p) later)
 
 -- r is that of the last check
 pub ends : {r c : Check} → r ≡ c → r ≡ or_else c Passes
@@ -62,50 +62,50 @@ module _ (lo hi : ℕ) where
   numbered_if true kind place n = n
   numbered_if false kind place n = tt
 
-  pub numbered-or : (c d : Check) → Numbered lo hi c → Numbered lo hi d → Numbered lo hi (or_else c d)
-  numbered-or Passes d p q = q
-  numbered-or (Fails kind place) d p q = p
+  pub numbered_or : (c d : Check) → Numbered lo hi c → Numbered lo hi d → Numbered lo hi (or_else c d)
+  numbered_or Passes d p q = q
+  numbered_or (Fails kind place) d p q = p
 
   pub numbered_fails : (c : Check) (kind : Refusal) (place : ℕ) → Numbered lo hi c → c ≡ Fails kind place → NumberFromTo lo hi kind
   numbered_fails c kind place n e = subst (Numbered lo hi) e n
 
 -- number 0 is that of no refusal
-pub number-none : (k : Refusal) → number_of k ≡ 0 → k ≡ None
-number-none None e = refl
-number-none Length e = absurd (omega arith)
-number-none Header e = absurd (omega arith)
-number-none Delimiter e = absurd (omega arith)
-number-none NotAllowed e = absurd (omega arith)
-number-none NotEnded e = absurd (omega arith)
-number-none SegmentName e = absurd (omega arith)
-number-none SecondHeader e = absurd (omega arith)
-number-none TooManySegments e = absurd (omega arith)
-number-none NotAcknowledgeable e = absurd (omega arith)
-number-none AcknowledgementTooLong e = absurd (omega arith)
-number-none Separator e = absurd (omega arith)
-number-none UnknownEscape e = absurd (omega arith)
-number-none UnclosedEscape e = absurd (omega arith)
-number-none NoRoom e = absurd (omega arith)
-number-none NullText e = absurd (omega arith)
-number-none CallersTime e = absurd (omega arith)
-number-none CallersId e = absurd (omega arith)
-number-none Address e = absurd (omega arith)
-number-none NoStructure e = absurd (omega arith)
-number-none SegmentMisplaced e = absurd (omega arith)
-number-none EndedEarly e = absurd (omega arith)
-number-none RequiredMissing e = absurd (omega arith)
-number-none BreaksForm e = absurd (omega arith)
-number-none NotListed e = absurd (omega arith)
-number-none RequiredNull e = absurd (omega arith)
-number-none ValueWithoutType e = absurd (omega arith)
-number-none Repeated e = absurd (omega arith)
-number-none ValueTooLong e = absurd (omega arith)
-number-none StructureName e = absurd (omega arith)
-number-none BrokenFrame e = absurd (omega arith)
-number-none FrameTooLong e = absurd (omega arith)
-number-none Layout e = absurd (omega arith)
-number-none BookVersion e = absurd (omega arith)
-number-none BookMalformed e = absurd (omega arith)
-number-none BookHeader e = absurd (omega arith)
-number-none WrongCount e = absurd (omega arith)
-number-none BrokenBatch e = absurd (omega arith)
+pub number_none : (k : Refusal) → number_of k ≡ 0 → k ≡ None
+number_none None e = refl
+number_none Length e = absurd (omega arith)
+number_none Header e = absurd (omega arith)
+number_none Delimiter e = absurd (omega arith)
+number_none NotAllowed e = absurd (omega arith)
+number_none NotEnded e = absurd (omega arith)
+number_none SegmentName e = absurd (omega arith)
+number_none SecondHeader e = absurd (omega arith)
+number_none TooManySegments e = absurd (omega arith)
+number_none NotAcknowledgeable e = absurd (omega arith)
+number_none AcknowledgementTooLong e = absurd (omega arith)
+number_none Separator e = absurd (omega arith)
+number_none UnknownEscape e = absurd (omega arith)
+number_none UnclosedEscape e = absurd (omega arith)
+number_none NoRoom e = absurd (omega arith)
+number_none NullText e = absurd (omega arith)
+number_none CallersTime e = absurd (omega arith)
+number_none CallersId e = absurd (omega arith)
+number_none Address e = absurd (omega arith)
+number_none NoStructure e = absurd (omega arith)
+number_none SegmentMisplaced e = absurd (omega arith)
+number_none EndedEarly e = absurd (omega arith)
+number_none RequiredMissing e = absurd (omega arith)
+number_none BreaksForm e = absurd (omega arith)
+number_none NotListed e = absurd (omega arith)
+number_none RequiredNull e = absurd (omega arith)
+number_none ValueWithoutType e = absurd (omega arith)
+number_none Repeated e = absurd (omega arith)
+number_none ValueTooLong e = absurd (omega arith)
+number_none StructureName e = absurd (omega arith)
+number_none BrokenFrame e = absurd (omega arith)
+number_none FrameTooLong e = absurd (omega arith)
+number_none Layout e = absurd (omega arith)
+number_none BookVersion e = absurd (omega arith)
+number_none BookMalformed e = absurd (omega arith)
+number_none BookHeader e = absurd (omega arith)
+number_none WrongCount e = absurd (omega arith)
+number_none BrokenBatch e = absurd (omega arith)

@@ -39,12 +39,12 @@ fill_more {W} {d₀} {rest₀} {d} {o} xs rest d' o' f e e' eo =
         sym (drop-drop (length xs) o d) ∙ ap (λ (l : List ℕ). drop (length xs) (drop o l)) f.holds
         ∙ ap (drop (length xs)) (drop_at f.front (drop o d₀) o f.size) ∙ drop-drop (length xs) o d₀
 
-pub fill-room : {W d₀ rest d : List ℕ} {o : ℕ} → Filling W d₀ rest d o → o + length rest ≡ length W
-fill-room {W} {d₀} {rest} {d} {o} f = ap (λ (k : ℕ). k + length rest) (sym f.size) ∙ sym (length-append f.front rest) ∙ ap length (sym f.whole)
+pub fill_room : {W d₀ rest d : List ℕ} {o : ℕ} → Filling W d₀ rest d o → o + length rest ≡ length W
+fill_room {W} {d₀} {rest} {d} {o} f = ap (λ (k : ℕ). k + length rest) (sym f.size) ∙ sym (length-append f.front rest) ∙ ap length (sym f.whole)
 
-pub fill-length : {W d₀ rest d : List ℕ} {o : ℕ} → Filling W d₀ rest d o → length W ≤ length d₀ → length d ≡ length d₀
-fill-length {W} {d₀} {rest} {d} {o} f h =
-    let r = fill-room f in
+pub fill_length : {W d₀ rest d : List ℕ} {o : ℕ} → Filling W d₀ rest d o → length W ≤ length d₀ → length d ≡ length d₀
+fill_length {W} {d₀} {rest} {d} {o} f h =
+    let r = fill_room f in
     let l = length-append f.front (drop o d₀) in
     let k = length-drop o d₀ in
     let n = ap length f.holds in
@@ -63,36 +63,36 @@ fill_from W d at h = record { front = take at d; whole = refl; size = length-tak
 pub fill_from_end : (W : List ℕ) (at : ℕ) {d rest d' : List ℕ} {o : ℕ} → Filling (take at d ++ W) d rest d' o → at ≤ length d → rest ≡ [] → (o ≡ at + length W) × (d' ≡ pasted d at W)
 fill_from_end W at {d} {rest} {d'} {o} f h e =
     let n : length (take at d ++ W) ≡ at + length W = length-append (take at d) W ∙ ap (λ (k : ℕ). k + length W) (length-take-le at d h) in
-    let r = fill-room f in
+    let r = fill_room f in
     let z = ap length e in
     (omega arith, fill_end f e ∙ ap (λ (k : ℕ). take at d ++ W ++ drop k d) n)
 
 -- one byte
-pub set-pasted : (d : List ℕ) (o v : ℕ) → o < length d → set d o v ≡ pasted d o (v ∷ [])
-set-pasted d o v h = set_split d o v h ∙ sym (append_snoc (take o d) v (drop (suc o) d)) ∙ ap (λ (k : ℕ). take o d ++ (v ∷ []) ++ drop k d) (sym (add-one o))
+pub set_pasted : (d : List ℕ) (o v : ℕ) → o < length d → set d o v ≡ pasted d o (v ∷ [])
+set_pasted d o v h = set_split d o v h ∙ sym (append_snoc (take o d) v (drop (suc o) d)) ∙ ap (λ (k : ℕ). take o d ++ (v ∷ []) ++ drop k d) (sym (add-one o))
 
 -- ---- bytes that are set one behind another
 
-next-set : {W d rest d' : List ℕ} {o : ℕ} (v p : ℕ) → Filling W d (v ∷ rest) d' o → o < length d → length d' ≡ length d → p ≡ o + 1
+next_set : {W d rest d' : List ℕ} {o : ℕ} (v p : ℕ) → Filling W d (v ∷ rest) d' o → o < length d → length d' ≡ length d → p ≡ o + 1
     → Filling W d rest (set d' o v) p × (length (set d' o v) ≡ length d)
-next-set {rest = rest} {d' = d'} {o = o} v p f h n e = (fill_more (v ∷ []) rest _ p f refl (set-pasted d' o v (omega arith)) e, simp length-set n)
+next_set {rest = rest} {d' = d'} {o = o} v p f h n e = (fill_more (v ∷ []) rest _ p f refl (set_pasted d' o v (omega arith)) e, simp length-set n)
 
 module _ (d : List ℕ) (at : ℕ) where
-  pub three-pasted : (x y z : ℕ) → at + 3 ≤ length d → set (set (set d at x) (at + 1) y) (at + 2) z ≡ pasted d at (x ∷ y ∷ z ∷ [])
-  three-pasted x y z h =
-      let f₁ = next-set x (at + 1) (fill_from (x ∷ y ∷ z ∷ []) d at (omega arith)) (omega arith) refl refl in
-      let f₂ = next-set y (at + 2) f₁.0 (omega arith) f₁.1 (omega arith) in
-      let f₃ = next-set z (at + 3) f₂.0 (omega arith) f₂.1 (omega arith) in
+  pub three_pasted : (x y z : ℕ) → at + 3 ≤ length d → set (set (set d at x) (at + 1) y) (at + 2) z ≡ pasted d at (x ∷ y ∷ z ∷ [])
+  three_pasted x y z h =
+      let f₁ = next_set x (at + 1) (fill_from (x ∷ y ∷ z ∷ []) d at (omega arith)) (omega arith) refl refl in
+      let f₂ = next_set y (at + 2) f₁.0 (omega arith) f₁.1 (omega arith) in
+      let f₃ = next_set z (at + 3) f₂.0 (omega arith) f₂.1 (omega arith) in
       (fill_from_end (x ∷ y ∷ z ∷ []) at f₃.0 (omega arith) refl).1
 
   pub five_pasted : (x y z v w : ℕ) → at + 5 ≤ length d
       → set (set (set (set (set d at x) (at + 1) y) (at + 2) z) (at + 3) v) (at + 4) w ≡ pasted d at (x ∷ y ∷ z ∷ v ∷ w ∷ [])
   five_pasted x y z v w h =
-      let f₁ = next-set x (at + 1) (fill_from (x ∷ y ∷ z ∷ v ∷ w ∷ []) d at (omega arith)) (omega arith) refl refl in
-      let f₂ = next-set y (at + 2) f₁.0 (omega arith) f₁.1 (omega arith) in
-      let f₃ = next-set z (at + 3) f₂.0 (omega arith) f₂.1 (omega arith) in
-      let f₄ = next-set v (at + 4) f₃.0 (omega arith) f₃.1 (omega arith) in
-      let f₅ = next-set w (at + 5) f₄.0 (omega arith) f₄.1 (omega arith) in
+      let f₁ = next_set x (at + 1) (fill_from (x ∷ y ∷ z ∷ v ∷ w ∷ []) d at (omega arith)) (omega arith) refl refl in
+      let f₂ = next_set y (at + 2) f₁.0 (omega arith) f₁.1 (omega arith) in
+      let f₃ = next_set z (at + 3) f₂.0 (omega arith) f₂.1 (omega arith) in
+      let f₄ = next_set v (at + 4) f₃.0 (omega arith) f₃.1 (omega arith) in
+      let f₅ = next_set w (at + 5) f₄.0 (omega arith) f₄.1 (omega arith) in
       (fill_from_end (x ∷ y ∷ z ∷ v ∷ w ∷ []) at f₅.0 (omega arith) refl).1
 
 -- ---- copies
@@ -102,8 +102,8 @@ put_step d₀ s d at j o eo ed hd hs =
     ap (λ (k : ℕ). set d k (get_or s j 0)) eo ∙ ap (λ (l : List ℕ). set l (at + j) (get_or s j 0)) ed
     ∙ paste-suc d₀ at s j 0 hd hs ∙ ap (paste d₀ at s) (sym (add-one j))
 
-pub put-end : (d s : List ℕ) (at j : ℕ) → j ≡ length s → paste d at s j ≡ pasted d at s
-put-end d s at j e = ap (paste d at s) e ∙ ap (λ (l : List ℕ). take at d ++ l ++ drop (at + length s) d) (take-length s)
+pub put_end : (d s : List ℕ) (at j : ℕ) → j ≡ length s → paste d at s j ≡ pasted d at s
+put_end d s at j e = ap (paste d at s) e ∙ ap (λ (l : List ℕ). take at d ++ l ++ drop (at + length s) d) (take-length s)
 
 -- ---- copies of several bytes together: held first, and put over what may have been copied before
 
@@ -140,8 +140,8 @@ module _ (d s : List ℕ) (at i j k : ℕ) (before : j ≤ i) (past : i ≤ j + 
       ap (λ (n : ℕ). drop n (paste d at s i)) e ∙ sym (drop-drop m (at + i) (paste d at s i)) ∙ ap (drop m) (drop-paste d at s i (omega arith) (omega arith))
       ∙ drop-drop m (at + i) d ∙ ap (λ (n : ℕ). drop n d) f
 
-  pub put-over : pasted (paste d at s i) (at + j) some ≡ paste d at s (j + k)
-  put-over =
+  pub put_over : pasted (paste d at s i) (at + j) some ≡ paste d at s (j + k)
+  put_over =
       ap (λ (l : List ℕ). l ++ some ++ drop (at + j + length some) (paste d at s i)) kept
       ∙ ap (λ (l : List ℕ). take at d ++ take j s ++ some ++ l) stays
       ∙ ap (λ (l : List ℕ). l ++ drop (at + (j + k)) d)
@@ -149,8 +149,8 @@ module _ (d s : List ℕ) (at i j k : ℕ) (before : j ≤ i) (past : i ≤ j + 
 
 -- so many bytes more, and the last of them
 module _ (d s b b' : List ℕ) (at i k : ℕ) (copied : b ≡ paste d at s i) (room : at + length s ≤ length d) where
-  pub put-more : i + k ≤ length s → b' ≡ pasted b (at + i) (take k (drop i s)) → b' ≡ paste d at s (i + k)
-  put-more h e = e ∙ ap (λ (l : List ℕ). pasted l (at + i) (take k (drop i s))) copied ∙ put-over d s at i i k (omega arith) (omega arith) h room
+  pub put_more : i + k ≤ length s → b' ≡ pasted b (at + i) (take k (drop i s)) → b' ≡ paste d at s (i + k)
+  put_more h e = e ∙ ap (λ (l : List ℕ). pasted l (at + i) (take k (drop i s))) copied ∙ put_over d s at i i k (omega arith) (omega arith) h room
 
   pub put_last : i ≤ length s → k ≤ length s → length s - i < k → b' ≡ pasted b (at + length s - k) (take k (drop (length s - k) s)) → b' ≡ paste d at s (length s)
   put_last h m w e =
@@ -158,15 +158,15 @@ module _ (d s b b' : List ℕ) (at i k : ℕ) (copied : b ≡ paste d at s i) (r
       let o : at + length s - k ≡ at + j = omega arith in
       let n : j + k ≡ length s = omega arith in
       e ∙ ap (λ (x : ℕ). pasted b x (take k (drop j s))) o ∙ ap (λ (l : List ℕ). pasted l (at + j) (take k (drop j s))) copied
-      ∙ put-over d s at i j k (omega arith) (omega arith) (omega arith) room ∙ ap (paste d at s) n
+      ∙ put_over d s at i j k (omega arith) (omega arith) (omega arith) room ∙ ap (paste d at s) n
 
 -- ---- where there is room, and where there is none
 
 module _ (d s : List ℕ) (at : ℕ) where
-  pub put-fits : at + length s ≤ length d → (behind (length d) at (length s) ≡ at + length s) × (put_at d at s ≡ pasted d at s)
+  pub put_fits : at + length s ≤ length d → (behind (length d) at (length s) ≡ at + length s) × (put_at d at s ≡ pasted d at s)
   unfolding put_at behind
-  put-fits h = (rw (le-leb (at + length s) (length d) h), rw (le-leb (at + length s) (length d) h))
+  put_fits h = (rw (le-leb (at + length s) (length d) h), rw (le-leb (at + length s) (length d) h))
 
-  pub put-none : length d < at + length s → (behind (length d) at (length s) ≡ at) × (put_at d at s ≡ d)
+  pub put_none : length d < at + length s → (behind (length d) at (length s) ≡ at) × (put_at d at s ≡ d)
   unfolding put_at behind
-  put-none h = (rw (lt-leb (at + length s) (length d) h), rw (lt-leb (at + length s) (length d) h))
+  put_none h = (rw (lt-leb (at + length s) (length d) h), rw (lt-leb (at + length s) (length d) h))

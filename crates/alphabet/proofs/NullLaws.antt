@@ -8,12 +8,12 @@ use lib.Dec.{eqb}
 use lib.ListN.{length}
 use borrow.Author.Tests.{eqb-true}
 use Rattle.alphabet.specs.Bytes.{is_null}
-use Rattle.alphabet.proofs.BoolLaws.{false-true, and_both}
+use Rattle.alphabet.proofs.BoolLaws.{false_true, and_both}
 
 -- a null is the two bytes `""`
 pub two_quotes_lem : (bytes : List ℕ) → is_null bytes ≡ true → bytes ≡ 34 ∷ 34 ∷ []
-two_quotes_lem [] e = false-true e
-two_quotes_lem (a ∷ []) e = false-true e
+two_quotes_lem [] e = false_true e
+two_quotes_lem (a ∷ []) e = false_true e
 two_quotes_lem (a ∷ b ∷ []) e =
     let q = and_both (eqb a 34) (eqb b 34) e in
     rw (eqb-true a 34 q.0, eqb-true b 34 q.1)
@@ -24,7 +24,7 @@ two_quotes_lem (a ∷ b ∷ c ∷ r) e =
 
 -- and no other bytes are null
 pub not_quotes : (bytes : List ℕ) → is_null bytes ≡ false → bytes ≡ 34 ∷ 34 ∷ [] → ⊥
-not_quotes bytes e q = false-true (sym e ∙ ap is_null q)
+not_quotes bytes e q = false_true (sym e ∙ ap is_null q)
 
 pub other_quotes : (bytes : List ℕ) → (bytes ≡ 34 ∷ 34 ∷ [] → ⊥) → is_null bytes ≡ false
 other_quotes bytes n = at (is_null bytes) refl

@@ -14,7 +14,7 @@ use borrow.Author.Tests.{ltb-true, ltb-false, lt-ltb, eqb-true, eq-eqb}
 use Rattle.alphabet.specs.Lists.{first, find}
 use Rattle.alphabet.specs.Parts.{grown, split, join, standing, part_at}
 use Rattle.alphabet.specs.declared.parts.Part.TheVariants.{At, Absent}
-use Rattle.alphabet.proofs.ListLaws.{rest_of, first-le}
+use Rattle.alphabet.proofs.ListLaws.{rest_of, first_le}
 
 -- ---- a piece of a list that is put together of two
 
@@ -47,10 +47,10 @@ module _ (sep : ℕ) where
       at true ih h = refl
       at false ih h = rw (ih (omega arith), add-one (find sep r), add-one (suc (find sep r)))
 
-  pub split-last : (l : List ℕ) → length l ≤ find sep l → split sep l ≡ l ∷ []
+  pub split_last : (l : List ℕ) → length l ≤ find sep l → split sep l ≡ l ∷ []
   unfolding split first
-  split-last [] h = refl
-  split-last (b ∷ r) h = at (eqb sep b) (split-last r) h
+  split_last [] h = refl
+  split_last (b ∷ r) h = at (eqb sep b) (split_last r) h
     where
       at : (t : Bool) → (length r ≤ find sep r → split sep r ≡ r ∷ []) → suc (length r) ≤ cond t 0 (suc (find sep r))
           → cond t ([] ∷ split sep r) (grown b (split sep r)) ≡ (b ∷ r) ∷ []
@@ -59,19 +59,19 @@ module _ (sep : ℕ) where
 
   -- ---- a part without the separator, in front of one or alone
 
-  pub free-find : (p r : List ℕ) → find sep p ≡ length p → find sep (p ++ sep ∷ r) ≡ length p
+  pub free_find : (p r : List ℕ) → find sep p ≡ length p → find sep (p ++ sep ∷ r) ≡ length p
   unfolding first
-  free-find [] r e = rw (eq-eqb sep sep refl)
-  free-find (b ∷ p) r e = at (eqb sep b) (free-find p r) e
+  free_find [] r e = rw (eq-eqb sep sep refl)
+  free_find (b ∷ p) r e = at (eqb sep b) (free_find p r) e
     where
       at : (t : Bool) → (find sep p ≡ length p → find sep (p ++ sep ∷ r) ≡ length p) → cond t 0 (suc (find sep p)) ≡ suc (length p)
           → cond t 0 (suc (find sep (p ++ sep ∷ r))) ≡ suc (length p)
       at true ih e = absurd (omega arith)
       at false ih e = ap suc (ih (omega arith))
 
-  pub split-cons : (p r : List ℕ) → find sep p ≡ length p → split sep (p ++ sep ∷ r) ≡ p ∷ split sep r
-  split-cons p r e =
-      let f = free-find p r e in
+  pub split_cons : (p r : List ℕ) → find sep p ≡ length p → split sep (p ++ sep ∷ r) ≡ p ∷ split sep r
+  split_cons p r e =
+      let f = free_find p r e in
       let n = length-append p (sep ∷ r) in
       split_step (p ++ sep ∷ r) (omega arith)
       ∙ ap (λ (i : ℕ). take i (p ++ sep ∷ r) ∷ split sep (drop (i + 1) (p ++ sep ∷ r))) f
@@ -80,21 +80,21 @@ module _ (sep : ℕ) where
 
   -- ---- there is a part, and no part holds the separator
 
-  pub split-some : (l : List ℕ) → 1 ≤ length (split sep l)
+  pub split_some : (l : List ℕ) → 1 ≤ length (split sep l)
   unfolding split
-  split-some [] = omega arith
-  split-some (b ∷ r) = at (eqb sep b) (split sep r)
+  split_some [] = omega arith
+  split_some (b ∷ r) = at (eqb sep b) (split sep r)
     where
       at : (t : Bool) (ps : List (List ℕ)) → 1 ≤ length (cond t ([] ∷ ps) (grown b ps))
       at true ps = omega arith
       at false [] = omega arith
       at false (p ∷ ps) = omega arith
 
-  pub split-free : (l : List ℕ) (k : ℕ) → k < length (split sep l) → find sep (get_or (split sep l) k []) ≡ length (get_or (split sep l) k [])
+  pub split_free : (l : List ℕ) (k : ℕ) → k < length (split sep l) → find sep (get_or (split sep l) k []) ≡ length (get_or (split sep l) k [])
   unfolding split first
-  split-free [] zero h = refl
-  split-free [] (suc k) h = absurd (omega arith)
-  split-free (b ∷ r) k h = at (eqb sep b) refl (split sep r) (λ j. split-free r j) k h
+  split_free [] zero h = refl
+  split_free [] (suc k) h = absurd (omega arith)
+  split_free (b ∷ r) k h = at (eqb sep b) refl (split sep r) (λ j. split_free r j) k h
     where
       at : (t : Bool) → eqb sep b ≡ t → (ps : List (List ℕ)) → ((j : ℕ) → j < length ps → find sep (get_or ps j []) ≡ length (get_or ps j [])) → (k : ℕ)
           → k < length (cond t ([] ∷ ps) (grown b ps)) → find sep (get_or (cond t ([] ∷ ps) (grown b ps)) k []) ≡ length (get_or (cond t ([] ∷ ps) (grown b ps)) k [])
@@ -107,10 +107,10 @@ module _ (sep : ℕ) where
 
   -- ---- splitting and joining undo each other
 
-  pub join-split : (l : List ℕ) → join sep (split sep l) ≡ l
+  pub join_split : (l : List ℕ) → join sep (split sep l) ≡ l
   unfolding split join
-  join-split [] = refl
-  join-split (b ∷ r) = at (eqb sep b) refl (split sep r) (split-some r) (join-split r)
+  join_split [] = refl
+  join_split (b ∷ r) = at (eqb sep b) refl (split sep r) (split_some r) (join_split r)
     where
       at : (t : Bool) → eqb sep b ≡ t → (ps : List (List ℕ)) → 1 ≤ length ps → join sep ps ≡ r → join sep (cond t ([] ∷ ps) (grown b ps)) ≡ b ∷ r
       at t e [] h q = absurd (omega arith)
@@ -118,33 +118,33 @@ module _ (sep : ℕ) where
       at false e (p ∷ []) h q = rw q
       at false e (p ∷ p' ∷ ps) h q = rw q
 
-  pub split-join : (ps : List (List ℕ)) → 1 ≤ length ps → ((k : ℕ) → k < length ps → find sep (get_or ps k []) ≡ length (get_or ps k [])) → split sep (join sep ps) ≡ ps
+  pub split_join : (ps : List (List ℕ)) → 1 ≤ length ps → ((k : ℕ) → k < length ps → find sep (get_or ps k []) ≡ length (get_or ps k [])) → split sep (join sep ps) ≡ ps
   unfolding join
-  split-join [] h free = absurd (omega arith)
-  split-join (p ∷ []) h free = let e = free 0 (omega arith) in split-last p (omega arith)
-  split-join (p ∷ q ∷ ps) h free =
-      split-cons p (join sep (q ∷ ps)) (free 0 (omega arith))
-      ∙ ap (λ (r : List (List ℕ)). p ∷ r) (split-join (q ∷ ps) (omega arith) (λ k. λ (l : k < length (q ∷ ps)). free (suc k) (omega arith)))
+  split_join [] h free = absurd (omega arith)
+  split_join (p ∷ []) h free = let e = free 0 (omega arith) in split_last p (omega arith)
+  split_join (p ∷ q ∷ ps) h free =
+      split_cons p (join sep (q ∷ ps)) (free 0 (omega arith))
+      ∙ ap (λ (r : List (List ℕ)). p ∷ r) (split_join (q ∷ ps) (omega arith) (λ k. λ (l : k < length (q ∷ ps)). free (suc k) (omega arith)))
 
   -- ---- where parts stand: the first, one past it, and none behind the last
 
-  pub standing-first : (at : ℕ) (l : List ℕ) → standing at (split sep l) 0 ≡ At at (at + find sep l)
+  pub standing_first : (at : ℕ) (l : List ℕ) → standing at (split sep l) 0 ≡ At at (at + find sep l)
   unfolding standing
-  standing-first at l = by (ltb (find sep l) (length l)) refl
+  standing_first at l = by (ltb (find sep l) (length l)) refl
     where
       by : (t : Bool) → ltb (find sep l) (length l) ≡ t → standing at (split sep l) 0 ≡ At at (at + find sep l)
       by true e =
           let h = ltb-true (find sep l) (length l) e in
-          rw (split_step l h) (ap (λ (n : ℕ). At at (at + n)) (length-take-le (find sep l) l (first-le (eqb sep) l)))
+          rw (split_step l h) (ap (λ (n : ℕ). At at (at + n)) (length-take-le (find sep l) l (first_le (eqb sep) l)))
       by false e =
           let h = ltb-false (find sep l) (length l) e in
-          let u = first-le (eqb sep) l in
+          let u = first_le (eqb sep) l in
           let n : length l ≡ find sep l = omega arith in
-          rw (split-last l h) (ap (λ (n : ℕ). At at (at + n)) n)
+          rw (split_last l h) (ap (λ (n : ℕ). At at (at + n)) n)
 
-  pub standing-none : (at : ℕ) (l : List ℕ) (k : ℕ) → length l ≤ find sep l → standing at (split sep l) (k + 1) ≡ Absent
+  pub standing_none : (at : ℕ) (l : List ℕ) (k : ℕ) → length l ≤ find sep l → standing at (split sep l) (k + 1) ≡ Absent
   unfolding standing
-  standing-none at l k h = rw (split-last l h, add-one k)
+  standing_none at l k h = rw (split_last l h, add-one k)
 
   -- ---- a walk along the bytes of l: from `start`, with the next separator n bytes on
 
@@ -164,11 +164,11 @@ module _ (sep : ℕ) where
       (ap (λ (m : ℕ). standing (start + m + 1) (split sep (drop (start + n + 1) l)) k) (length-take-le n (drop start l) (omega arith)))
 
   -- a part ends at the first separator from its start on, or where the whole does
-  pub standing-end : (l : List ℕ) (start k s e : ℕ) → standing start (split sep (drop start l)) k ≡ At s e → e ≡ s + find sep (drop s l)
-  standing-end l start zero s e q =
-      let p = at_same (sym (standing-first start (drop start l)) ∙ q) in
+  pub standing_end : (l : List ℕ) (start k s e : ℕ) → standing start (split sep (drop start l)) k ≡ At s e → e ≡ s + find sep (drop s l)
+  standing_end l start zero s e q =
+      let p = at_same (sym (standing_first start (drop start l)) ∙ q) in
       sym p.1 ∙ ap (λ (x : ℕ). x + find sep (drop x l)) p.0
-  standing-end l start (suc k) s e q = at (ltb (find sep (drop start l)) (length (drop start l))) refl (standing-end l (start + find sep (drop start l) + 1) k s e)
+  standing_end l start (suc k) s e q = at (ltb (find sep (drop start l)) (length (drop start l))) refl (standing_end l (start + find sep (drop start l) + 1) k s e)
     where
       next : standing start (split sep (drop start l)) (k + 1) ≡ At s e
       next = let n : k + 1 ≡ suc k = omega arith in ap (standing start (split sep (drop start l))) n ∙ q
@@ -176,11 +176,11 @@ module _ (sep : ℕ) where
       at : (t : Bool) → ltb (find sep (drop start l)) (length (drop start l)) ≡ t
           → (standing (start + find sep (drop start l) + 1) (split sep (drop (start + find sep (drop start l) + 1) l)) k ≡ At s e → e ≡ s + find sep (drop s l)) → e ≡ s + find sep (drop s l)
       at true t ih = ih (sym (standing_walk l start (find sep (drop start l)) k refl (ltb-true _ _ t)) ∙ next)
-      at false t ih = let z : Absent ≡ At s e = sym (standing-none start (drop start l) k (ltb-false _ _ t)) ∙ next in absurd (let y : ◌≡◌ {A = ℕ} 0 1 = cc in omega arith)
+      at false t ih = let z : Absent ≡ At s e = sym (standing_none start (drop start l) k (ltb-false _ _ t)) ∙ next in absurd (let y : ◌≡◌ {A = ℕ} 0 1 = cc in omega arith)
 
   pub part_end : (l : List ℕ) (k s e : ℕ) → part_at sep l k ≡ At s e → e ≡ s + find sep (drop s l)
   unfolding part_at
-  part_end l = standing-end l 0
+  part_end l = standing_end l 0
 
   -- ---- what stands there
 
@@ -241,17 +241,17 @@ module _ (sep : ℕ) where
   unfolding part_at
   part_bytes_lem l k s e q =
       let i = joined_part 0 (split sep l) k s e q in
-      let i3 : e ≤ 0 + length l = rw join-split at i.3 in
-      let i4 : take (e - s) (drop (s - 0) l) ≡ get_or (split sep l) k [] = rw join-split at i.4 in
+      let i3 : e ≤ 0 + length l = rw join_split at i.3 in
+      let i4 : take (e - s) (drop (s - 0) l) ≡ get_or (split sep l) k [] = rw join_split at i.4 in
       let n : s ≡ s - 0 = omega arith in
       (i.0, i.2, omega arith, ap (λ (n : ℕ). take (e - s) (drop n l)) n ∙ i4)
 
 -- absent exactly past the last part
-pub standing-absent : (at : ℕ) (ps : List (List ℕ)) (k : ℕ) → length ps ≤ k → standing at ps k ≡ Absent
+pub standing_absent : (at : ℕ) (ps : List (List ℕ)) (k : ℕ) → length ps ≤ k → standing at ps k ≡ Absent
 unfolding standing
-standing-absent at [] k h = refl
-standing-absent at (p ∷ ps) zero h = absurd (omega arith)
-standing-absent at (p ∷ ps) (suc k) h = standing-absent (at + length p + 1) ps k (omega arith)
+standing_absent at [] k h = refl
+standing_absent at (p ∷ ps) zero h = absurd (omega arith)
+standing_absent at (p ∷ ps) (suc k) h = standing_absent (at + length p + 1) ps k (omega arith)
 
 pub absent_past : (at : ℕ) (ps : List (List ℕ)) (k : ℕ) → standing at ps k ≡ Absent → length ps ≤ k
 unfolding standing
@@ -269,7 +269,7 @@ module _ (sep : ℕ) (l : List ℕ) (start n : ℕ) (inside : start ≤ length l
   pub walk_in : start + n ≤ length l
   walk_in =
       let e = place in
-      let u = first-le (eqb sep) (drop start l) in
+      let u = first_le (eqb sep) (drop start l) in
       let d = length-drop start l in
       omega arith
 
@@ -288,7 +288,7 @@ module _ (sep : ℕ) (l : List ℕ) (start n : ℕ) (inside : start ≤ length l
   walk_last h =
       let e = place in
       let d = length-drop start l in
-      split-last sep (drop start l) (omega arith)
+      split_last sep (drop start l) (omega arith)
       ∙ ap (λ (q : List ℕ). q ∷ []) (sym (take_all (start + n - start) (drop start l) (omega arith)))
 
 -- ---- the first part
@@ -300,7 +300,7 @@ first_part sep l = at (ltb (find sep l) (length l)) refl
     at true e = ap (λ (ps : List (List ℕ)). get_or ps 0 []) (split_step sep l (ltb-true _ _ e))
     at false e =
         let h = ltb-false (find sep l) (length l) e in
-        ap (λ (ps : List (List ℕ)). get_or ps 0 []) (split-last sep l h) ∙ sym (take_all (find sep l) l h)
+        ap (λ (ps : List (List ℕ)). get_or ps 0 []) (split_last sep l h) ∙ sym (take_all (find sep l) l h)
 
 -- there are more parts than one exactly where the first ends before the bytes do
 pub more_parts : (sep : ℕ) (l : List ℕ) → ltb 1 (length (split sep l)) ≡ ltb (find sep l) (length l)
@@ -308,9 +308,9 @@ more_parts sep l = at (ltb (find sep l) (length l)) refl
   where
     at : (t : Bool) → ltb (find sep l) (length l) ≡ t → ltb 1 (length (split sep l)) ≡ t
     at true e =
-        let s = split-some sep (drop (find sep l + 1) l) in
+        let s = split_some sep (drop (find sep l + 1) l) in
         ap (λ (ps : List (List ℕ)). ltb 1 (length ps)) (split_step sep l (ltb-true _ _ e)) ∙ lt-ltb 1 (suc (length (split sep (drop (find sep l + 1) l)))) (omega arith)
-    at false e = ap (λ (ps : List (List ℕ)). ltb 1 (length ps)) (split-last sep l (ltb-false _ _ e))
+    at false e = ap (λ (ps : List (List ℕ)). ltb 1 (length ps)) (split_last sep l (ltb-false _ _ e))
 
 -- ---- past the last part
 
@@ -324,6 +324,6 @@ unfolding part_at
 none_past sep l k q = absent_past 0 (split sep l) k q
 
 -- no bytes are one part, with no bytes
-pub split-nothing : (sep : ℕ) → split sep [] ≡ [] ∷ []
+pub split_nothing : (sep : ℕ) → split sep [] ≡ [] ∷ []
 unfolding split
-split-nothing sep = refl
+split_nothing sep = refl

@@ -4,9 +4,9 @@ use Rattle.alphabet.specs.Bytes.{ascii}
 use Rattle.answering.specs.Hex.{hexed}
 use Rattle.answering.specs.Answers.{no_question}
 
-own-word : no_question ≡ ascii "?\n"
-own-word = refl
+own_word : no_question ≡ ascii "?\n"
+own_word = refl
 
-bytes-written : (hexed [] ≡ []) × (hexed (0 ∷ 159 ∷ 165 ∷ 255 ∷ []) ≡ ascii "009fa5ff")
+bytes_written : (hexed [] ≡ []) × (hexed (0 ∷ 159 ∷ 165 ∷ 255 ∷ []) ≡ ascii "009fa5ff")
 unfolding hexed
-bytes-written = (refl, refl)
+bytes_written = (refl, refl)

@@ -9,19 +9,19 @@ use borrow.Author.Tests.{le-leb, lt-leb, lt-ltb, le-ltb}
 use Rattle.asking.specs.declared.decimals.Number.{Number}
 use Rattle.asking.specs.declared.decimals.Number.TheVariants.{Value, Refused}
 use Rattle.alphabet.specs.Digits.{all_digits, counted}
-use Rattle.alphabet.proofs.DigitLaws.{counted-least}
+use Rattle.alphabet.proofs.DigitLaws.{counted_least}
 use Rattle.asking.specs.Decimals.{held, number, AtMost}
-use Rattle.alphabet.proofs.ListLaws.{drop-next}
+use Rattle.alphabet.proofs.ListLaws.{drop_next}
 
-pub number-none : (l : List ℕ) → length l ≡ 0 → number l ≡ Refused
+pub number_none : (l : List ℕ) → length l ≡ 0 → number l ≡ Refused
 unfolding number
-number-none [] h = refl
-number-none (d ∷ r) h = absurd (omega arith)
+number_none [] h = refl
+number_none (d ∷ r) h = absurd (omega arith)
 
-pub number-some : (l : List ℕ) → (length l ≡ 0 → ⊥) → number l ≡ held 0 l
+pub number_some : (l : List ℕ) → (length l ≡ 0 → ⊥) → number l ≡ held 0 l
 unfolding number
-number-some [] h = absurd (h refl)
-number-some (d ∷ r) h = refl
+number_some [] h = absurd (h refl)
+number_some (d ∷ r) h = refl
 
 refused : (n : ℕ) (l : List ℕ) → all_digits l ≡ false → held n l ≡ Refused
 unfolding held
@@ -36,26 +36,26 @@ large n l h = rw (le-ltb (counted n l) (2 ^ 64) h) (by (all_digits l))
     by false = refl
 
 module _ (n : ℕ) (l : List ℕ) (i : ℕ) where
-  pub held-end : length l ≤ i → n < 2 ^ 64 → held n (drop i l) ≡ Value n
+  pub held_end : length l ≤ i → n < 2 ^ 64 → held n (drop i l) ≡ Value n
   unfolding held all_digits counted
-  held-end h k = rw (drop_of_length-le l h) (rw (lt-ltb n (2 ^ 64) k))
+  held_end h k = rw (drop_of_length-le l h) (rw (lt-ltb n (2 ^ 64) k))
 
   module _ (h : i < length l) where
     pub held_below : get_or l i 0 < 48 → held n (drop i l) ≡ Refused
     unfolding all_digits
-    held_below k = refused n (drop i l) (rw (drop-next l i) (rw (lt-leb 48 (get_or l i 0) k)))
+    held_below k = refused n (drop i l) (rw (drop_next l i) (rw (lt-leb 48 (get_or l i 0) k)))
 
     pub held_above : 57 < get_or l i 0 → held n (drop i l) ≡ Refused
     unfolding all_digits
-    held_above k = refused n (drop i l) (rw (drop-next l i) (rw (le-leb 48 (get_or l i 0) (omega arith), lt-leb (get_or l i 0) 57 k)))
+    held_above k = refused n (drop i l) (rw (drop_next l i) (rw (le-leb 48 (get_or l i 0) (omega arith), lt-leb (get_or l i 0) 57 k)))
 
     pub held_large : 2 ^ 64 ≤ n * 10 + (get_or l i 0 - 48) → held n (drop i l) ≡ Refused
     unfolding counted
-    held_large k = large n (drop i l) (rw (drop-next l i) (omega (arith, counted-least (n * 10 + (get_or l i 0 - 48)) (drop (i + 1) l))))
+    held_large k = large n (drop i l) (rw (drop_next l i) (omega (arith, counted_least (n * 10 + (get_or l i 0 - 48)) (drop (i + 1) l))))
 
     pub held_next : 48 ≤ get_or l i 0 → get_or l i 0 ≤ 57 → held n (drop i l) ≡ held (n * 10 + (get_or l i 0 - 48)) (drop (i + 1) l)
     unfolding held all_digits counted
-    held_next a b = rw (drop-next l i) (rw (le-leb 48 (get_or l i 0) a, le-leb (get_or l i 0) 57 b))
+    held_next a b = rw (drop_next l i) (rw (le-leb 48 (get_or l i 0) a, le-leb (get_or l i 0) 57 b))
 
 pub at_most : {most n : ℕ} {r : Number} → AtMost most r → r ≡ Value n → n ≤ most
 at_most {most = most} h e = subst (AtMost most) e h

@@ -13,14 +13,14 @@ pub held : (line : Line) (n room : ℕ) → line ≡ Holds n → Within room lin
 held line n room e h = subst (λ (l : Line). Within room l) e h
 
 module _ (line : Line) (buffer part : List ℕ) where
-  pub still-long : line ≡ TooLong → (bytes : List ℕ) → Gathered line buffer bytes → length buffer < length (bytes ++ part)
-  still-long e bytes g =
+  pub still_long : line ≡ TooLong → (bytes : List ℕ) → Gathered line buffer bytes → length buffer < length (bytes ++ part)
+  still_long e bytes g =
       let h = subst (λ (l : Line). Gathered l buffer bytes) e g in
       omega (arith, length-append bytes part)
 
   module _ (n : ℕ) (e : line ≡ Holds n) where
-    pub grown-long : n ≤ length buffer → length buffer - n < length part → (bytes : List ℕ) → Gathered line buffer bytes → length buffer < length (bytes ++ part)
-    grown-long h l bytes g =
+    pub grown_long : n ≤ length buffer → length buffer - n < length part → (bytes : List ℕ) → Gathered line buffer bytes → length buffer < length (bytes ++ part)
+    grown_long h l bytes g =
         let size = ap length (subst (λ (l : Line). Gathered l buffer bytes) e g) in
         omega (arith, length-append bytes part, length-take-le n buffer h)
 

@@ -8,10 +8,10 @@ use lib.ListN.{length, take, set, length-set}
 use lib.Seq.{take-suc-set}
 
 -- a front that is one element longer, and what is to follow it
-pub front-more : (d rest : List ℕ) (n x : ℕ) → n < length d → take (n + 1) (set d n x) ++ rest ≡ take n d ++ (x ∷ rest)
-front-more d rest n x h = rw (add-one n, take-suc-set d n x) (append_assoc (take n d) (x ∷ []) rest)
+pub front_more : (d rest : List ℕ) (n x : ℕ) → n < length d → take (n + 1) (set d n x) ++ rest ≡ take n d ++ (x ∷ rest)
+front_more d rest n x h = rw (add-one n, take-suc-set d n x) (append_assoc (take n d) (x ∷ []) rest)
 
 pub front_two : (d rest : List ℕ) (n x y : ℕ) → n + 1 < length d → take (n + 2) (set (set d n x) (n + 1) y) ++ rest ≡ take n d ++ (x ∷ y ∷ rest)
 front_two d rest n x y h =
     let e : n + 2 ≡ n + 1 + 1 = omega arith in
-    rw e (front-more (set d n x) rest (n + 1) y (simp length-set h) ∙ front-more d (y ∷ rest) n x (omega arith))
+    rw e (front_more (set d n x) rest (n + 1) y (simp length-set h) ∙ front_more d (y ∷ rest) n x (omega arith))

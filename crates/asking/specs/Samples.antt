@@ -13,10 +13,10 @@ cut : (words (ascii "") ≡ [] ∷ []) × (words (ascii "read 4d") ≡ ascii "re
 unfolding split
 cut = (refl, refl, refl)
 
-bytes-said : (said (ascii "-") ≡ bytes []) × (said (ascii "4D5a") ≡ bytes (77 ∷ 90 ∷ [])) × (said (ascii "4D5") ≡ nothing) × (said (ascii "4g") ≡ nothing) × (said (ascii "--") ≡ nothing) × (said [] ≡ nothing)
+bytes_said : (said (ascii "-") ≡ bytes []) × (said (ascii "4D5a") ≡ bytes (77 ∷ 90 ∷ [])) × (said (ascii "4D5") ≡ nothing) × (said (ascii "4g") ≡ nothing) × (said (ascii "--") ≡ nothing) × (said [] ≡ nothing)
 unfolding said all_hex pairs_of
-bytes-said = (refl, refl, refl, refl, refl, refl)
+bytes_said = (refl, refl, refl, refl, refl, refl)
 
-numbers-said : (number (ascii "007") ≡ Value 7) × (number (ascii "18446744073709551615") ≡ Value 18446744073709551615) × (number (ascii "18446744073709551616") ≡ Refused) × (number (ascii "+1") ≡ Refused) × (number [] ≡ Refused)
+numbers_said : (number (ascii "007") ≡ Value 7) × (number (ascii "18446744073709551615") ≡ Value 18446744073709551615) × (number (ascii "18446744073709551616") ≡ Refused) × (number (ascii "+1") ≡ Refused) × (number [] ≡ Refused)
 unfolding number held all_digits counted
-numbers-said = (refl, refl, refl, refl, refl)
+numbers_said = (refl, refl, refl, refl, refl)

@@ -12,14 +12,14 @@ use Rattle.boundary.specs.declared.answers.CAnswer.{CAnswer}
 use Rattle.boundary.specs.declared.judges.CStructure.{CStructure}
 use Rattle.boundary.specs.declared.judges.CVerdict.{CVerdict}
 
-pub one_structure-seen : (m : List ℕ) {r t : CStructure} → StructureSeen m r → StructureSeen m t → r ≡ t
-one_structure-seen m a b = a.seen_as ∙ ap structure_seen (only_one m a.answers b.answers) ∙ sym b.seen_as
+pub one_structure_seen : (m : List ℕ) {r t : CStructure} → StructureSeen m r → StructureSeen m t → r ≡ t
+one_structure_seen m a b = a.seen_as ∙ ap structure_seen (only_one m a.answers b.answers) ∙ sym b.seen_as
 
-pub one_verdict-seen : (m : List ℕ) {r t : CVerdict} → VerdictSeen m r → VerdictSeen m t → r ≡ t
-one_verdict-seen m a b = a.seen_as ∙ ap verdict_seen (one_verdict m a.answers b.answers) ∙ sym b.seen_as
+pub one_verdict_seen : (m : List ℕ) {r t : CVerdict} → VerdictSeen m r → VerdictSeen m t → r ≡ t
+one_verdict_seen m a b = a.seen_as ∙ ap verdict_seen (one_verdict m a.answers b.answers) ∙ sym b.seen_as
 
-pub one_name-seen : (m : List ℕ) (index : ℕ) {r t : ℕ} → NameSeen m index r → NameSeen m index t → r ≡ t
-one_name-seen m index a b = a.seen_as ∙ ap (λ (j : FaultRecord). get_or j.names.list index 0) (only_one m a.answers b.answers) ∙ sym b.seen_as
+pub one_name_seen : (m : List ℕ) (index : ℕ) {r t : ℕ} → NameSeen m index r → NameSeen m index t → r ≡ t
+one_name_seen m index a b = a.seen_as ∙ ap (λ (j : FaultRecord). get_or j.names.list index 0) (only_one m a.answers b.answers) ∙ sym b.seen_as
 
 -- the answer, and every byte of the buffer
 pub one_acknowledge_seen : (m time id lent : List ℕ) {r t : CAnswer} {x y : List ℕ} → AcknowledgeSeen m time id lent r x → AcknowledgeSeen m time id lent t y → (r ≡ t) × (x ≡ y)

@@ -16,11 +16,11 @@ use Rattle.alphabet.specs.declared.parts.Part.{Part}
 use Rattle.alphabet.specs.declared.parts.Part.TheVariants.{At, Absent}
 use Rattle.alphabet.specs.declared.parts.Start.{Start}
 use Rattle.alphabet.specs.declared.parts.Start.TheVariants.{From, Missing}
-use Rattle.alphabet.proofs.CheckLaws.{both_pass, passes-or}
+use Rattle.alphabet.proofs.CheckLaws.{both_pass, passes_or}
 use Rattle.reading.specs.Segments.{delimiters_of, segment_at}
 use Rattle.reading.specs.Reading.{reading}
 use Rattle.reading.specs.Message.{Message}
-use Rattle.reading.proofs.SegmentLaws.{segment-stands}
+use Rattle.reading.proofs.SegmentLaws.{segment_stands}
 use Rattle.reading.proofs.Accepted.{accepted}
 use Rattle.element.specs.Addresses.{address_check}
 use Rattle.element.specs.States.{state_of}
@@ -29,7 +29,7 @@ use Rattle.element.specs.Levels.{between, element_at}
 use Rattle.element.specs.Finding.{is_absent, lookup_check, element_in, element_of, element_if, nowhere, found, bytes_at, element_bytes, raw_bytes}
 use Rattle.element.specs.declared.Element.{Element}
 use Rattle.element.specs.declared.address.Address.{Address}
-use Rattle.element.proofs.LevelLaws.{Within, within-element}
+use Rattle.element.proofs.LevelLaws.{Within, within_element}
 
 -- a lookup that passes is of a message that was read
 pub lookup_read : (m : List ℕ) (a : Address) → lookup_check m a ≡ Passes → Message m
@@ -37,12 +37,12 @@ unfolding lookup_check
 lookup_read m a e = accepted m (both_pass (reading m) _ e).0
 
 pub lookup_long : (m : List ℕ) (a : Address) → lookup_check m a ≡ Passes → 9 ≤ length m
-lookup_long m a e = (lookup_read m a e).opened.nine-bytes
+lookup_long m a e = (lookup_read m a e).opened.nine_bytes
 
 -- where the answer says that the element stands lies within the message
-in-message : (m : List ℕ) (part : Part) → Within m part → ((element_in m part).start ≤ (element_in m part).end) × ((element_in m part).end ≤ length m)
-in-message m Absent w = (omega arith, omega arith)
-in-message m (At s e) w = w
+in_message : (m : List ℕ) (part : Part) → Within m part → ((element_in m part).start ≤ (element_in m part).end) × ((element_in m part).end ≤ length m)
+in_message m Absent w = (omega arith, omega arith)
+in_message m (At s e) w = w
 
 pub found_within : (m : List ℕ) (a : Address) → ((found m a).element.start ≤ (found m a).element.end) × ((found m a).element.end ≤ length m)
 unfolding found element_of
@@ -52,7 +52,7 @@ found_within m a = at (lookup_check m a) refl
     at (Fails kind place) e = (omega arith, omega arith)
     at Passes e =
         let n = lookup_long m a e in
-        in-message m (element_at m a) (within-element m a (omega arith))
+        in_message m (element_at m a) (within_element m a (omega arith))
 
 -- ---- the answer, case by case, where c is what the lookup gave
 
@@ -61,9 +61,9 @@ pub found_fails : (m : List ℕ) (a : Address) (c : Check) (kind : Refusal) (pla
 unfolding found
 found_fails m a c kind place e f = rw (← e, f)
 
-pub found-passes : (m : List ℕ) (a : Address) (c : Check) → c ≡ lookup_check m a → c ≡ Passes → record { answer = answered c; element = element_of m a } ≡ found m a
+pub found_passes : (m : List ℕ) (a : Address) (c : Check) → c ≡ lookup_check m a → c ≡ Passes → record { answer = answered c; element = element_of m a } ≡ found m a
 unfolding found
-found-passes m a c e f = rw (← e, f)
+found_passes m a c e f = rw (← e, f)
 
 -- ---- what a lookup gives, where c is what the question gave, before a segment was sought
 
@@ -78,24 +78,24 @@ module _ (m : List ℕ) (a : Address) (c : Check) (q : c ≡ in_order (reading m
       at Passes Passes e = absurd (let z : ◌≡◌ {A = ℕ} 0 1 = cc in omega arith)
 
   module _ (p : c ≡ Passes) (segment : Start) (s : segment ≡ began (segment_at m a.segment)) where
-    by-segment : lookup_check m a ≡ or_else (fails_if (is_absent (ended_by (eqb carriage_return) m segment)) Refusal.Address 0) Passes
+    by_segment : lookup_check m a ≡ or_else (fails_if (is_absent (ended_by (eqb carriage_return) m segment)) Refusal.Address 0) Passes
     unfolding lookup_check
-    by-segment =
+    by_segment =
         let b = both_pass (reading m) _ (sym q ∙ p) in
-        passes-or b.0 _ ∙ passes-or (both_pass (address_check a) Passes b.1).0 _
-        ∙ ap (λ (x : Part). or_else (fails_if (is_absent x) Refusal.Address 0) Passes) (sym (ap (ended_by (eqb carriage_return) m) s ∙ segment-stands m a.segment))
+        passes_or b.0 _ ∙ passes_or (both_pass (address_check a) Passes b.1).0 _
+        ∙ ap (λ (x : Part). or_else (fails_if (is_absent x) Refusal.Address 0) Passes) (sym (ap (ended_by (eqb carriage_return) m) s ∙ segment_stands m a.segment))
 
     pub lookup_missing : segment ≡ Missing → Fails Refusal.Address 0 ≡ lookup_check m a
-    lookup_missing e = sym (by-segment ∙ ap (λ (x : Start). or_else (fails_if (is_absent (ended_by (eqb carriage_return) m x)) Refusal.Address 0) Passes) e)
+    lookup_missing e = sym (by_segment ∙ ap (λ (x : Start). or_else (fails_if (is_absent (ended_by (eqb carriage_return) m x)) Refusal.Address 0) Passes) e)
 
     pub lookup_passes : (start : ℕ) → segment ≡ From start → c ≡ lookup_check m a
-    lookup_passes start e = p ∙ sym (by-segment ∙ ap (λ (x : Start). or_else (fails_if (is_absent (ended_by (eqb carriage_return) m x)) Refusal.Address 0) Passes) e)
+    lookup_passes start e = p ∙ sym (by_segment ∙ ap (λ (x : Start). or_else (fails_if (is_absent (ended_by (eqb carriage_return) m x)) Refusal.Address 0) Passes) e)
 
 -- an element that stands from s to e
-pub element-at : (m : List ℕ) (a : Address) (state : State) (ds : List ℕ) (s e : ℕ) → element_at m a ≡ At s e → ds ≡ delimiters_of m → state ≡ state_of ds (between m s e)
+pub element_at_lem : (m : List ℕ) (a : Address) (state : State) (ds : List ℕ) (s e : ℕ) → element_at m a ≡ At s e → ds ≡ delimiters_of m → state ≡ state_of ds (between m s e)
     → record { state = state; start = s; end = e } ≡ element_of m a
 unfolding element_of
-element-at m a state ds s e q d t = rw (q, t, d)
+element_at_lem m a state ds s e q d t = rw (q, t, d)
 
 -- ---- the bytes of an element
 

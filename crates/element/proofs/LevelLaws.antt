@@ -11,10 +11,10 @@ use borrow.Author.Tests.{eqb-true, eq-eqb, ne_eqb, le-leb}
 use Rattle.alphabet.specs.Parts.{part_at}
 use Rattle.alphabet.specs.declared.parts.Part.{Part}
 use Rattle.alphabet.specs.declared.parts.Part.TheVariants.{At, Absent}
-use Rattle.alphabet.proofs.BoolLaws.{false-true, and_both, both_and}
+use Rattle.alphabet.proofs.BoolLaws.{false_true, and_both, both_and}
 use Rattle.alphabet.proofs.PartLaws.{part_bytes_lem}
 use Rattle.reading.specs.Segments.{field_separator, segment_at}
-use Rattle.reading.proofs.SegmentLaws.{segment-bytes}
+use Rattle.reading.proofs.SegmentLaws.{segment_bytes}
 use Rattle.element.specs.Levels.{between, moved, part_in, field_in, field_at, below, repetition_at, component_at, subcomponent_at, fixed, unsplit, element_at}
 use Rattle.element.specs.Ends.{field_index}
 use Rattle.element.specs.declared.address.Address.{Address}
@@ -25,33 +25,33 @@ Within m Absent = Unit {0}
 Within m (At s e) = (s ≤ e) × (e ≤ length m)
 
 -- what stands between s and e has so many bytes
-pub between-length : (m : List ℕ) (s e : ℕ) → s ≤ e → e ≤ length m → length (between m s e) ≡ e - s
-between-length m s e h k = let n = length-drop s m in length-take-le (e - s) (drop s m) (omega arith)
+pub between_length : (m : List ℕ) (s e : ℕ) → s ≤ e → e ≤ length m → length (between m s e) ≡ e - s
+between_length m s e h k = let n = length-drop s m in length-take-le (e - s) (drop s m) (omega arith)
 
-pub within-at : (m : List ℕ) (part : Part) (s e : ℕ) → Within m part → part ≡ At s e → (s ≤ e) × (e ≤ length m)
-within-at m part s e w q = subst (Within m) q w
+pub within_at : (m : List ℕ) (part : Part) (s e : ℕ) → Within m part → part ≡ At s e → (s ≤ e) × (e ≤ length m)
+within_at m part s e w q = subst (Within m) q w
 
 -- ---- a part of a part
 
 module _ (sep : ℕ) (m : List ℕ) (part : Part) (k : ℕ) where
-  pub in-absent : part ≡ Absent → part_in sep m part k ≡ Absent
+  pub in_absent : part ≡ Absent → part_in sep m part k ≡ Absent
   unfolding part_in
-  in-absent q = rw q
+  in_absent q = rw q
 
   module _ (s e : ℕ) (q : part ≡ At s e) where
-    pub in-at : (a b : ℕ) → part_at sep (between m s e) k ≡ At a b → part_in sep m part k ≡ At (s + a) (s + b)
+    pub in_at : (a b : ℕ) → part_at sep (between m s e) k ≡ At a b → part_in sep m part k ≡ At (s + a) (s + b)
     unfolding part_in
-    in-at a b r = rw (q, r)
+    in_at a b r = rw (q, r)
 
-    pub in-none : part_at sep (between m s e) k ≡ Absent → part_in sep m part k ≡ Absent
+    pub in_none : part_at sep (between m s e) k ≡ Absent → part_in sep m part k ≡ Absent
     unfolding part_in
-    in-none r = rw (q, r)
+    in_none r = rw (q, r)
 
 -- it lies within the part, so within the message
 inner : (sep : ℕ) (m : List ℕ) (s e k : ℕ) → s ≤ e → e ≤ length m → (a b : ℕ) → part_at sep (between m s e) k ≡ At a b → (s + a ≤ s + b) × (s + b ≤ e)
 inner sep m s e k h l a b q =
     let i = part_bytes_lem sep (between m s e) k a b q in
-    let n = between-length m s e h l in
+    let n = between_length m s e h l in
     let i1 = i.1 in
     let i2 = i.2 in
     (omega arith, omega arith)
@@ -82,7 +82,7 @@ module _ (m : List ℕ) (segment : ℕ) (part : Part) (f : ℕ) where
     where
       at : (t u : Bool) → (t && u) ≡ false
           → cond t (cond u (At 3 4) (part_in (field_separator m) m part (f - 1))) (part_in (field_separator m) m part f) ≡ part_in (field_separator m) m part (cond t (f - 1) f)
-      at true true e = false-true (sym e)
+      at true true e = false_true (sym e)
       at true false e = refl
       at false u e = refl
 
@@ -95,8 +95,8 @@ module _ (m : List ℕ) (segment : ℕ) (part : Part) (f : ℕ) where
   field_header h e = rw (eq-eqb segment 0 h, ne_eqb f 1 e)
 
 -- MSH-1 is one of the two that are not split
-pub separator-fixed : (segment f : ℕ) → (eqb segment 0 && eqb f 1) ≡ true → fixed segment f ≡ true
-separator-fixed segment f h =
+pub separator_fixed : (segment f : ℕ) → (eqb segment 0 && eqb f 1) ≡ true → fixed segment f ≡ true
+separator_fixed segment f h =
     let e = and_both (eqb segment 0) (eqb f 1) h in
     let n = eqb-true f 1 e.1 in
     both_and e.0 (le-leb f 2 (omega arith))
@@ -116,56 +116,56 @@ module _ (sep : ℕ) (m : List ℕ) (part : Part) where
   below_split zero h = absurd (h refl)
   below_split (suc k) h = let e : suc k - 1 ≡ k = omega arith in ap (part_in sep m part) (sym e)
 
-  pub within-below : (k : ℕ) → Within m part → Within m (below sep m part k)
+  pub within_below : (k : ℕ) → Within m part → Within m (below sep m part k)
   unfolding below
-  within-below zero w = w
-  within-below (suc k) w = within_in sep m part k w
+  within_below zero w = w
+  within_below (suc k) w = within_in sep m part k w
 
-within-either : (m : List ℕ) (t : Bool) (p q : Part) → Within m p → Within m q → Within m (cond t p q)
-within-either m true p q a b = a
-within-either m false p q a b = b
+within_either : (m : List ℕ) (t : Bool) (p q : Part) → Within m p → Within m q → Within m (cond t p q)
+within_either m true p q a b = a
+within_either m false p q a b = b
 
 pub within_field : (m : List ℕ) (segment : ℕ) (part : Part) (f : ℕ) → 4 ≤ length m → Within m part → Within m (field_in m segment part f)
 unfolding field_in
 within_field m segment part f l w =
-    within-either m (eqb segment 0) (cond (eqb f 1) (At 3 4) _) _
-    (within-either m (eqb f 1) (At 3 4) _ (lit≤ tt, l) (within_in (field_separator m) m part (f - 1) w))
+    within_either m (eqb segment 0) (cond (eqb f 1) (At 3 4) _) _
+    (within_either m (eqb f 1) (At 3 4) _ (lit≤ tt, l) (within_in (field_separator m) m part (f - 1) w))
     (within_in (field_separator m) m part f w)
 
-pub within-segment : (m : List ℕ) (k : ℕ) → Within m (segment_at m k)
-within-segment m k = at (segment_at m k) refl
+pub within_segment : (m : List ℕ) (k : ℕ) → Within m (segment_at m k)
+within_segment m k = at (segment_at m k) refl
   where
     at : (p : Part) → segment_at m k ≡ p → Within m p
     at Absent q = tt
     at (At s e) q =
-        let b = segment-bytes m k s e q in
+        let b = segment_bytes m k s e q in
         let l = b.2 in
         (b.1, omega arith)
 
 -- ---- an element
 
 module _ (part : Part) (a : Address) where
-  pub unsplit-whole : (leb a.repetition 1 && (leb a.component 1 && leb a.subcomponent 1)) ≡ true → unsplit part a ≡ part
+  pub unsplit_whole : (leb a.repetition 1 && (leb a.component 1 && leb a.subcomponent 1)) ≡ true → unsplit part a ≡ part
   unfolding unsplit
-  unsplit-whole h = rw h
+  unsplit_whole h = rw h
 
-  pub unsplit-more : (leb a.repetition 1 && (leb a.component 1 && leb a.subcomponent 1)) ≡ false → unsplit part a ≡ Absent
+  pub unsplit_more : (leb a.repetition 1 && (leb a.component 1 && leb a.subcomponent 1)) ≡ false → unsplit part a ≡ Absent
   unfolding unsplit
-  unsplit-more h = rw h
+  unsplit_more h = rw h
 
 module _ (m : List ℕ) (a : Address) where
-  pub element-unsplit : fixed a.segment a.field ≡ true → element_at m a ≡ unsplit (field_at m a) a
+  pub element_unsplit : fixed a.segment a.field ≡ true → element_at m a ≡ unsplit (field_at m a) a
   unfolding element_at
-  element-unsplit h = rw h
+  element_unsplit h = rw h
 
-  pub element-split : fixed a.segment a.field ≡ false → element_at m a ≡ subcomponent_at m a
+  pub element_split : fixed a.segment a.field ≡ false → element_at m a ≡ subcomponent_at m a
   unfolding element_at
-  element-split h = rw h
+  element_split h = rw h
 
-  pub within-element : 4 ≤ length m → Within m (element_at m a)
+  pub within_element : 4 ≤ length m → Within m (element_at m a)
   unfolding element_at unsplit subcomponent_at component_at repetition_at
-  within-element h =
-      let field = within_field m a.segment _ a.field h (within-segment m a.segment) in
-      within-either m (fixed a.segment a.field) (unsplit (field_at m a) a) (subcomponent_at m a)
-      (within-either m (leb a.repetition 1 && (leb a.component 1 && leb a.subcomponent 1)) (field_at m a) Absent field tt)
-      (within-below _ m _ a.subcomponent (within-below _ m _ a.component (within-below _ m _ a.repetition field)))
+  within_element h =
+      let field = within_field m a.segment _ a.field h (within_segment m a.segment) in
+      within_either m (fixed a.segment a.field) (unsplit (field_at m a) a) (subcomponent_at m a)
+      (within_either m (leb a.repetition 1 && (leb a.component 1 && leb a.subcomponent 1)) (field_at m a) Absent field tt)
+      (within_below _ m _ a.subcomponent (within_below _ m _ a.component (within_below _ m _ a.repetition field)))

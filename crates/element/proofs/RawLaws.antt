@@ -13,13 +13,13 @@ use Rattle.alphabet.specs.declared.parts.Part.TheVariants.{At, Absent}
 use Rattle.alphabet.proofs.ListLaws.{piece_of_piece}
 use Rattle.alphabet.proofs.PartLaws.{part_bytes_lem, absent_past}
 use Rattle.reading.specs.Segments.{delimiters_of, field_separator, segments, segment_at}
-use Rattle.reading.proofs.SegmentLaws.{segment-bytes, segment_past}
+use Rattle.reading.proofs.SegmentLaws.{segment_bytes, segment_past}
 use Rattle.element.specs.Levels.{between, moved, part_in, field_in, below, repetition_at, component_at, subcomponent_at, fixed, unsplit, element_at}
 use Rattle.element.specs.Finding.{part_bytes, raw_bytes}
 use Rattle.element.specs.Addresses.{type_address}
 use Rattle.element.specs.declared.address.Address.{Address}
 use Rattle.element.proofs.FindingLaws.{raw_short}
-use Rattle.element.proofs.LevelLaws.{Within, between-length, within-segment, within_field, within_in, field_header, field_other}
+use Rattle.element.proofs.LevelLaws.{Within, between_length, within_segment, within_field, within_in, field_header, field_other}
 
 -- absent means past the last part
 pub absent_means : (sep : ℕ) (m : List ℕ) (s e k : ℕ) → part_in sep m (At s e) k ≡ Absent → length (split sep (between m s e)) ≤ k
@@ -44,7 +44,7 @@ part_means sep m s e k b f h l q = at (part_at sep (between m s e) k) refl q
         let i = part_bytes_lem sep (between m s e) k x y r in
         let i1 = i.1 in
         let i2 = i.2 in
-        let n = between-length m s e h l in
+        let n = between_length m s e h l in
         let w : f - b ≡ y - x = omega arith in (
           omega arith,
           omega arith,
@@ -85,7 +85,7 @@ module _ (m : List ℕ) (long : 4 ≤ length m) where
       at false = refl
 
   field_within : (k f : ℕ) → Within m (field_part k f)
-  field_within k f = within_field m k (segment_at m k) f long (within-segment m k)
+  field_within k f = within_field m k (segment_at m k) f long (within_segment m k)
 
   -- the bytes of a segment
   pub segment_part_bytes : (k : ℕ) → part_bytes m (segment_at m k) ≡ get_or (segments m) k []
@@ -93,17 +93,17 @@ module _ (m : List ℕ) (long : 4 ≤ length m) where
     where
       at : (p : Part) → segment_at m k ≡ p → part_bytes m p ≡ get_or (segments m) k []
       at Absent q = sym (get_or-eq_default (segments m) [] (segment_past m k q))
-      at (At s e) q = (segment-bytes m k s e q).3
+      at (At s e) q = (segment_bytes m k s e q).3
 
   -- "fields 3, 4, ..": MSH's are counted from the separator itself
   pub raw_header : (f : ℕ) → (f ≡ 1 → ⊥) → raw_bytes m (whole 0 f) ≡ get_or (split (field_separator m) (get_or (segments m) 0 [])) (f - 1) []
   raw_header f n =
-      raw_whole 0 f ∙ ap (part_bytes m) (field_header m 0 (segment_at m 0) f refl n) ∙ part_in_bytes (field_separator m) m (segment_at m 0) (f - 1) (within-segment m 0)
+      raw_whole 0 f ∙ ap (part_bytes m) (field_header m 0 (segment_at m 0) f refl n) ∙ part_in_bytes (field_separator m) m (segment_at m 0) (f - 1) (within_segment m 0)
       ∙ ap (λ (x : List ℕ). get_or (split (field_separator m) x) (f - 1) []) (segment_part_bytes 0)
 
   pub raw_other : (k f : ℕ) → (k ≡ 0 → ⊥) → raw_bytes m (whole k f) ≡ get_or (split (field_separator m) (get_or (segments m) k [])) f []
   raw_other k f n =
-      raw_whole k f ∙ ap (part_bytes m) (field_other m k (segment_at m k) f n) ∙ part_in_bytes (field_separator m) m (segment_at m k) f (within-segment m k)
+      raw_whole k f ∙ ap (part_bytes m) (field_other m k (segment_at m k) f n) ∙ part_in_bytes (field_separator m) m (segment_at m k) f (within_segment m k)
       ∙ ap (λ (x : List ℕ). get_or (split (field_separator m) x) f []) (segment_part_bytes k)
 
   -- component c of the first repetition of a field that is split
@@ -124,9 +124,9 @@ module _ (m : List ℕ) (long : 4 ≤ length m) where
   raw_component f c h l = component_of 0 f c (lt-leb f 2 (omega arith)) l
 
   -- of a field of any other segment
-  pub raw_component-other : (k f c : ℕ) → (k ≡ 0 → ⊥) → 1 ≤ c
+  pub raw_component_other : (k f c : ℕ) → (k ≡ 0 → ⊥) → 1 ≤ c
       → raw_bytes m (component k f c) ≡ get_or (split (get_or (delimiters_of m) 1 0) (get_or (split (get_or (delimiters_of m) 2 0) (raw_bytes m (whole k f))) 0 [])) (c - 1) []
-  raw_component-other k f c n l = component_of k f c (rw (ne_eqb k 0 n)) l
+  raw_component_other k f c n l = component_of k f c (rw (ne_eqb k 0 n)) l
 
   -- the first repetition of a field that is split
   pub raw_repetition : (f : ℕ) → 3 ≤ f → raw_bytes m (component 0 f 0) ≡ get_or (split (get_or (delimiters_of m) 2 0) (raw_bytes m (whole 0 f))) 0 []

@@ -8,14 +8,14 @@ use Rattle.element.specs.States.{is_empty, state_of}
 use Rattle.element.specs.declared.states.State.TheVariants.{Empty, Null, Present}
 
 module _ (ds bytes : List ℕ) where
-  pub state-null : is_null bytes ≡ true → state_of ds bytes ≡ Null
+  pub state_null : is_null bytes ≡ true → state_of ds bytes ≡ Null
   unfolding state_of
-  state-null e = rw e
+  state_null e = rw e
 
-  pub state-empty : is_null bytes ≡ false → is_empty ds bytes ≡ true → state_of ds bytes ≡ Empty
+  pub state_empty : is_null bytes ≡ false → is_empty ds bytes ≡ true → state_of ds bytes ≡ Empty
   unfolding state_of
-  state-empty e f = rw (e, f)
+  state_empty e f = rw (e, f)
 
-  pub state-present : is_null bytes ≡ false → is_empty ds bytes ≡ false → state_of ds bytes ≡ Present
+  pub state_present : is_null bytes ≡ false → is_empty ds bytes ≡ false → state_of ds bytes ≡ Present
   unfolding state_of
-  state-present e f = rw (e, f)
+  state_present e f = rw (e, f)

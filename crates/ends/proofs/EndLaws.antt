@@ -10,8 +10,8 @@ use lib.Seq.{take-nil, take-suc, take-add, drop-drop, get_or-drop}
 use borrow.Author.Tests.{leb-true, leb-false, le-leb, lt-leb, ltb-true, ltb-false, lt-ltb, le-ltb}
 use Rattle.alphabet.specs.Lists.{find}
 use Rattle.alphabet.specs.Parts.{split}
-use Rattle.alphabet.proofs.ListLaws.{first-le, find_is, piece_of_piece}
-use Rattle.alphabet.proofs.PartLaws.{split_step, split-last, first_part}
+use Rattle.alphabet.proofs.ListLaws.{first_le, find_is, piece_of_piece}
+use Rattle.alphabet.proofs.PartLaws.{split_step, split_last, first_part}
 use Rattle.ends.specs.Ends.{next_end, part_end, cut_out}
 
 module _ (sep : ℕ) (l : List ℕ) where
@@ -33,28 +33,28 @@ module _ (sep : ℕ) (l : List ℕ) where
       at false t =
           let h = leb-false (length l) e t in
           let q = next_more e h in
-          let u = first-le (eqb sep) (drop (e + 1) l) in
+          let u = first_le (eqb sep) (drop (e + 1) l) in
           let d = length-drop (e + 1) l in
           omega arith
 
   -- ---- the ends
 
-  pub end-next : (k : ℕ) → part_end sep l (suc k) ≡ next_end sep l (part_end sep l k)
+  pub end_next : (k : ℕ) → part_end sep l (suc k) ≡ next_end sep l (part_end sep l k)
   unfolding part_end
-  end-next k = refl
+  end_next k = refl
 
-  pub end-le : (k : ℕ) → part_end sep l k ≤ length l
+  pub end_le : (k : ℕ) → part_end sep l k ≤ length l
   unfolding part_end
-  end-le zero = first-le (eqb sep) l
-  end-le (suc k) = next_le (part_end sep l k)
+  end_le zero = first_le (eqb sep) l
+  end_le (suc k) = next_le (part_end sep l k)
 
   -- an end before the last stands behind the one before it
   pub end_rises : (k : ℕ) → part_end sep l (suc k) < length l → part_end sep l k < part_end sep l (suc k)
   end_rises k h = at (leb (length l) (part_end sep l k)) refl
     where
       at : (t : Bool) → leb (length l) (part_end sep l k) ≡ t → part_end sep l k < part_end sep l (suc k)
-      at true t = let q = end-next k ∙ next_last (part_end sep l k) (leb-true (length l) (part_end sep l k) t) in absurd (omega arith)
-      at false t = let q = end-next k ∙ next_more (part_end sep l k) (leb-false (length l) (part_end sep l k) t) in omega arith
+      at true t = let q = end_next k ∙ next_last (part_end sep l k) (leb-true (length l) (part_end sep l k) t) in absurd (omega arith)
+      at false t = let q = end_next k ∙ next_more (part_end sep l k) (leb-false (length l) (part_end sep l k) t) in omega arith
 
   -- and the separator stands there
   pub end_mark : (k : ℕ) → part_end sep l k < length l → get_or l (part_end sep l k) 0 ≡ sep
@@ -74,14 +74,14 @@ module _ (sep : ℕ) (l : List ℕ) where
     where
       at : (t : Bool) → ltb (find sep x) (length x) ≡ t → get_or (split sep x) (suc j) [] ≡ cond t (get_or (split sep (drop (find sep x + 1) x)) j []) []
       at true t = ap (λ (ps : List (List ℕ)). get_or ps (suc j) []) (split_step sep x (ltb-true (find sep x) (length x) t))
-      at false t = ap (λ (ps : List (List ℕ)). get_or ps (suc j) []) (split-last sep x (ltb-false (find sep x) (length x) t))
+      at false t = ap (λ (ps : List (List ℕ)). get_or ps (suc j) []) (split_last sep x (ltb-false (find sep x) (length x) t))
 
   behind : ℕ → ℕ → List ℕ
   behind e j = cond (ltb e (length l)) (get_or (split sep (drop (e + 1) l)) j []) []
 
-  behind-next : (e j : ℕ) → behind e (suc j) ≡ behind (next_end sep l e) j
+  behind_next : (e j : ℕ) → behind e (suc j) ≡ behind (next_end sep l e) j
   unfolding behind
-  behind-next e j = at (ltb e (length l)) refl
+  behind_next e j = at (ltb e (length l)) refl
     where
       x : List ℕ
       x = drop (e + 1) l
@@ -111,26 +111,26 @@ module _ (sep : ℕ) (l : List ℕ) where
               let h = ltb-true e (length l) t in
               rw (le-ltb (e + 1 + find sep x) (length l) (omega arith))
 
-  parts-behind : (k j : ℕ) → get_or (split sep l) (suc k + j) [] ≡ behind (part_end sep l k) j
+  parts_behind : (k j : ℕ) → get_or (split sep l) (suc k + j) [] ≡ behind (part_end sep l k) j
   unfolding part_end behind
-  parts-behind zero j = let n : suc 0 + j ≡ suc j = omega arith in ap (λ (i : ℕ). get_or (split sep l) i []) n ∙ step l j
-  parts-behind (suc k) j =
+  parts_behind zero j = let n : suc 0 + j ≡ suc j = omega arith in ap (λ (i : ℕ). get_or (split sep l) i []) n ∙ step l j
+  parts_behind (suc k) j =
       let n : suc (suc k) + j ≡ suc k + suc j = omega arith in
-      ap (λ (i : ℕ). get_or (split sep l) i []) n ∙ parts-behind k (suc j) ∙ behind-next (part_end sep l k) j
+      ap (λ (i : ℕ). get_or (split sep l) i []) n ∙ parts_behind k (suc j) ∙ behind_next (part_end sep l k) j
 
   -- a part stands behind the end of the one before it
   pub part_cut : (k : ℕ) → get_or (split sep l) (suc k) [] ≡ cut_out l (part_end sep l k) (part_end sep l (suc k))
   unfolding behind
   part_cut k =
       let n : suc k ≡ suc k + 0 = omega arith in
-      ap (λ (i : ℕ). get_or (split sep l) i []) n ∙ parts-behind k 0 ∙ at (ltb e (length l)) refl
+      ap (λ (i : ℕ). get_or (split sep l) i []) n ∙ parts_behind k 0 ∙ at (ltb e (length l)) refl
     where
       e : ℕ
       e = part_end sep l k
 
       at : (t : Bool) → ltb e (length l) ≡ t → cond t (get_or (split sep (drop (e + 1) l)) 0 []) [] ≡ cut_out l e (part_end sep l (suc k))
       at true t =
-          let q = end-next k ∙ next_more e (ltb-true e (length l) t) in
+          let q = end_next k ∙ next_more e (ltb-true e (length l) t) in
           let n : find sep (drop (e + 1) l) ≡ part_end sep l (suc k) - (e + 1) = omega arith in
           first_part sep (drop (e + 1) l) ∙ ap (λ (i : ℕ). take i (drop (e + 1) l)) n
       at false t =
@@ -142,8 +142,8 @@ module _ (sep : ℕ) (l : List ℕ) where
 
 module _ (h : List ℕ) where
   -- with the byte behind it
-  pub cut-more : (b e : ℕ) → b < e → e < length h → cut_out h b (e + 1) ≡ cut_out h b e ++ (get_or h e 0 ∷ [])
-  cut-more b e i j =
+  pub cut_more : (b e : ℕ) → b < e → e < length h → cut_out h b (e + 1) ≡ cut_out h b e ++ (get_or h e 0 ∷ [])
+  cut_more b e i j =
       let n : e + 1 - (b + 1) ≡ suc (e - (b + 1)) = omega arith in
       let d = length-drop (b + 1) h in
       let k : b + 1 + (e - (b + 1)) ≡ e = omega arith in
@@ -159,8 +159,8 @@ module _ (h : List ℕ) where
       ∙ ap (λ (x : List ℕ). cut_out h b (c + 1) ++ take (e - (c + 1)) x) (drop-drop (c + 1 - (b + 1)) (b + 1) h ∙ ap (λ (x : ℕ). drop x h) k)
 
   -- of the front of a list
-  pub cut-front : (n b e : ℕ) → e ≤ n → cut_out (take n h) b e ≡ cut_out h b e
-  cut-front n b e i = at (leb (b + 1) e) refl
+  pub cut_front : (n b e : ℕ) → e ≤ n → cut_out (take n h) b e ≡ cut_out h b e
+  cut_front n b e i = at (leb (b + 1) e) refl
     where
       at : (t : Bool) → leb (b + 1) e ≡ t → cut_out (take n h) b e ≡ cut_out h b e
       at true t =

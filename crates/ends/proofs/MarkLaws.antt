@@ -10,15 +10,15 @@ use lib.Count.{count_trailing_zeros}
 use lib.ListN.{length, drop}
 use Rattle.alphabet.specs.Lists.{first}
 use Rattle.search.specs.Words.{marks}
-use Rattle.search.proofs.WordLaws.{zeros_below, zeros_first, marks-some}
+use Rattle.search.proofs.WordLaws.{zeros_below, zeros_first, marks_some}
 
 positive : (n : ℕ) → (n ≡ 0 → ⊥) → 0 < n
 positive zero h = absurd (h refl)
 positive (suc n) h = omega arith
 
 -- one less takes the lowest byte's mark away, where it has one
-clear-here : (x : ℕ) → bit_and (x * 256 + 128) (x * 256 + 128 - 1) ≡ x * 256
-clear-here x =
+clear_here : (x : ℕ) → bit_and (x * 256 + 128) (x * 256 + 128 - 1) ≡ x * 256
+clear_here x =
     let a : x * 256 + 128 - 1 ≡ x * 256 + 127 = omega arith in
     let z : x * 256 + 0 ≡ x * 256 = omega arith in
     ap (bit_and (x * 256 + 128)) a ∙ and_block 8 x x 128 127 (omega arith) (omega arith) ∙ ap (λ (i : ℕ). i * 256 + 0) (and_self x) ∙ z
@@ -44,10 +44,10 @@ module _ (test : ℕ → Bool) where
   from_all l = refl
 
   -- no mark, no byte that passes
-  marks-none : (l : List ℕ) → marks test l ≡ 0 → first test l ≡ length l
+  marks_none : (l : List ℕ) → marks test l ≡ 0 → first test l ≡ length l
   unfolding marks first
-  marks-none [] e = refl
-  marks-none (b ∷ l) e = at (test b) (marks-none l) e
+  marks_none [] e = refl
+  marks_none (b ∷ l) e = at (test b) (marks_none l) e
     where
       at : (t : Bool) → (marks test l ≡ 0 → first test l ≡ length l) → marks test l * 256 + cond t 128 0 ≡ 0 → cond t 0 (suc (first test l)) ≡ suc (length l)
       at true ih e = absurd (omega arith)
@@ -55,18 +55,18 @@ module _ (test : ℕ → Bool) where
 
   pub from_none : (k : ℕ) (l : List ℕ) → marks_from k l ≡ 0 → first test (drop k l) ≡ length (drop k l)
   unfolding marks_from first
-  from_none zero l e = marks-none l e
+  from_none zero l e = marks_none l e
   from_none (suc k) [] e = refl
   from_none (suc k) (b ∷ l) e = from_none k l (omega arith)
 
   pub from_some : (k : ℕ) (l : List ℕ) → (marks_from k l ≡ 0 → ⊥) → first test (drop k l) < length (drop k l)
   unfolding marks_from
-  from_some zero l n = marks-some test l n
+  from_some zero l n = marks_some test l n
   from_some (suc k) [] n = absurd (n refl)
   from_some (suc k) (b ∷ l) n = from_some k l (λ e. n (ap (λ (x : ℕ). x * 256) e))
 
   some_if : (l : List ℕ) → first test l < length l → 0 < marks test l
-  some_if l h = positive (marks test l) (λ e. let q = marks-none l e in omega arith)
+  some_if l h = positive (marks test l) (λ e. let q = marks_none l e in omega arith)
 
   from_some_if : (k : ℕ) (l : List ℕ) → first test (drop k l) < length (drop k l) → 0 < marks_from k l
   from_some_if k l h = positive (marks_from k l) (λ e. let q = from_none k l e in omega arith)
@@ -83,15 +83,15 @@ module _ (test : ℕ → Bool) where
       omega arith
 
   -- one less has the lowest mark gone, and lower ones in its place
-  marks-clear : (l : List ℕ) → first test l < length l → bit_and (marks test l) (marks test l - 1) ≡ marks_from (suc (first test l)) l
+  marks_clear : (l : List ℕ) → first test l < length l → bit_and (marks test l) (marks test l - 1) ≡ marks_from (suc (first test l)) l
   unfolding marks marks_from first
-  marks-clear [] h = absurd (omega arith)
-  marks-clear (b ∷ l) h = at (test b) (some_if l) (marks-clear l) h
+  marks_clear [] h = absurd (omega arith)
+  marks_clear (b ∷ l) h = at (test b) (some_if l) (marks_clear l) h
     where
       at : (t : Bool) → (first test l < length l → 0 < marks test l)
           → (first test l < length l → bit_and (marks test l) (marks test l - 1) ≡ marks_from (suc (first test l)) l) → cond t 0 (suc (first test l)) < suc (length l)
           → bit_and (marks test l * 256 + cond t 128 0) (marks test l * 256 + cond t 128 0 - 1) ≡ marks_from (suc (cond t 0 (suc (first test l)))) (b ∷ l)
-      at true some ih h = clear-here (marks test l)
+      at true some ih h = clear_here (marks test l)
       at false some ih h =
           let z : marks test l * 256 + 0 ≡ marks test l * 256 = omega arith in
           ap (λ (x : ℕ). bit_and x (x - 1)) z ∙ clear_behind (marks test l) (some (omega arith)) ∙ ap (λ (x : ℕ). x * 256) (ih (omega arith))
@@ -101,7 +101,7 @@ module _ (test : ℕ → Bool) where
   unfolding marks_from
   from_clear zero l h =
       let e : suc (first test l) ≡ 0 + first test l + 1 = omega arith in
-      marks-clear l h ∙ ap (λ (i : ℕ). marks_from i l) e
+      marks_clear l h ∙ ap (λ (i : ℕ). marks_from i l) e
   from_clear (suc k) [] h = absurd (omega arith)
   from_clear (suc k) (b ∷ l) h =
       let e : suc (k + first test (drop k l) + 1) ≡ suc k + first test (drop k l) + 1 = omega arith in

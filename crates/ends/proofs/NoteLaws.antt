@@ -14,33 +14,33 @@ use lib.Seq.{get_or-set_same, get_or-set_other, length-take-le, drop-drop}
 use borrow.Author.Tests.{eq-eqb, ne_eqb, eqb-true, eqb-false, leb-true, leb-false, ltb-true, ltb-false, le-leb, lt-ltb}
 use Rattle.alphabet.specs.Lists.{first, find, either}
 use Rattle.alphabet.specs.Parts.{split}
-use Rattle.alphabet.proofs.BoolLaws.{and_both, both_and, or_neither, false-true}
-use Rattle.alphabet.proofs.ListLaws.{rest_of, piece_of_piece, first-here, first_past, first-end, first_block}
-use Rattle.alphabet.proofs.BlockLaws.{first_from, first-inside}
-use Rattle.search.proofs.WordLaws.{first-same}
+use Rattle.alphabet.proofs.BoolLaws.{and_both, both_and, or_neither, false_true}
+use Rattle.alphabet.proofs.ListLaws.{rest_of, piece_of_piece, first_here, first_past, first_end, first_block}
+use Rattle.alphabet.proofs.BlockLaws.{first_from, first_inside}
+use Rattle.search.proofs.WordLaws.{first_same}
 use Rattle.ends.specs.Ends.{next_end, part_end, cut_out, Noted, Front, Reached, Marked}
-use Rattle.ends.proofs.EndLaws.{next_last, next_more, end-next, end-le, part_cut}
+use Rattle.ends.proofs.EndLaws.{next_last, next_more, end_next, end_le, part_cut}
 use Rattle.ends.proofs.MarkLaws.{marks_from, from_all, from_none, from_some, from_first, from_clear}
 
 -- one end more
-pub front-more : (sep : ℕ) (l ends : List ℕ) (n e : ℕ) → n < length ends → Front sep l n ends → e ≡ part_end sep l n → Front sep l (n + 1) (set ends n e)
-front-more sep l ends n e h f q k i = at (eqb k n) refl
+pub front_more : (sep : ℕ) (l ends : List ℕ) (n e : ℕ) → n < length ends → Front sep l n ends → e ≡ part_end sep l n → Front sep l (n + 1) (set ends n e)
+front_more sep l ends n e h f q k i = at (eqb k n) refl
   where
     at : (t : Bool) → eqb k n ≡ t → get_or (set ends n e) k 0 ≡ part_end sep l k
     at true z = let w = eqb-true k n z in ap (λ (x : ℕ). get_or (set ends n e) x 0) w ∙ get_or-set_same ends n e 0 h ∙ q ∙ ap (part_end sep l) (sym w)
     at false z = let w = eqb-false k n z in get_or-set_other ends n k e 0 w ∙ f k (omega (arith, w))
 
 -- none yet
-pub front-none : (sep : ℕ) (l ends : List ℕ) → Front sep l 0 ends
-front-none sep l ends k h = absurd (omega arith)
+pub front_none : (sep : ℕ) (l ends : List ℕ) → Front sep l 0 ends
+front_none sep l ends k h = absurd (omega arith)
 
 -- and so the ends up to `most` are noted
-pub front-noted : (sep : ℕ) (l ends : List ℕ) (n most : ℕ) → Front sep l n ends → ((k : ℕ) → k ≤ most → k < 16 → k < n) → Noted sep l most ends
-front-noted sep l ends n most f h k i j = f k (h k i j)
+pub front_noted : (sep : ℕ) (l ends : List ℕ) (n most : ℕ) → Front sep l n ends → ((k : ℕ) → k ≤ most → k < 16 → k < n) → Noted sep l most ends
+front_noted sep l ends n most f h k i j = f k (h k i j)
 
 -- the end behind the one of a part
-pub end-behind : (sep : ℕ) (l : List ℕ) (k e : ℕ) → e ≡ part_end sep l k → next_end sep l e ≡ part_end sep l (k + 1)
-end-behind sep l k e q = ap (next_end sep l) q ∙ sym (end-next sep l k) ∙ ap (part_end sep l) (sym (add-one k))
+pub end_behind : (sep : ℕ) (l : List ℕ) (k e : ℕ) → e ≡ part_end sep l k → next_end sep l e ≡ part_end sep l (k + 1)
+end_behind sep l k e q = ap (next_end sep l) q ∙ sym (end_next sep l k) ∙ ap (part_end sep l) (sym (add-one k))
 
 -- ---- a walk along the bytes
 
@@ -48,7 +48,7 @@ module _ (sep : ℕ) (l : List ℕ) where
   -- at the front
   pub reached_none : (ends : List ℕ) → Reached sep l 0 0 ends
   unfolding part_end
-  reached_none ends = (omega arith, front-none sep l ends, λ h. sym (zero-add (find sep l)))
+  reached_none ends = (omega arith, front_none sep l ends, λ h. sym (zero-add (find sep l)))
 
   -- up to a place with no separator before it
   pub reached_on : (ends : List ℕ) (count place behind : ℕ) → Reached sep l count place ends → place + find sep (drop place l) ≡ behind + find sep (drop behind l)
@@ -60,7 +60,7 @@ module _ (sep : ℕ) (l : List ℕ) where
       → Reached sep l (count + 1) (e + 1) (set ends count e)
   reached_more ends count place e n h r q i =
       let p = q ∙ sym (r.2 h) in
-      (omega arith, front-more sep l ends count e (omega arith) r.1 p, λ _. sym (end-behind sep l count e p) ∙ next_more sep l e i)
+      (omega arith, front_more sep l ends count e (omega arith) r.1 p, λ _. sym (end_behind sep l count e p) ∙ next_more sep l e i)
 
   -- where there is no room for another
   pub reached_full : (ends : List ℕ) (count place behind : ℕ) → count ≡ 16 → Reached sep l count place ends → Reached sep l count behind ends
@@ -70,17 +70,17 @@ module _ (sep : ℕ) (l : List ℕ) where
   pub reached_end : (ends : List ℕ) (count : ℕ) → length ends ≡ 16 → count < 16 → Reached sep l count (length l) ends
       → Reached sep l (count + 1) (length l) (set ends count (length l))
   reached_end ends count n h r =
-      let z = first-end (eqb sep) l (length l) (omega arith) in
+      let z = first_end (eqb sep) l (length l) (omega arith) in
       let e : length l + find sep (drop (length l) l) ≡ length l = omega arith in
       let p = sym (r.2 h ∙ e) in
       let k : length l ≤ length l = omega arith in
-      (omega arith, front-more sep l ends count (length l) (omega arith) r.1 p, λ _. sym (end-behind sep l count (length l) p) ∙ next_last sep l (length l) k ∙ sym e)
+      (omega arith, front_more sep l ends count (length l) (omega arith) r.1 p, λ _. sym (end_behind sep l count (length l) p) ∙ next_last sep l (length l) k ∙ sym e)
 
   -- one byte
   pub reached_here : (ends : List ℕ) (count i : ℕ) → length ends ≡ 16 → count < 16 → i < length l → get_or l i 0 ≡ sep → Reached sep l count i ends
       → Reached sep l (count + 1) (i + 1) (set ends count i)
   reached_here ends count i n h k e r =
-      let z = first-here (eqb sep) l i k (eq-eqb sep (get_or l i 0) (sym e)) in
+      let z = first_here (eqb sep) l i k (eq-eqb sep (get_or l i 0) (sym e)) in
       reached_more ends count i i n h r (omega arith) k
 
   pub reached_past : (ends : List ℕ) (count i : ℕ) → i < length l → (get_or l i 0 ≡ sep → ⊥) → Reached sep l count i ends → Reached sep l count (i + 1) ends
@@ -106,33 +106,33 @@ module _ (sep : ℕ) (l : List ℕ) (place gone : ℕ) (h : place + 8 ≤ length
   abbrev behind : List ℕ
   behind = drop (place + gone) l
 
-  pub word-long : length word ≡ 8
-  word-long = let d = length-drop place l in length-take-le 8 (drop place l) (omega arith)
+  pub word_long : length word ≡ 8
+  word_long = let d = length-drop place l in length-take-le 8 (drop place l) (omega arith)
 
-  word-rest : drop gone word ≡ take (8 - gone) behind
-  word-rest = sym (rest_of word gone) ∙ ap (λ (n : ℕ). take (n - gone) (drop gone word)) word-long ∙ piece_of_piece l place 8 gone (8 - gone) (omega arith)
+  word_rest : drop gone word ≡ take (8 - gone) behind
+  word_rest = sym (rest_of word gone) ∙ ap (λ (n : ℕ). take (n - gone) (drop gone word)) word_long ∙ piece_of_piece l place 8 gone (8 - gone) (omega arith)
 
-  rest-long : length (drop gone word) ≡ 8 - gone
-  rest-long = length-drop gone word ∙ ap (λ (n : ℕ). n - gone) word-long
+  rest_long : length (drop gone word) ≡ 8 - gone
+  rest_long = length-drop gone word ∙ ap (λ (n : ℕ). n - gone) word_long
 
   pub word_some : first test (drop gone word) < length (drop gone word) → find sep behind ≡ first test (drop gone word)
   word_some i =
-      sym (first-same sep behind) ∙ first-inside test behind (8 - gone) (subst (λ (x : List ℕ). first test x < length x) word-rest i) ∙ ap (first test) (sym word-rest)
+      sym (first_same sep behind) ∙ first_inside test behind (8 - gone) (subst (λ (x : List ℕ). first test x < length x) word_rest i) ∙ ap (first test) (sym word_rest)
 
-  pub word-within : first test (drop gone word) < length (drop gone word) → gone + first test (drop gone word) < 8
-  word-within i = let n = rest-long in omega arith
+  pub word_within : first test (drop gone word) < length (drop gone word) → gone + first test (drop gone word) < 8
+  word_within i = let n = rest_long in omega arith
 
   pub word_none : first test (drop gone word) ≡ length (drop gone word) → place + gone + find sep behind ≡ place + 8 + find sep (drop (place + 8) l)
   word_none i =
       let d = length-drop (place + gone) l in
-      let q : first test (take (8 - gone) behind) ≡ 8 - gone = ap (first test) (sym word-rest) ∙ i ∙ rest-long in
+      let q : first test (take (8 - gone) behind) ≡ 8 - gone = ap (first test) (sym word_rest) ∙ i ∙ rest_long in
       let b = first_block test behind 0 (8 - gone) (omega arith) (omega arith) (omega (arith, q)) in
       let c : 8 - gone ≤ first test behind = omega (arith, b) in
       let n : place + gone + (8 - gone) ≡ place + 8 = omega arith in
       let e : find sep behind ≡ 8 - gone + find sep (drop (place + 8) l)
-      = sym (first-same sep behind) ∙ first_from test behind (8 - gone) c
+      = sym (first_same sep behind) ∙ first_from test behind (8 - gone) c
       ∙ ap (λ (x : List ℕ). 8 - gone + first test x) (drop-drop (8 - gone) (place + gone) l ∙ ap (λ (x : ℕ). drop x l) n)
-      ∙ ap (λ (x : ℕ). 8 - gone + x) (first-same sep (drop (place + 8) l)) in
+      ∙ ap (λ (x : ℕ). 8 - gone + x) (first_same sep (drop (place + 8) l)) in
       omega (arith, e)
 
 -- the marks that are left of a word, with the walk behind the others
@@ -143,8 +143,8 @@ pub record Left (sep : ℕ) (l : List ℕ) (count place found : ℕ) (ends : Lis
   pub reached : Reached sep l count (place + gone) ends
 
 module _ (sep : ℕ) (l : List ℕ) (count place found : ℕ) (ends : List ℕ) where
-  pub left-all : Marked sep l place found → Reached sep l count place ends → Left sep l count place found ends
-  left-all m r =
+  pub left_all : Marked sep l place found → Reached sep l count place ends → Left sep l count place found ends
+  left_all m r =
       let z : place ≡ place + 0 = omega arith in
       record {
         gone = 0;
@@ -157,38 +157,38 @@ module _ (sep : ℕ) (l : List ℕ) (count place found : ℕ) (ends : List ℕ) 
     abbrev eight : List ℕ
     eight = take 8 (drop place l)
 
-    pub left-none : found ≡ 0 → Reached sep l count (place + 8) ends
-    left-none z =
+    pub left_none : found ≡ 0 → Reached sep l count (place + 8) ends
+    left_none z =
         let e = from_none (either sep sep) left.gone eight (sym left.marked ∙ z) in
         reached_on sep l ends count (place + left.gone) (place + 8) left.reached (word_none sep l place left.gone h left.few e)
 
     module _ (some : found ≡ 0 → ⊥) where
-      some-behind : first (either sep sep) (drop left.gone eight) < length (drop left.gone eight)
-      some-behind = from_some (either sep sep) left.gone eight (λ z. some (left.marked ∙ z))
+      some_behind : first (either sep sep) (drop left.gone eight) < length (drop left.gone eight)
+      some_behind = from_some (either sep sep) left.gone eight (λ z. some (left.marked ∙ z))
 
       lowest : count_trailing_zeros 64 found / 8 ≡ left.gone + first (either sep sep) (drop left.gone eight)
       lowest =
           let f = left.few in
-          let n = word-long sep l place left.gone h left.few in
+          let n = word_long sep l place left.gone h left.few in
           let e : 64 ≡ length eight * 8 = omega arith in
           ap₂ (λ (k x : ℕ). count_trailing_zeros k x / 8) e left.marked ∙ from_first (either sep sep) left.gone eight (omega arith)
 
       pub mark_low : count_trailing_zeros 64 found / 8 < 8
-      mark_low = let e = lowest in let w = word-within sep l place left.gone h left.few some-behind in omega arith
+      mark_low = let e = lowest in let w = word_within sep l place left.gone h left.few some_behind in omega arith
 
       -- the lowest is noted and taken away
-      pub left-next : length ends ≡ 16 → count < 16
+      pub left_next : length ends ≡ 16 → count < 16
           → Left sep l (count + 1) place (bit_and found (found - 1)) (set ends count (place + count_trailing_zeros 64 found / 8))
-      left-next n i =
+      left_next n i =
           let e = lowest in
           let w = mark_low in
-          let s = word_some sep l place left.gone h left.few some-behind in
+          let s = word_some sep l place left.gone h left.few some_behind in
           let q : place + count_trailing_zeros 64 found / 8 ≡ place + left.gone + find sep (drop (place + left.gone) l) = omega arith in
           let k : place + count_trailing_zeros 64 found / 8 + 1 ≡ place + (left.gone + first (either sep sep) (drop left.gone eight) + 1) = omega arith in
           record {
             gone = left.gone + first (either sep sep) (drop left.gone eight) + 1;
             few = omega arith;
-            marked = ap (λ (x : ℕ). bit_and x (x - 1)) left.marked ∙ from_clear (either sep sep) left.gone eight some-behind;
+            marked = ap (λ (x : ℕ). bit_and x (x - 1)) left.marked ∙ from_clear (either sep sep) left.gone eight some_behind;
             reached = subst (λ (x : ℕ). Reached sep l (count + 1) x (set ends count (place + count_trailing_zeros 64 found / 8))) k
                 (reached_more sep l ends count (place + left.gone) (place + count_trailing_zeros 64 found / 8) n i left.reached q (omega arith));
           }
@@ -203,14 +203,14 @@ module _ (sep most : ℕ) (l ends : List ℕ) (noted : Noted sep l most ends) wh
       let e = noted (suc k) i j in
       let z : suc k - 1 ≡ k = omega arith in
       let b = ap (λ (x : ℕ). get_or ends x 0) z ∙ noted k (omega arith) (omega arith) in
-      let u = end-le sep l (suc k) in
+      let u = end_le sep l (suc k) in
       (omega (arith, e, u), ap₂ (cut_out l) b e ∙ sym (part_cut sep l k))
 
 -- ---- the tests of the code
 
 -- where a place is not told to be out of room
-pub in-room : (index : ℕ) → (eqb index 0 || leb 16 index) ≡ false → (1 ≤ index) × (index < 16)
-in-room index e =
+pub in_room : (index : ℕ) → (eqb index 0 || leb 16 index) ≡ false → (1 ≤ index) × (index < 16)
+in_room index e =
     let h = or_neither (eqb index 0) (leb 16 index) e in
     let n = eqb-false index 0 h.0 in
     (some index n, leb-false 16 index h.1)
@@ -251,4 +251,4 @@ all_noted n most e k i j = at (leb n k) refl
   where
     at : (t : Bool) → leb n k ≡ t → k < n
     at false q = leb-false n k q
-    at true q = let h = leb-true n k q in false-true (sym e ∙ both_and (le-leb n most (omega arith)) (lt-ltb n 16 (omega arith)))
+    at true q = let h = leb-true n k q in false_true (sym e ∙ both_and (le-leb n most (omega arith)) (lt-ltb n 16 (omega arith)))

@@ -27,18 +27,18 @@ unfolding count_of
 count_none n zero = refl
 count_none n (suc k) = refl
 
-pub count-front : (n : ℕ) (l : List ℕ) → count_of n (take 0 l) ≡ 0
+pub count_front : (n : ℕ) (l : List ℕ) → count_of n (take 0 l) ≡ 0
 unfolding count_of
-count-front n l = refl
+count_front n l = refl
 
 module _ (n k x : ℕ) (l : List ℕ) where
   count_same : x ≡ n → count_of n (take (k + 1) (x ∷ l)) ≡ 1 + count_of n (take k l)
   unfolding count_of
   count_same e = rw (add-one k) (rw (eq-eqb n x (sym e)))
 
-  count-other : (x ≡ n → ⊥) → count_of n (take (k + 1) (x ∷ l)) ≡ count_of n (take k l)
+  count_other : (x ≡ n → ⊥) → count_of n (take (k + 1) (x ∷ l)) ≡ count_of n (take k l)
   unfolding count_of
-  count-other e = rw (add-one k) (rw (ne_eqb n x (λ q. e (sym q))) (zero-add (count_of n (take k l))))
+  count_other e = rw (add-one k) (rw (ne_eqb n x (λ q. e (sym q))) (zero-add (count_of n (take k l))))
 
 -- one turn of a walk that has counted, behind k of the first p + 1 names
 module _ (n p k count total x : ℕ) (l r : List ℕ) (h : k ≤ p) (e : l ≡ x ∷ r) (so : total ≡ count + count_of n (take (p + 1 - k) l)) where
@@ -49,14 +49,14 @@ module _ (n p k count total x : ℕ) (l r : List ℕ) (h : k ≤ p) (e : l ≡ x
   turn_same q = let a = next in let b = count_same n (p + 1 - (k + 1)) x r q in omega arith
 
   pub turn_other : (x ≡ n → ⊥) → total ≡ count + count_of n (take (p + 1 - (k + 1)) r)
-  turn_other q = let a = next in let b = count-other n (p + 1 - (k + 1)) x r q in omega arith
+  turn_other q = let a = next in let b = count_other n (p + 1 - (k + 1)) x r q in omega arith
 
 -- ---- the segment, and a numeral's digits
 
-pub take-most : (n : ℕ) (l : List ℕ) → length (take n l) ≤ n
-take-most zero l = omega arith
-take-most (suc n) [] = omega arith
-take-most (suc n) (b ∷ l) = let h = take-most n l in omega arith
+pub take_most : (n : ℕ) (l : List ℕ) → length (take n l) ≤ n
+take_most zero l = omega arith
+take_most (suc n) [] = omega arith
+take_most (suc n) (b ∷ l) = let h = take_most n l in omega arith
 
 -- what stands from a place on, cut out of all
 pub tail_whole : (l : List ℕ) (n s : ℕ) → length l ≡ n → s ≤ n → take (n - s) (drop s l) ≡ drop s l
@@ -68,11 +68,11 @@ tail_short l n s e h = let k = length-drop s l in let q = ap length (tail_whole 
 -- ---- the position of the field
 
 module _ (number field : ℕ) where
-  pub position-none : number ≡ 21 → [] ≡ field_position number field
-  position-none e = ap (λ (n : ℕ). field_position n field) (sym e)
+  pub position_none : number ≡ 21 → [] ≡ field_position number field
+  position_none e = ap (λ (n : ℕ). field_position n field) (sym e)
 
-  pub position-type : number ≡ 20 → numeral 9 ≡ field_position number field
-  position-type e = ap (λ (n : ℕ). field_position n field) (sym e)
+  pub position_type : number ≡ 20 → numeral 9 ≡ field_position number field
+  position_type e = ap (λ (n : ℕ). field_position n field) (sym e)
 
   pub position_field : (number ≡ 21 → ⊥) → (number ≡ 20 → ⊥) → numeral field ≡ field_position number field
   position_field e f = rw (ne_eqb number 21 e) (rw (ne_eqb number 20 f))
@@ -83,14 +83,14 @@ count_piece : (p : List ℕ) (ps : List (List ℕ)) → length (together (p ∷ 
 unfolding together
 count_piece p ps = length-append p (together ps)
 
-count-nothing : length (together []) ≡ 0
+count_nothing : length (together []) ≡ 0
 unfolding together
-count-nothing = refl
+count_nothing = refl
 
 -- 4 + 3 + 1 + 20 + 1 + 20 + 1 + 20 + 1
-pub line-room : (name sequence field code marks : List ℕ) → length name ≤ 3 → length marks ≡ 6 → length sequence ≤ 20 → length field ≤ 20 → length code ≤ 20
+pub line_room : (name sequence field code marks : List ℕ) → length name ≤ 3 → length marks ≡ 6 → length sequence ≤ 20 → length field ≤ 20 → length code ≤ 20
     → length (together (line_pieces name sequence field code marks)) ≤ 71
-line-room name sequence field code marks n m s f c =
+line_room name sequence field code marks n m s f c =
     let front = take 4 marks in
     let between = take 1 (drop 4 marks) in
     let end = take 1 (drop 5 marks) in
@@ -99,7 +99,7 @@ line-room name sequence field code marks n m s f c =
     let d5 = length-drop 5 marks in
     let lb = length-take-le 1 (drop 4 marks) (omega arith) in
     let le = length-take-le 1 (drop 5 marks) (omega arith) in
-    let a0 = count-nothing in
+    let a0 = count_nothing in
     let a1 = count_piece end [] in
     let a2 = count_piece code (end ∷ []) in
     let a3 = count_piece between (code ∷ end ∷ []) in
@@ -131,22 +131,22 @@ module _ (m : List ℕ) (r : FaultRecord) where
   no_error e = rw (eq-eqb (number_of r.kind) 0 e)
 
   module _ (some : number_of r.kind ≡ 0 → ⊥) where
-    line-ended : ended (error_lines m r) ≡ error_line m r ++ (carriage_return ∷ [])
+    line_ended : ended (error_lines m r) ≡ error_line m r ++ (carriage_return ∷ [])
     unfolding ended
-    line-ended = rw (ne_eqb (number_of r.kind) 0 some)
+    line_ended = rw (ne_eqb (number_of r.kind) 0 some)
 
     -- the pieces of its parts are the segment with its CR
-    pub pieces-ended : (ds a b c d : List ℕ) → ds ≡ delimiters_of m → error_parts m r ≡ a ∷ b ∷ c ∷ d ∷ [] → together (line_pieces a b c d (marks_of ds)) ≡ ended (error_lines m r)
+    pub pieces_ended : (ds a b c d : List ℕ) → ds ≡ delimiters_of m → error_parts m r ≡ a ∷ b ∷ c ∷ d ∷ [] → together (line_pieces a b c d (marks_of ds)) ≡ ended (error_lines m r)
     unfolding error_line
-    pieces-ended ds a b c d e q =
+    pieces_ended ds a b c d e q =
         ap (λ (x : List ℕ). together (line_pieces a b c d (marks_of x))) e ∙ line_is (field_separator m) (get_or m 4 0) a b c d
-        ∙ ap (λ (x : List (List ℕ)). join (field_separator m) (ascii "ERR" ∷ join (get_or m 4 0) x ∷ []) ++ (carriage_return ∷ [])) (sym q) ∙ sym line-ended
+        ∙ ap (λ (x : List (List ℕ)). join (field_separator m) (ascii "ERR" ∷ join (get_or m 4 0) x ∷ []) ++ (carriage_return ∷ [])) (sym q) ∙ sym line_ended
 
-  pub parts-nowhere : nowhere (number_of r.kind) ≡ true → error_parts m r ≡ [] ∷ [] ∷ [] ∷ numeral (error_code (number_of r.kind) r.place r.field) ∷ []
+  pub parts_nowhere : nowhere (number_of r.kind) ≡ true → error_parts m r ≡ [] ∷ [] ∷ [] ∷ numeral (error_code (number_of r.kind) r.place r.field) ∷ []
   unfolding error_parts error_place
-  parts-nowhere e = rw e
+  parts_nowhere e = rw e
 
-  pub parts-there : nowhere (number_of r.kind) ≡ false
+  pub parts_there : nowhere (number_of r.kind) ≡ false
       → error_parts m r ≡ take 3 (faulty m r.place) ∷ numeral (sequence_of m r.place) ∷ field_position (number_of r.kind) r.field ∷ numeral (error_code (number_of r.kind) r.place r.field) ∷ []
   unfolding error_parts error_place
-  parts-there e = rw e
+  parts_there e = rw e

@@ -13,21 +13,21 @@ use borrow.Author.Tests.{eq-eqb, ne_eqb}
 use Rattle.alphabet.specs.Bytes.{carriage_return}
 use Rattle.alphabet.specs.Lists.{find}
 use Rattle.reading.specs.Segments.{segments, name_of}
-use Rattle.reading.proofs.SegmentLaws.{segments_walk, segments-over}
+use Rattle.reading.proofs.SegmentLaws.{segments_walk, segments_over}
 use Rattle.structure.specs.SegmentNames.{segment_names}
 use Rattle.error_segment.specs.Errors.{faulty, count_of, sequence_of}
 use Rattle.alphabet.proofs.PartLaws.{past_none}
 
 -- ---- counting names
 
-pub count-append : (n : ℕ) (a b : List ℕ) → count_of n (a ++ b) ≡ count_of n a + count_of n b
+pub count_append : (n : ℕ) (a b : List ℕ) → count_of n (a ++ b) ≡ count_of n a + count_of n b
 unfolding count_of
-count-append n [] b = sym (zero-add (count_of n b))
-count-append n (x ∷ a) b = let h = count-append n a b in omega arith
+count_append n [] b = sym (zero-add (count_of n b))
+count_append n (x ∷ a) b = let h = count_append n a b in omega arith
 
-pub count-nil : (n : ℕ) → count_of n [] ≡ 0
+pub count_nil : (n : ℕ) → count_of n [] ≡ 0
 unfolding count_of
-count-nil n = refl
+count_nil n = refl
 
 module _ (n x : ℕ) (l : List ℕ) where
   count_hit : x ≡ n → count_of n (x ∷ l) ≡ 1 + count_of n l
@@ -38,17 +38,17 @@ module _ (n x : ℕ) (l : List ℕ) where
   unfolding count_of
   count_miss e = rw (ne_eqb n x (λ q. e (sym q))) (zero-add (count_of n l))
 
-  count-step : count_of n (x ∷ l) ≤ 1 + count_of n l
+  count_step : count_of n (x ∷ l) ≤ 1 + count_of n l
   unfolding count_of
-  count-step = at (eqb n x)
+  count_step = at (eqb n x)
     where
       at : (t : Bool) → cond t 1 0 + count_of n l ≤ 1 + count_of n l
       at true = omega arith
       at false = omega arith
 
 pub count_most : (n : ℕ) (l : List ℕ) → count_of n l ≤ length l
-count_most n [] = let z = count-nil n in omega arith
-count_most n (x ∷ l) = let s = count-step n x l in let h = count_most n l in omega arith
+count_most n [] = let z = count_nil n in omega arith
+count_most n (x ∷ l) = let s = count_step n x l in let h = count_most n l in omega arith
 
 -- one turn of a count, at number k of the names
 module _ (n k count : ℕ) (l : List ℕ) (h : k < length l) (so : count_of n l ≡ count + count_of n (drop k l)) where
@@ -70,7 +70,7 @@ from_walk m start end e h = segments_walk m start end e h
 
 pub from_over : (m : List ℕ) (start : ℕ) → length m ≤ start + find carriage_return (drop start m) → segments (drop start m) ≡ []
 unfolding segments
-from_over m start h = segments-over m start h
+from_over m start h = segments_over m start h
 
 -- ---- a walk over the segments ss: those that are left, and the names of those before, as many as `number`
 
@@ -83,13 +83,13 @@ pub record Passing (ss left : List (List ℕ)) (names : List ℕ) (number : ℕ)
 pub pass_start : (ss : List (List ℕ)) (names : List ℕ) → Passing ss ss names 0
 pass_start ss names = record { before = []; whole = refl; size = refl; kept = refl }
 
-map-append : (f : List ℕ → ℕ) (a b : List (List ℕ)) → map f (a ++ b) ≡ map f a ++ map f b
-map-append f [] b = refl
-map-append f (x ∷ a) b = ap (λ (l : List ℕ). f x ∷ l) (map-append f a b)
+map_append : (f : List ℕ → ℕ) (a b : List (List ℕ)) → map f (a ++ b) ≡ map f a ++ map f b
+map_append f [] b = refl
+map_append f (x ∷ a) b = ap (λ (l : List ℕ). f x ∷ l) (map_append f a b)
 
-map-length : (f : List ℕ → ℕ) (a : List (List ℕ)) → length (map f a) ≡ length a
-map-length f [] = refl
-map-length f (x ∷ a) = ap suc (map-length f a)
+map_length : (f : List ℕ → ℕ) (a : List (List ℕ)) → length (map f a) ≡ length a
+map_length f [] = refl
+map_length f (x ∷ a) = ap suc (map_length f a)
 
 -- one segment more
 pub pass_next : {ss left : List (List ℕ)} {names : List ℕ} {number : ℕ} (s : List ℕ) (rest : List (List ℕ)) (name : ℕ)
@@ -100,7 +100,7 @@ pass_next {ss} {left} {names} {number} s rest name p e q h =
       whole = p.whole ∙ ap (λ (l : List (List ℕ)). p.before ++ l) e ∙ sym (append_assoc p.before (s ∷ []) rest);
       size = let n = length-append p.before (s ∷ []) in let k = p.size in omega arith;
       kept = ap (λ (k : ℕ). take k (set names number name)) (add-one number) ∙ take-suc-set names number name h
-          ∙ ap₂ (λ (l : List ℕ) (x : ℕ). l ++ (x ∷ [])) p.kept q ∙ sym (map-append name_of p.before (s ∷ []));
+          ∙ ap₂ (λ (l : List ℕ) (x : ℕ). l ++ (x ∷ [])) p.kept q ∙ sym (map_append name_of p.before (s ∷ []));
     }
 
 module _ {ss left : List (List ℕ)} {names : List ℕ} {number : ℕ} (p : Passing ss left names number) where
@@ -112,17 +112,17 @@ module _ {ss left : List (List ℕ)} {names : List ℕ} {number : ℕ} (p : Pass
       ∙ ap (λ (l : List (List ℕ)). get_or l 0 []) (ap (drop number) p.whole ∙ drop_at p.before left number p.size)
 
   named : map name_of ss ≡ take number names ++ map name_of left
-  named = ap (map name_of) p.whole ∙ map-append name_of p.before left ∙ ap (λ (l : List ℕ). l ++ map name_of left) (sym p.kept)
+  named = ap (map name_of) p.whole ∙ map_append name_of p.before left ∙ ap (λ (l : List ℕ). l ++ map name_of left) (sym p.kept)
 
-  kept-size : length (take number names) ≡ number
-  kept-size = ap length p.kept ∙ map-length name_of p.before ∙ p.size
+  kept_size : length (take number names) ≡ number
+  kept_size = ap length p.kept ∙ map_length name_of p.before ∙ p.size
 
   pub pass_names : take (number + 1) (map name_of ss) ≡ take number names ++ take 1 (map name_of left)
   pass_names =
       take-add number 1 (map name_of ss)
       ∙ ap₂ (λ (a b : List ℕ). a ++ take 1 b)
-      (ap (take number) named ∙ take_at (take number names) (map name_of left) number kept-size)
-      (ap (drop number) named ∙ drop_at (take number names) (map name_of left) number kept-size)
+      (ap (take number) named ∙ take_at (take number names) (map name_of left) number kept_size)
+      (ap (drop number) named ∙ drop_at (take number names) (map name_of left) number kept_size)
 
   -- with none left, there is none of this number or a later one
   module _ (e : left ≡ []) (place : ℕ) (h : number ≤ place) where
@@ -136,48 +136,48 @@ module _ {ss left : List (List ℕ)} {names : List ℕ} {number : ℕ} (p : Pass
     pass_all =
         let n = ap length over in
         let k = p.size in
-        let l = map-length name_of ss in
+        let l = map_length name_of ss in
         take_all (place + 1) (map name_of ss) (omega arith) ∙ ap (map name_of) over ∙ sym p.kept
 
 -- ---- what is said of a segment: where it stands, and its number q among those of its name
 
 module _ (m : List ℕ) (s e : ℕ) where
-  pub empty-here : (f : List ℕ) → s ≡ 0 → e ≡ 0 → f ≡ [] → (s ≤ e) × (e ≤ length m) × (take (e - s) (drop s m) ≡ f)
-  empty-here f a b n = (omega arith, omega arith, ap₂ (λ (i j : ℕ). take (j - i) (drop i m)) a b ∙ sym n)
+  pub empty_here : (f : List ℕ) → s ≡ 0 → e ≡ 0 → f ≡ [] → (s ≤ e) × (e ≤ length m) × (take (e - s) (drop s m) ≡ f)
+  empty_here f a b n = (omega arith, omega arith, ap₂ (λ (i j : ℕ). take (j - i) (drop i m)) a b ∙ sym n)
 
 -- the count where the first segment of the bytes l stands behind these names, and where l has none
 module _ (names l : List ℕ) where
-  pub count-there : (s : List ℕ) (rest : List (List ℕ)) (name : ℕ) → segments l ≡ s ∷ rest → name ≡ name_of s
+  pub count_there : (s : List ℕ) (rest : List (List ℕ)) (name : ℕ) → segments l ≡ s ∷ rest → name ≡ name_of s
       → count_of name names + 1 ≡ count_of (name_of (faulty l 0)) (names ++ take 1 (segment_names l))
   unfolding segment_names
-  count-there s rest name e q =
-      let a = count-append name names (name ∷ []) in
+  count_there s rest name e q =
+      let a = count_append name names (name ∷ []) in
       let b = count_hit name name [] refl in
-      let z = count-nil name in
+      let z = count_nil name in
       let c : count_of name names + 1 ≡ count_of name (names ++ (name ∷ [])) = omega arith in
       c ∙ ap (λ (x : ℕ). count_of x (names ++ (x ∷ []))) q
       ∙ ap (λ (ss : List (List ℕ)). count_of (name_of (get_or ss 0 [])) (names ++ take 1 (map name_of ss))) (sym e)
 
-  pub count-nowhere : segments l ≡ [] → count_of 0 names ≡ count_of (name_of (faulty l 0)) (names ++ take 1 (segment_names l))
+  pub count_nowhere : segments l ≡ [] → count_of 0 names ≡ count_of (name_of (faulty l 0)) (names ++ take 1 (segment_names l))
   unfolding segment_names name_of
-  count-nowhere e =
+  count_nowhere e =
       ap (count_of 0) (sym (append-nil names))
       ∙ ap (λ (ss : List (List ℕ)). count_of (name_of (get_or ss 0 [])) (names ++ take 1 (map name_of ss))) (sym e)
 
 -- the name of no bytes
-pub name-none : name_of [] ≡ 0
+pub name_none : name_of [] ≡ 0
 unfolding name_of
-name-none = refl
+name_none = refl
 
 -- the number in the whole message, where the walk ended at the segment, and where it found none
 module _ (m left : List ℕ) (names : List ℕ) (number : ℕ) (p : Passing (segments m) (segments left) names number) where
-  pub sequence-there : (place : ℕ) → number ≡ place → count_of (name_of (faulty left 0)) (take number names ++ take 1 (segment_names left)) ≡ sequence_of m place
+  pub sequence_there : (place : ℕ) → number ≡ place → count_of (name_of (faulty left 0)) (take number names ++ take 1 (segment_names left)) ≡ sequence_of m place
   unfolding segment_names
-  sequence-there place h =
+  sequence_there place h =
       ap₂ (λ (s : List ℕ) (l : List ℕ). count_of (name_of s) l) (sym (pass_faulty p)) (sym (pass_names p))
       ∙ ap (λ (k : ℕ). count_of (name_of (get_or (segments m) k [])) (take (k + 1) (map name_of (segments m)))) h
 
-  pub sequence-none : segments left ≡ [] → (place : ℕ) → number ≤ place → count_of 0 (take number names) ≡ sequence_of m place
+  pub sequence_none : segments left ≡ [] → (place : ℕ) → number ≤ place → count_of 0 (take number names) ≡ sequence_of m place
   unfolding segment_names
-  sequence-none e place h =
-      ap₂ (λ (n : ℕ) (l : List ℕ). count_of n l) (sym (ap name_of (pass_none p e place h) ∙ name-none)) (sym (pass_all p e place h))
+  sequence_none e place h =
+      ap₂ (λ (n : ℕ) (l : List ℕ). count_of n l) (sym (ap name_of (pass_none p e place h) ∙ name_none)) (sym (pass_all p e place h))

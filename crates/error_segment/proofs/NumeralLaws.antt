@@ -51,8 +51,8 @@ enough (suc a) (suc b) n h k =
         ∙ sym (digits_more (suc b) n (ltb-false n 10 e))
 
 -- what stands from a digit on, once it is set
-pub drop-set : (l : List ℕ) (i v : ℕ) → i < length l → drop i (set l i v) ≡ v ∷ drop (i + 1) l
-drop-set l i v h =
+pub drop_set : (l : List ℕ) (i v : ℕ) → i < length l → drop i (set l i v) ≡ v ∷ drop (i + 1) l
+drop_set l i v h =
     ap (drop i) (set_split l i v h) ∙ drop_at (take i l) (v ∷ drop (suc i) l) i (length-take-le i l (omega arith)) ∙ ap (λ (k : ℕ). v ∷ drop k l) (sym (add-one i))
 
 -- ---- the room for all digits

@@ -26,13 +26,13 @@ pub room_takes : (room n : ℕ) → n ≤ room → Takes n ≡ room_for room n
 unfolding room_for
 room_takes room n h = rw (le-leb _ _ h)
 
-pub room-short : (room n : ℕ) → room < n → Short ≡ room_for room n
+pub room_short : (room n : ℕ) → room < n → Short ≡ room_for room n
 unfolding room_for
-room-short room n h = rw (lt-leb _ _ h)
+room_short room n h = rw (lt-leb _ _ h)
 
 -- and whether more does, once n of it is taken
-pub room-left : (room n m : ℕ) → n ≤ room → leb m (room - n) ≡ leb (n + m) room
-room-left room n m h = at (leb m (room - n)) refl
+pub room_left : (room n m : ℕ) → n ≤ room → leb m (room - n) ≡ leb (n + m) room
+room_left room n m h = at (leb m (room - n)) refl
   where
     at : (t : Bool) → leb m (room - n) ≡ t → leb m (room - n) ≡ leb (n + m) room
     at true e = e ∙ sym (le-leb (n + m) room (omega (arith, leb-true m (room - n) e)))
@@ -57,18 +57,18 @@ short_is room n e = at (leb n room) refl e
 
 -- ---- the outcome of escaping
 
-pub escape-null : (ds t : List ℕ) → is_null t ≡ true → escape ds t ≡ two_quotes ds
+pub escape_null : (ds t : List ℕ) → is_null t ≡ true → escape ds t ≡ two_quotes ds
 unfolding escape
-escape-null ds t e = rw e
+escape_null ds t e = rw e
 
-pub escape-other : (ds t : List ℕ) → is_null t ≡ false → escape ds t ≡ escape_bytes ds t
+pub escape_other : (ds t : List ℕ) → is_null t ≡ false → escape ds t ≡ escape_bytes ds t
 unfolding escape
-escape-other ds t e = rw e
+escape_other ds t e = rw e
 
 -- a byte is written as five at most
-pub byte-most : (ds : List ℕ) (b : ℕ) → length (escape_byte ds b) ≤ 5
+pub byte_most : (ds : List ℕ) (b : ℕ) → length (escape_byte ds b) ≤ 5
 unfolding escape_byte
-byte-most ds b = at (ltb (find b ds) 5) (printable b)
+byte_most ds b = at (ltb (find b ds) 5) (printable b)
   where
     at : (s t : Bool) → length (cond s (escape_of ds ∷ get_or letters (find b ds) 0 ∷ escape_of ds ∷ []) (cond t (b ∷ []) (escape_of ds ∷ 88 ∷ hex_digit (b / 16) ∷ hex_digit (b % 16) ∷ escape_of ds ∷ []))) ≤ 5
     at true t = omega arith
@@ -78,11 +78,11 @@ byte-most ds b = at (ltb (find b ds) 5) (printable b)
 pub bytes_most : (ds t : List ℕ) → length (escape_bytes ds t) ≤ 5 * length t
 unfolding escape_bytes
 bytes_most ds [] = omega arith
-bytes_most ds (b ∷ r) = omega (arith, byte-most ds b, bytes_most ds r, length-append (escape_byte ds b) (escape_bytes ds r))
+bytes_most ds (b ∷ r) = omega (arith, byte_most ds b, bytes_most ds r, length-append (escape_byte ds b) (escape_bytes ds r))
 
-pub escape-most : (ds t : List ℕ) → length (escape ds t) ≤ 5 * length t
+pub escape_most : (ds t : List ℕ) → length (escape ds t) ≤ 5 * length t
 unfolding escape
-escape-most ds t = at (is_null t) refl
+escape_most ds t = at (is_null t) refl
   where
     at : (n : Bool) → is_null t ≡ n → length (cond n (two_quotes ds) (escape_bytes ds t)) ≤ 5 * length t
     at true e = omega (arith, ap length (two_quotes_lem t e))
@@ -92,10 +92,10 @@ pub escaping_bad : (ds t : List ℕ) (room : ℕ) → first_wrong_delimiter ds <
 unfolding escaping
 escaping_bad ds t room h = rw (lt-ltb _ _ h)
 
-pub escaping-fits : (ds t w : List ℕ) (room : ℕ) → 5 ≤ first_wrong_delimiter ds → escape ds t ≡ w → length w ≤ room → escaping ds t room ≡ text w
+pub escaping_fits : (ds t w : List ℕ) (room : ℕ) → 5 ≤ first_wrong_delimiter ds → escape ds t ≡ w → length w ≤ room → escaping ds t room ≡ text w
 unfolding escaping fitting
-escaping-fits ds t w room h e l = rw (le-ltb _ _ h) (rw e (rw (le-leb _ _ l)))
+escaping_fits ds t w room h e l = rw (le-ltb _ _ h) (rw e (rw (le-leb _ _ l)))
 
-pub escaping-long : (ds t w : List ℕ) (room : ℕ) → 5 ≤ first_wrong_delimiter ds → escape ds t ≡ w → room < length w → escaping ds t room ≡ fault NoRoom 0
+pub escaping_long : (ds t w : List ℕ) (room : ℕ) → 5 ≤ first_wrong_delimiter ds → escape ds t ≡ w → room < length w → escaping ds t room ≡ fault NoRoom 0
 unfolding escaping fitting
-escaping-long ds t w room h e l = rw (le-ltb _ _ h) (rw e (rw (lt-leb _ _ l)))
+escaping_long ds t w room h e l = rw (le-ltb _ _ h) (rw e (rw (lt-leb _ _ l)))

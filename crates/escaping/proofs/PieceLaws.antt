@@ -6,50 +6,50 @@ use Prim.Native.Nat.{ℕ, ◌+◌, ◌/◌, ◌%◌, ◌≤◌, ◌<◌}
 use lib.ListN.{length, get_or, take, drop, take-append-drop, drop_of_length-le, length-append}
 use lib.Seq.{drop-drop}
 use borrow.Author.Tests.{lt-ltb, le-ltb}
-use Rattle.alphabet.proofs.ListLaws.{drop-next}
+use Rattle.alphabet.proofs.ListLaws.{drop_next}
 use Rattle.alphabet.specs.Lists.{find}
 use Rattle.alphabet.specs.Bytes.{printable, hex_digit}
 use Rattle.escaping.specs.Escape.{letters, escape_of, escape_byte, escape_bytes}
 
 -- ---- what one byte is written as
 
-pub written-letter : (ds : List ℕ) (b i : ℕ) → i ≡ find b ds → i < 5 → escape_byte ds b ≡ escape_of ds ∷ get_or letters i 0 ∷ escape_of ds ∷ []
+pub written_letter : (ds : List ℕ) (b i : ℕ) → i ≡ find b ds → i < 5 → escape_byte ds b ≡ escape_of ds ∷ get_or letters i 0 ∷ escape_of ds ∷ []
 unfolding escape_byte
-written-letter ds b i e h = rw (← e) (rw (lt-ltb _ _ h))
+written_letter ds b i e h = rw (← e) (rw (lt-ltb _ _ h))
 
-pub written-plain : (ds : List ℕ) (b : ℕ) → 5 ≤ find b ds → printable b ≡ true → escape_byte ds b ≡ b ∷ []
+pub written_plain : (ds : List ℕ) (b : ℕ) → 5 ≤ find b ds → printable b ≡ true → escape_byte ds b ≡ b ∷ []
 unfolding escape_byte
-written-plain ds b h a = rw (le-ltb _ _ h) (rw a)
+written_plain ds b h a = rw (le-ltb _ _ h) (rw a)
 
-pub written-hex : (ds : List ℕ) (b : ℕ) → 5 ≤ find b ds → printable b ≡ false → escape_byte ds b ≡ escape_of ds ∷ 88 ∷ hex_digit (b / 16) ∷ hex_digit (b % 16) ∷ escape_of ds ∷ []
+pub written_hex : (ds : List ℕ) (b : ℕ) → 5 ≤ find b ds → printable b ≡ false → escape_byte ds b ≡ escape_of ds ∷ 88 ∷ hex_digit (b / 16) ∷ hex_digit (b % 16) ∷ escape_of ds ∷ []
 unfolding escape_byte
-written-hex ds b h a = rw (le-ltb _ _ h) (rw a)
+written_hex ds b h a = rw (le-ltb _ _ h) (rw a)
 
 -- ---- what the rest of a text is written as
 
 pub bytes_next : (ds s : List ℕ) (i : ℕ) → i < length s → escape_bytes ds (drop i s) ≡ escape_byte ds (get_or s i 0) ++ escape_bytes ds (drop (i + 1) s)
 unfolding escape_bytes
-bytes_next ds s i h = rw (drop-next s i)
+bytes_next ds s i h = rw (drop_next s i)
 
-pub bytes-end : (ds s : List ℕ) (i : ℕ) → length s ≤ i → escape_bytes ds (drop i s) ≡ []
+pub bytes_end : (ds s : List ℕ) (i : ℕ) → length s ≤ i → escape_bytes ds (drop i s) ≡ []
 unfolding escape_bytes
-bytes-end ds s i h = rw (drop_of_length-le s h)
+bytes_end ds s i h = rw (drop_of_length-le s h)
 
-pub length-next : (ds s : List ℕ) (i : ℕ) → i < length s → length (escape_bytes ds (drop i s)) ≡ length (escape_byte ds (get_or s i 0)) + length (escape_bytes ds (drop (i + 1) s))
-length-next ds s i h = rw (bytes_next ds s i) (length-append (escape_byte ds (get_or s i 0)) (escape_bytes ds (drop (i + 1) s)))
+pub length_next : (ds s : List ℕ) (i : ℕ) → i < length s → length (escape_bytes ds (drop i s)) ≡ length (escape_byte ds (get_or s i 0)) + length (escape_bytes ds (drop (i + 1) s))
+length_next ds s i h = rw (bytes_next ds s i) (length-append (escape_byte ds (get_or s i 0)) (escape_bytes ds (drop (i + 1) s)))
 
-pub length-end : (ds s : List ℕ) (i : ℕ) → length s ≤ i → length (escape_bytes ds (drop i s)) ≡ 0
-length-end ds s i h = ap length (bytes-end ds s i h)
+pub length_end : (ds s : List ℕ) (i : ℕ) → length s ≤ i → length (escape_bytes ds (drop i s)) ≡ 0
+length_end ds s i h = ap length (bytes_end ds s i h)
 
 -- ---- what a text is written as, part by part
 
-bytes-append : (ds s t : List ℕ) → escape_bytes ds (s ++ t) ≡ escape_bytes ds s ++ escape_bytes ds t
+bytes_append : (ds s t : List ℕ) → escape_bytes ds (s ++ t) ≡ escape_bytes ds s ++ escape_bytes ds t
 unfolding escape_bytes
-bytes-append ds [] t = refl
-bytes-append ds (b ∷ r) t = ap (λ (l : List ℕ). escape_byte ds b ++ l) (bytes-append ds r t) ∙ sym (append_assoc (escape_byte ds b) (escape_bytes ds r) (escape_bytes ds t))
+bytes_append ds [] t = refl
+bytes_append ds (b ∷ r) t = ap (λ (l : List ℕ). escape_byte ds b ++ l) (bytes_append ds r t) ∙ sym (append_assoc (escape_byte ds b) (escape_bytes ds r) (escape_bytes ds t))
 
 pub length_part : (ds s : List ℕ) (i k : ℕ) → length (escape_bytes ds (drop i s)) ≡ length (escape_bytes ds (take k (drop i s))) + length (escape_bytes ds (drop (i + k) s))
 length_part ds s i k =
-    ap (λ (l : List ℕ). length (escape_bytes ds l)) (sym (take-append-drop k (drop i s))) ∙ ap length (bytes-append ds (take k (drop i s)) (drop k (drop i s)))
+    ap (λ (l : List ℕ). length (escape_bytes ds l)) (sym (take-append-drop k (drop i s))) ∙ ap length (bytes_append ds (take k (drop i s)) (drop k (drop i s)))
     ∙ length-append (escape_bytes ds (take k (drop i s))) (escape_bytes ds (drop k (drop i s)))
     ∙ ap (λ (l : List ℕ). length (escape_bytes ds (take k (drop i s))) + length (escape_bytes ds l)) (drop-drop k i s)

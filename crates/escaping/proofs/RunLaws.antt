@@ -10,7 +10,7 @@ use Rattle.alphabet.specs.Lists.{first}
 use Rattle.plain.specs.Plain.{special}
 use Rattle.plain.proofs.PlainLaws.{plain_is}
 use Rattle.escaping.specs.Escape.{escape_byte, escape_bytes}
-use Rattle.escaping.proofs.PieceLaws.{written-plain}
+use Rattle.escaping.proofs.PieceLaws.{written_plain}
 
 pub bytes_run : (ds l : List ℕ) (n : ℕ) → n ≤ first (special ds) l → escape_bytes ds l ≡ take n l ++ escape_bytes ds (drop n l)
 unfolding first escape_bytes
@@ -23,7 +23,7 @@ bytes_run ds (b ∷ r) (suc n) h = at (special ds b) refl h (bytes_run ds r n)
     at true e h ih = absurd (omega arith)
     at false e h ih =
         let p = plain_is ds b e in
-        ap (λ (w : List ℕ). w ++ escape_bytes ds r) (written-plain ds b p.1 p.0) ∙ ap (λ (w : List ℕ). b ∷ w) (ih (omega arith))
+        ap (λ (w : List ℕ). w ++ escape_bytes ds r) (written_plain ds b p.1 p.0) ∙ ap (λ (w : List ℕ). b ∷ w) (ih (omega arith))
 
 -- the same from a place on, as a loop meets it
 module _ (ds s : List ℕ) (i n : ℕ) (h : n ≤ first (special ds) (drop i s)) where

@@ -10,29 +10,29 @@ use lib.ListN.{length, get_or}
 use borrow.Author.Tests.{not-true, eqb-true, eqb-false, eq-eqb, ne_eqb, leb-true, ltb-true, lt-ltb, le-ltb}
 use Rattle.alphabet.specs.Lists.{first, find, same}
 use Rattle.alphabet.proofs.BoolLaws.{and_both}
-use Rattle.alphabet.proofs.ListLaws.{same-unlike}
+use Rattle.alphabet.proofs.ListLaws.{same_unlike}
 use Rattle.alphabet.specs.Parts.{split}
 use Rattle.field_table.specs.Table.{values_of, member, rows}
 use Rattle.field_table.specs.declared.Values.TheVariants.{Processing, Sex, Statuses}
 use Rattle.field_table.specs.Codes.{singles, CodeOf}
 
 module _ (bytes value : List ℕ) (others : List (List ℕ)) where
-  pub member-here : same bytes value ≡ true → member bytes (value ∷ others) ≡ true
+  pub member_here : same bytes value ≡ true → member bytes (value ∷ others) ≡ true
   unfolding member
-  member-here e = rw e
+  member_here e = rw e
 
   pub member_past : same bytes value ≡ false → member bytes (value ∷ others) ≡ member bytes others
   unfolding member
   member_past e = rw e
 
-pub member-none : (bytes : List ℕ) → member bytes [] ≡ false
+pub member_none : (bytes : List ℕ) → member bytes [] ≡ false
 unfolding member
-member-none bytes = refl
+member_none bytes = refl
 
 -- the last of a list of tests
-pub or-end : (t : Bool) → t ≡ (t || false)
-or-end true = refl
-or-end false = refl
+pub or_end : (t : Bool) → t ≡ (t || false)
+or_end true = refl
+or_end false = refl
 
 -- ---- one letter
 
@@ -84,14 +84,14 @@ one [] h = absurd (omega arith)
 one (a ∷ []) h = refl
 one (a ∷ b ∷ r) h = absurd (omega arith)
 
-pub letter-told : (l letters : List ℕ) (n : ℕ) → length l ≡ 1 → n ≡ find (get_or l 0 0) letters → ltb n (length letters) ≡ member l (singles letters)
-letter-told l letters n h e =
+pub letter_told : (l letters : List ℕ) (n : ℕ) → length l ≡ 1 → n ≡ find (get_or l 0 0) letters → ltb n (length letters) ≡ member l (singles letters)
+letter_told l letters n h e =
     ap (λ (k : ℕ). ltb k (length letters)) e ∙ letter_in (get_or l 0 0) letters ∙ ap (λ (k : List ℕ). member k (singles letters)) (one l h)
 
-pub letter-not : (l letters : List ℕ) → (length l ≡ 1 → ⊥) → member l (singles letters) ≡ false
+pub letter_not : (l letters : List ℕ) → (length l ≡ 1 → ⊥) → member l (singles letters) ≡ false
 unfolding member
-letter-not l [] h = refl
-letter-not l (x ∷ r) h = rw (same-unlike l (x ∷ []) h, letter-not l r h)
+letter_not l [] h = refl
+letter_not l (x ∷ r) h = rw (same_unlike l (x ∷ []) h, letter_not l r h)
 
 -- ---- two letters
 
@@ -101,9 +101,9 @@ two (a ∷ []) h = absurd (omega arith)
 two (a ∷ b ∷ []) h = refl
 two (a ∷ b ∷ c ∷ r) h = absurd (omega arith)
 
-pair-told : (a b x y : ℕ) → b < 256 → y < 256 → eqb (a * 256 + b) (x * 256 + y) ≡ same (a ∷ b ∷ []) (x ∷ y ∷ [])
+pair_told : (a b x y : ℕ) → b < 256 → y < 256 → eqb (a * 256 + b) (x * 256 + y) ≡ same (a ∷ b ∷ []) (x ∷ y ∷ [])
 unfolding same
-pair-told a b x y h k = at (eqb a x) refl (eqb b y) refl
+pair_told a b x y h k = at (eqb a x) refl (eqb b y) refl
   where
     at : (t : Bool) → eqb a x ≡ t → (u : Bool) → eqb b y ≡ u → eqb (a * 256 + b) (x * 256 + y) ≡ (t && (u && true))
     at true p true q =
@@ -113,17 +113,17 @@ pair-told a b x y h k = at (eqb a x) refl (eqb b y) refl
     at true p false q = let n = eqb-false b y q in ne_eqb (a * 256 + b) (x * 256 + y) (λ e. n (omega arith))
     at false p u q = let n = eqb-false a x p in ne_eqb (a * 256 + b) (x * 256 + y) (λ e. n (omega arith))
 
-pub code-told : (l : List ℕ) (a b : ℕ) → length l ≡ 2 → a ≡ get_or l 0 0 → b ≡ get_or l 1 0 → b < 256 → CodeOf (a * 256 + b) l
-code-told l a b h e f k x y p q =
-    pair-told a b x y k (ltb-true y 256 q) ∙ ap (λ (m : List ℕ). same m (x ∷ y ∷ [])) ((λ i. e i ∷ f i ∷ []) ∙ two l h)
+pub code_told : (l : List ℕ) (a b : ℕ) → length l ≡ 2 → a ≡ get_or l 0 0 → b ≡ get_or l 1 0 → b < 256 → CodeOf (a * 256 + b) l
+code_told l a b h e f k x y p q =
+    pair_told a b x y k (ltb-true y 256 q) ∙ ap (λ (m : List ℕ). same m (x ∷ y ∷ [])) ((λ i. e i ∷ f i ∷ []) ∙ two l h)
 
-pub code-not : (l : List ℕ) → (length l ≡ 2 → ⊥) → CodeOf 0 l
-code-not l h x y p q =
+pub code_not : (l : List ℕ) → (length l ≡ 2 → ⊥) → CodeOf 0 l
+code_not l h x y p q =
     let m = leb-true 1 x p in
-    ne_eqb 0 (x * 256 + y) (λ e. absurd (omega arith)) ∙ sym (same-unlike l (x ∷ y ∷ []) h)
+    ne_eqb 0 (x * 256 + y) (λ e. absurd (omega arith)) ∙ sym (same_unlike l (x ∷ y ∷ []) h)
 
 -- ---- the rows
 
-pub rows-count : length rows ≡ 16
+pub rows_count : length rows ≡ 16
 unfolding rows
-rows-count = refl
+rows_count = refl

@@ -15,10 +15,10 @@ use Rattle.alphabet.specs.declared.answers.Check.{Check}
 use Rattle.alphabet.specs.declared.answers.Check.TheVariants.{Passes, Fails}
 use Rattle.alphabet.specs.declared.answers.Refusal.TheVariants.{Repeated}
 use Rattle.alphabet.proofs.BlockLaws.{first_from}
-use Rattle.alphabet.proofs.BoolLaws.{false-true}
-use Rattle.alphabet.proofs.CheckLaws.{passes-or}
-use Rattle.alphabet.proofs.ListLaws.{rest_of, piece_of_piece, first-le}
-use Rattle.alphabet.proofs.PartLaws.{split-some, split_step, split-last, more_parts, walk_in, walk_more, first_part}
+use Rattle.alphabet.proofs.BoolLaws.{false_true}
+use Rattle.alphabet.proofs.CheckLaws.{passes_or}
+use Rattle.alphabet.proofs.ListLaws.{rest_of, piece_of_piece, first_le}
+use Rattle.alphabet.proofs.PartLaws.{split_some, split_step, split_last, more_parts, walk_in, walk_more, first_part}
 use Rattle.element.specs.States.{is_present}
 use Rattle.element.specs.declared.states.State.{State}
 use Rattle.rules.specs.Rules.{form_check, part_state, first_state, required_check, repeated_check, said_check, is_said, said_field, kind_of, component_of, repetition_check, repetition_checks, row_check, sent_check, own_check, opening_check, is_any}
@@ -37,36 +37,36 @@ assoc Passes b later = refl
 -- ---- where the bytes of a field are
 
 module _ (ds s : List ℕ) (number field : ℕ) where
-  pub bytes-other : (number ≡ 0 → ⊥) → field_bytes ds s number field ≡ get_or (split (get_or ds 0 0) s) field []
-  bytes-other h = rw (ne_eqb number 0 h)
+  pub bytes_other : (number ≡ 0 → ⊥) → field_bytes ds s number field ≡ get_or (split (get_or ds 0 0) s) field []
+  bytes_other h = rw (ne_eqb number 0 h)
 
-  pub bytes-fixed : number ≡ 0 → field ≤ 2 → field_bytes ds s number field ≡ []
-  bytes-fixed h l = rw (eq-eqb number 0 h, le-leb field 2 l)
+  pub bytes_fixed : number ≡ 0 → field ≤ 2 → field_bytes ds s number field ≡ []
+  bytes_fixed h l = rw (eq-eqb number 0 h, le-leb field 2 l)
 
-  pub bytes-header : number ≡ 0 → 2 < field → field_bytes ds s number field ≡ get_or (split (get_or ds 0 0) s) (field - 1) []
-  bytes-header h l = rw (eq-eqb number 0 h, lt-leb field 2 l)
+  pub bytes_header : number ≡ 0 → 2 < field → field_bytes ds s number field ≡ get_or (split (get_or ds 0 0) s) (field - 1) []
+  bytes_header h l = rw (eq-eqb number 0 h, lt-leb field 2 l)
 
   -- as the code asks
-  pub bytes-none : (eqb number 0 && leb field 2) ≡ true → field_bytes ds s number field ≡ []
-  bytes-none = at (eqb number 0) (leb field 2)
+  pub bytes_none : (eqb number 0 && leb field 2) ≡ true → field_bytes ds s number field ≡ []
+  bytes_none = at (eqb number 0) (leb field 2)
     where
       at : (t u : Bool) → (t && u) ≡ true → cond t (cond u [] (get_or (split (get_or ds 0 0) s) (field - 1) [])) (get_or (split (get_or ds 0 0) s) field []) ≡ []
       at true true e = refl
-      at true false e = false-true e
-      at false u e = false-true e
+      at true false e = false_true e
+      at false u e = false_true e
 
   pub bytes_index : (eqb number 0 && leb field 2) ≡ false → field_bytes ds s number field ≡ get_or (split (get_or ds 0 0) s) (field_index number field) []
   bytes_index = at (eqb number 0) (leb field 2)
     where
       at : (t u : Bool) → (t && u) ≡ false → cond t (cond u [] (get_or (split (get_or ds 0 0) s) (field - 1) [])) (get_or (split (get_or ds 0 0) s) field []) ≡ get_or (split (get_or ds 0 0) s) (cond t (field - 1) field) []
-      at true true e = false-true (sym e)
+      at true true e = false_true (sym e)
       at true false e = refl
       at false u e = refl
 
 -- ---- at the cursor
 
-pub stands-start : (sep : ℕ) (s : List ℕ) → Stands sep s (record { index = 0; place = 0 })
-stands-start sep s = record { inside = omega arith; counted = omega arith; parts = refl }
+pub stands_start : (sep : ℕ) (s : List ℕ) → Stands sep s (record { index = 0; place = 0 })
+stands_start sep s = record { inside = omega arith; counted = omega arith; parts = refl }
 
 module _ (sep : ℕ) (s : List ℕ) (index place n : ℕ) (h : Stands sep s (record { index = index; place = place })) (found : n ≡ find sep (take (length s - place) (drop place s))) where
   -- one part on
@@ -83,9 +83,9 @@ module _ (sep : ℕ) (s : List ℕ) (index place n : ℕ) (h : Stands sep s (rec
       }
 
 -- no bytes were sought
-pub finds-nothing : (ds s : List ℕ) (c : Cursor) (place : ℕ) → place ≤ length s → Stands (get_or ds 0 0) s c → Finds ds s [] (record { cursor = c; start = place; first = place; end = place })
+pub finds_nothing : (ds s : List ℕ) (c : Cursor) (place : ℕ) → place ≤ length s → Stands (get_or ds 0 0) s c → Finds ds s [] (record { cursor = c; start = place; first = place; end = place })
 unfolding first
-finds-nothing ds s c place i h =
+finds_nothing ds s c place i h =
     let z : place - place ≡ 0 = omega arith in
     record { stands = h; ordered = omega arith; within = omega arith; inside = i; bytes = ap (λ (n : ℕ). take n (drop place s)) z; opens = z }
 
@@ -120,8 +120,8 @@ module _ (ds s : List ℕ) (c : Cursor) (wanted : ℕ) (reaches : Reaches (get_o
   onward = drop c.place s
 
   -- there are fewer parts
-  pub finds-none : c.index < wanted → Finds ds s (get_or (split (get_or ds 0 0) s) wanted []) (record { cursor = c; start = c.place; first = c.place; end = c.place })
-  finds-none l =
+  pub finds_none : c.index < wanted → Finds ds s (get_or (split (get_or ds 0 0) s) wanted []) (record { cursor = c; start = c.place; first = c.place; end = c.place })
+  finds_none l =
       let h = reaches.stands in
       let i = h.inside in
       let e = reaches.last l in
@@ -130,8 +130,8 @@ module _ (ds s : List ℕ) (c : Cursor) (wanted : ℕ) (reaches : Reaches (get_o
       let absent : get_or (split sep s) wanted [] ≡ [] =
       ap (λ (j : ℕ). get_or (split sep s) j []) k
       ∙ sym (get_or-drop c.index (split sep s) (suc (wanted - c.index - 1)) [])
-      ∙ ap (λ (ps : List (List ℕ)). get_or ps (suc (wanted - c.index - 1)) []) (h.parts ∙ split-last sep onward (omega arith)) in
-      subst (λ (w : List ℕ). Finds ds s w (record { cursor = c; start = c.place; first = c.place; end = c.place })) (sym absent) (finds-nothing ds s c c.place i h)
+      ∙ ap (λ (ps : List (List ℕ)). get_or ps (suc (wanted - c.index - 1)) []) (h.parts ∙ split_last sep onward (omega arith)) in
+      subst (λ (w : List ℕ). Finds ds s w (record { cursor = c; start = c.place; first = c.place; end = c.place })) (sym absent) (finds_nothing ds s c c.place i h)
 
   -- the part at the cursor, where that is the one wanted
   part_here : wanted ≤ c.index → take (find sep onward) onward ≡ get_or (split sep s) wanted []
@@ -153,12 +153,12 @@ module _ (ds s : List ℕ) (c : Cursor) (wanted : ℕ) (reaches : Reaches (get_o
         omega arith
 
     -- it is what was sought, whatever cursor goes on from it
-    pub finds-here : (next : Cursor) → Stands (get_or ds 0 0) s next → Finds ds s (get_or (split (get_or ds 0 0) s) wanted []) (record { cursor = next; start = c.place; first = c.place + n; end = e })
-    finds-here next k =
+    pub finds_here : (next : Cursor) → Stands (get_or ds 0 0) s next → Finds ds s (get_or (split (get_or ds 0 0) s) wanted []) (record { cursor = next; start = c.place; first = c.place + n; end = e })
+    finds_here next k =
         let i = reaches.stands.inside in
         let x = part_ends in
         let w = two_within sep (get_or ds 2 0) onward in
-        let u = first-le (eqb sep) onward in
+        let u = first_le (eqb sep) onward in
         let d = length-drop c.place s in
         let y : e - c.place ≡ find sep onward = omega arith in
         let z : c.place + n - c.place ≡ n = omega arith in
@@ -177,8 +177,8 @@ module _ (ds s : List ℕ) (t : Turn) (goes : Goes s t) (n : ℕ) (found : n ≡
   abbrev rest : List ℕ
   rest = take (t.end - t.start) (drop t.start s)
 
-  rest-length : length rest ≡ t.end - t.start
-  rest-length =
+  rest_length : length rest ≡ t.end - t.start
+  rest_length =
       let i = goes.inside in
       let d = length-drop t.start s in
       length-take-le (t.end - t.start) (drop t.start s) (omega arith)
@@ -186,8 +186,8 @@ module _ (ds s : List ℕ) (t : Turn) (goes : Goes s t) (n : ℕ) (found : n ≡
   pub step_in : t.start + n ≤ t.end
   step_in =
       let o = goes.ordered in
-      let l = rest-length in
-      let u = first-le (eqb (get_or ds 2 0)) rest in
+      let l = rest_length in
+      let u = first_le (eqb (get_or ds 2 0)) rest in
       omega arith
 
   abbrev here : List ℕ
@@ -196,10 +196,10 @@ module _ (ds s : List ℕ) (t : Turn) (goes : Goes s t) (n : ℕ) (found : n ≡
   abbrev behind : ℕ → List ℕ
   behind start = take (t.end - start) (drop start s)
 
-  split-here : (t.start + n ≡ t.end → ⊥) → split (get_or ds 2 0) rest ≡ here ∷ split (get_or ds 2 0) (behind (t.start + n + 1))
-  split-here h =
+  split_here : (t.start + n ≡ t.end → ⊥) → split (get_or ds 2 0) rest ≡ here ∷ split (get_or ds 2 0) (behind (t.start + n + 1))
+  split_here h =
       let i = step_in in
-      let l = rest-length in
+      let l = rest_length in
       let e : n ≡ t.start + n - t.start = omega arith in
       let k : n ≤ t.end - t.start = omega arith in
       let g : t.start + n < t.end = omega (arith, h) in
@@ -212,20 +212,20 @@ module _ (ds s : List ℕ) (t : Turn) (goes : Goes s t) (n : ℕ) (found : n ≡
       (sym (rest_of rest (n + 1)) ∙ piece_of_piece s t.start (t.end - t.start) (n + 1) (length rest - (n + 1)) (omega arith)
       ∙ ap (λ (j : ℕ). take j (drop (t.start + (n + 1)) s)) b ∙ ap (λ (j : ℕ). take (t.end - (t.start + n + 1)) (drop j s)) a)
 
-  split-end : t.start + n ≡ t.end → split (get_or ds 2 0) rest ≡ here ∷ []
-  split-end h =
-      let l = rest-length in
+  split_end : t.start + n ≡ t.end → split (get_or ds 2 0) rest ≡ here ∷ []
+  split_end h =
+      let l = rest_length in
       let e : t.end - t.start ≡ t.start + n - t.start = omega arith in
-      split-last (get_or ds 2 0) rest (omega arith) ∙ ap (λ (j : ℕ). take j (drop t.start s) ∷ []) e
+      split_last (get_or ds 2 0) rest (omega arith) ∙ ap (λ (j : ℕ). take j (drop t.start s) ∷ []) e
 
   abbrev checks : List (List ℕ) → Check
   checks rs = in_order (repetition_checks ds t.component t.kind t.repetition rs)
 
-  pub step-asks : (r : Turn) → r.start ≡ t.start + n + 1 → r.end ≡ t.end → r.repetition ≡ t.repetition + 1 → r.component ≡ t.component → r.kind ≡ t.kind
+  pub step_asks : (r : Turn) → r.start ≡ t.start + n + 1 → r.end ≡ t.end → r.repetition ≡ t.repetition + 1 → r.component ≡ t.component → r.kind ≡ t.kind
       → r.found ≡ repetition_check ds t.component t.kind t.repetition here
       → left_of ds s t ≡ or_else r.found (left_of ds s r)
   unfolding repetition_checks
-  step-asks r q1 q2 q3 q4 q5 q6 = rw (q6, q1, q2, q3, q4, q5) (by (eqb (t.start + n) t.end) refl)
+  step_asks r q1 q2 q3 q4 q5 q6 = rw (q6, q1, q2, q3, q4, q5) (by (eqb (t.start + n) t.end) refl)
     where
       by : (b : Bool) → eqb (t.start + n) t.end ≡ b
           → cond (leb t.start t.end) (checks (split (get_or ds 2 0) rest)) Passes
@@ -234,29 +234,29 @@ module _ (ds s : List ℕ) (t : Turn) (goes : Goes s t) (n : ℕ) (found : n ≡
       by true e =
           let h = eqb-true (t.start + n) t.end e in
           let g : t.end < t.start + n + 1 = omega arith in
-          rw (le-leb t.start t.end goes.ordered, lt-leb (t.start + n + 1) t.end g) (ap checks (split-end h))
+          rw (le-leb t.start t.end goes.ordered, lt-leb (t.start + n + 1) t.end g) (ap checks (split_end h))
       by false e =
           let h = eqb-false (t.start + n) t.end e in
           let i = step_in in
           let g : t.start + n + 1 ≤ t.end = omega (arith, h) in
-          rw (le-leb t.start t.end goes.ordered, le-leb (t.start + n + 1) t.end g) (ap checks (split-here h))
+          rw (le-leb t.start t.end goes.ordered, le-leb (t.start + n + 1) t.end g) (ap checks (split_here h))
 
 -- ---- a row begun
 
 -- the first of the repetitions of a field that is there
-first-state : (ds : List ℕ) (component : ℕ) (sep : ℕ) (field : List ℕ) → first_state ds component (split sep field) ≡ part_state ds component (take (find sep field) field)
-first-state ds component sep field = of (split sep field) (split-some sep field) ∙ ap (part_state ds component) (first_part sep field)
+first_state_lem : (ds : List ℕ) (component : ℕ) (sep : ℕ) (field : List ℕ) → first_state ds component (split sep field) ≡ part_state ds component (take (find sep field) field)
+first_state_lem ds component sep field = of (split sep field) (split_some sep field) ∙ ap (part_state ds component) (first_part sep field)
   where
     of : (rs : List (List ℕ)) → 1 ≤ length rs → first_state ds component rs ≡ part_state ds component (get_or rs 0 [])
     of [] h = absurd (omega arith)
     of (r ∷ rs) h = refl
 
 -- where any bytes pass, all repetitions do
-any-passes : (ds : List ℕ) (component : ℕ) (kind : Kind) → is_any kind ≡ true → (number : ℕ) (rs : List (List ℕ)) → in_order (repetition_checks ds component kind number rs) ≡ Passes
+any_passes : (ds : List ℕ) (component : ℕ) (kind : Kind) → is_any kind ≡ true → (number : ℕ) (rs : List (List ℕ)) → in_order (repetition_checks ds component kind number rs) ≡ Passes
 unfolding repetition_checks repetition_check form_check
-any-passes ds component kind e number [] = refl
-any-passes ds component kind e number (r ∷ rs) =
-    passes-or (one kind e) (in_order (repetition_checks ds component kind (number + 1) rs)) ∙ any-passes ds component kind e (number + 1) rs
+any_passes ds component kind e number [] = refl
+any_passes ds component kind e number (r ∷ rs) =
+    passes_or (one kind e) (in_order (repetition_checks ds component kind (number + 1) rs)) ∙ any_passes ds component kind e (number + 1) rs
   where
     whatever : (t : Bool) → cond t Passes Passes ≡ Passes
     whatever true = refl
@@ -264,18 +264,18 @@ any-passes ds component kind e number (r ∷ rs) =
 
     one : (kind : Kind) → is_any kind ≡ true → repetition_check ds component kind number r ≡ Passes
     one Any q = whatever (is_present (part_state ds component r))
-    one Identifier q = false-true q
-    one Ts q = false-true q
-    one Si q = false-true q
-    one Nm q = false-true q
-    one Dt q = false-true q
-    one Tm q = false-true q
-    one (OneOf values) q = false-true q
-    one (AsField f) q = false-true q
+    one Identifier q = false_true q
+    one Ts q = false_true q
+    one Si q = false_true q
+    one Nm q = false_true q
+    one Dt q = false_true q
+    one Tm q = false_true q
+    one (OneOf values) q = false_true q
+    one (AsField f) q = false_true q
 
 -- so none are left to be judged
-pub left-any : (ds s : List ℕ) (t r : Turn) → r.start ≡ cond (is_any t.kind) (t.end + 1) t.start → r.end ≡ t.end → r.repetition ≡ t.repetition → r.component ≡ t.component → r.kind ≡ t.kind → left_of ds s t ≡ left_of ds s r
-left-any ds s t r q1 q2 q3 q4 q5 = at (is_any t.kind) refl
+pub left_any : (ds s : List ℕ) (t r : Turn) → r.start ≡ cond (is_any t.kind) (t.end + 1) t.start → r.end ≡ t.end → r.repetition ≡ t.repetition → r.component ≡ t.component → r.kind ≡ t.kind → left_of ds s t ≡ left_of ds s r
+left_any ds s t r q1 q2 q3 q4 q5 = at (is_any t.kind) refl
   where
     checks : Check
     checks = in_order (repetition_checks ds t.component t.kind t.repetition (split (get_or ds 2 0) (take (t.end - t.start) (drop t.start s))))
@@ -287,7 +287,7 @@ left-any ds s t r q1 q2 q3 q4 q5 = at (is_any t.kind) refl
     at : (b : Bool) → is_any t.kind ≡ b → left_of ds s t ≡ left_of ds s r
     at true e =
         let g : r.end < r.start = omega (arith, q1 ∙ ap (λ (c : Bool). cond c (t.end + 1) t.start) e, q2) in
-        whatever (leb t.start t.end) (any-passes ds t.component t.kind e t.repetition _) ∙ sym (rw (lt-leb r.start r.end g))
+        whatever (leb t.start t.end) (any_passes ds t.component t.kind e t.repetition _) ∙ sym (rw (lt-leb r.start r.end g))
     at false e = rw (q1 ∙ ap (λ (c : Bool). cond c (t.end + 1) t.start) e, q2, q3, q4, q5)
 
 module _ (ds s : List ℕ) (number : ℕ) (row : Row) (f : Sought) (finds : Finds ds s (field_bytes ds s number row.field) f) where
@@ -341,7 +341,7 @@ module _ (ds s : List ℕ) (number : ℕ) (row : Row) (f : Sought) (finds : Find
       ≡ or_else (sent_check row (part_state ds row.component opening) (ltb f.first f.end)) later
   unfolding sent_check
   sent_is later =
-      ap (λ (k : State). or_else (required_check row.required k) (or_else (repeated_check row.repeats repetitions) later)) (first-state ds row.component (get_or ds 2 0) field ∙ ap (part_state ds row.component) opening_is)
+      ap (λ (k : State). or_else (required_check row.required k) (or_else (repeated_check row.repeats repetitions) later)) (first_state_lem ds row.component (get_or ds 2 0) field ∙ ap (part_state ds row.component) opening_is)
       ∙ ap (λ (b : Bool). or_else (required_check row.required (part_state ds row.component opening)) (or_else (fails_if (not row.repeats && b) Repeated 1) later)) many_is
       ∙ assoc (required_check row.required (part_state ds row.component opening)) (fails_if (not row.repeats && ltb f.first f.end) Repeated 1) later
 
@@ -359,23 +359,23 @@ module _ (ds s : List ℕ) (number : ℕ) (row : Row) (f : Sought) (finds : Find
       rw (le-leb f.start f.end (omega arith), finds.bytes)
 
   -- a row whose type is said, with all its repetitions left
-  pub said-asks : (said : List ℕ) → asked said ≡ or_else (opening_check ds row said opening (ltb f.first f.end) repetitions) (left_of ds s (whole (component_of row said) (kind_of row.kind said)))
+  pub said_asks : (said : List ℕ) → asked said ≡ or_else (opening_check ds row said opening (ltb f.first f.end) repetitions) (left_of ds s (whole (component_of row said) (kind_of row.kind said)))
   unfolding row_check opening_check
-  said-asks said =
+  said_asks said =
       sent_is (or_else (said_check ds row.kind said repetitions) (in_order (repetition_checks ds (component_of row said) (kind_of row.kind said) 1 repetitions)))
       ∙ assoc (sent_check row (part_state ds row.component opening) (ltb f.first f.end)) (said_check ds row.kind said repetitions) (in_order (repetition_checks ds (component_of row said) (kind_of row.kind said) 1 repetitions))
       ∙ ap (or_else (or_else (sent_check row (part_state ds row.component opening) (ltb f.first f.end)) (said_check ds row.kind said repetitions))) (all_left (component_of row said) (kind_of row.kind said))
 
   -- a row that says its own type, with the repetitions behind the first left
-  abbrev behind-first : Turn
-  behind-first = record { cursor = f.cursor; found = Passes; start = f.first + 1; end = f.end; repetition = 2; component = row.component; kind = row.kind }
+  abbrev behind_first : Turn
+  behind_first = record { cursor = f.cursor; found = Passes; start = f.first + 1; end = f.end; repetition = 2; component = row.component; kind = row.kind }
 
-  pub own-asks : is_said row.kind ≡ false → length s + 1 < 2 ^ 64 → (said : List ℕ) → asked said ≡ or_else (own_check ds row opening (ltb f.first f.end)) (left_of ds s behind-first)
+  pub own_asks : is_said row.kind ≡ false → length s + 1 < 2 ^ 64 → (said : List ℕ) → asked said ≡ or_else (own_check ds row opening (ltb f.first f.end)) (left_of ds s behind_first)
   unfolding row_check own_check
-  own-asks own room said =
+  own_asks own room said =
       sent_is (or_else (said_check ds row.kind said repetitions) (in_order (repetition_checks ds (component_of row said) (kind_of row.kind said) 1 repetitions)))
       ∙ ap (or_else sent) (unsaid ∙ all_left row.component row.kind ∙ one)
-      ∙ assoc sent (repetition_check ds row.component row.kind 1 opening) (left_of ds s behind-first)
+      ∙ assoc sent (repetition_check ds row.component row.kind 1 opening) (left_of ds s behind_first)
     where
       sent : Check
       sent = sent_check row (part_state ds row.component opening) (ltb f.first f.end)
@@ -389,17 +389,17 @@ module _ (ds s : List ℕ) (number : ℕ) (row : Row) (f : Sought) (finds : Find
           let w = finds.within in
           record { ordered = omega arith; inside = finds.inside; counted = omega arith; room = room }
 
-      one : left_of ds s (whole row.component row.kind) ≡ or_else (repetition_check ds row.component row.kind 1 opening) (left_of ds s behind-first)
+      one : left_of ds s (whole row.component row.kind) ≡ or_else (repetition_check ds row.component row.kind 1 opening) (left_of ds s behind_first)
       one =
           let o = finds.ordered in
           let z : f.start + (f.first - f.start) ≡ f.first = omega arith in
           let n : f.start + (f.first - f.start) - f.start ≡ f.first - f.start = omega arith in
-          step-asks ds s (whole row.component row.kind) goes (f.first - f.start) (finds.opens ∙ ap (find (get_or ds 2 0)) (sym finds.bytes))
+          step_asks ds s (whole row.component row.kind) goes (f.first - f.start) (finds.opens ∙ ap (find (get_or ds 2 0)) (sym finds.bytes))
           (record { cursor = f.cursor; found = repetition_check ds row.component row.kind 1 opening; start = f.first + 1; end = f.end; repetition = 2; component = row.component; kind = row.kind })
           (ap (λ (i : ℕ). i + 1) (sym z)) refl refl refl refl (ap (λ (i : ℕ). repetition_check ds row.component row.kind 1 (take i (drop f.start s))) (sym n))
 
   -- a row that is begun as the code begins it
-  pub said-begins : (said : List ℕ) (found : Check) (start component : ℕ) (kind : Kind)
+  pub said_begins : (said : List ℕ) (found : Check) (start component : ℕ) (kind : Kind)
       → is_said row.kind ≡ true
       → said ≡ first_of ds s number (said_field row.kind)
       → found ≡ opening_check ds row said opening (ltb f.first f.end) (split (get_or ds 2 0) (take (f.end - f.start) (drop f.start s)))
@@ -407,30 +407,30 @@ module _ (ds s : List ℕ) (number : ℕ) (row : Row) (f : Sought) (finds : Find
       → component ≡ component_of row said
       → kind ≡ kind_of row.kind said
       → asked (said_bytes ds s number row.kind) ≡ or_else found (left_of ds s (record { cursor = f.cursor; found = found; start = start; end = f.end; repetition = 1; component = component; kind = kind }))
-  said-begins said found start component kind typed e o q1 q2 q3 =
+  said_begins said found start component kind typed e o q1 q2 q3 =
       ap asked (ap (λ (t : Bool). cond t (first_of ds s number (said_field row.kind)) []) typed ∙ sym e)
-      ∙ said-asks said
+      ∙ said_asks said
       ∙ ap₂ or_else
       (ap (λ (b : List ℕ). opening_check ds row said opening (ltb f.first f.end) (split (get_or ds 2 0) b)) (sym finds.bytes) ∙ sym o)
-      (left-any ds s (whole (component_of row said) (kind_of row.kind said)) (record { cursor = f.cursor; found = found; start = start; end = f.end; repetition = 1; component = component; kind = kind })
+      (left_any ds s (whole (component_of row said) (kind_of row.kind said)) (record { cursor = f.cursor; found = found; start = start; end = f.end; repetition = 1; component = component; kind = kind })
       (q1 ∙ ap (λ (k : Kind). cond (is_any k) (f.end + 1) f.start) q3) refl refl q2 q3)
 
-  pub own-begins : (found : Check) (start : ℕ)
+  pub own_begins : (found : Check) (start : ℕ)
       → is_said row.kind ≡ false
       → length s + 1 < 2 ^ 64
       → found ≡ own_check ds row opening (ltb f.first f.end)
       → start ≡ cond (is_any row.kind) (f.end + 1) (f.first + 1)
       → asked (said_bytes ds s number row.kind) ≡ or_else found (left_of ds s (record { cursor = f.cursor; found = found; start = start; end = f.end; repetition = 2; component = row.component; kind = row.kind }))
-  own-begins found start own room o q =
-      own-asks own room (said_bytes ds s number row.kind)
+  own_begins found start own room o q =
+      own_asks own room (said_bytes ds s number row.kind)
       ∙ ap₂ or_else (sym o)
-      (left-any ds s behind-first (record { cursor = f.cursor; found = found; start = start; end = f.end; repetition = 2; component = row.component; kind = row.kind }) q refl refl refl refl)
+      (left_any ds s behind_first (record { cursor = f.cursor; found = found; start = start; end = f.end; repetition = 2; component = row.component; kind = row.kind }) q refl refl refl refl)
 
 -- where the repetitions that are left begin
-pub left-most : (b : Bool) (start end : ℕ) → start ≤ end + 1 → cond b (end + 1) start ≤ end + 1
-left-most true start end h = omega arith
-left-most false start end h = h
+pub left_most : (b : Bool) (start end : ℕ) → start ≤ end + 1 → cond b (end + 1) start ≤ end + 1
+left_most true start end h = omega arith
+left_most false start end h = h
 
-pub left-least : (b : Bool) (start end : ℕ) → 1 ≤ start → 1 ≤ cond b (end + 1) start
-left-least true start end h = omega arith
-left-least false start end h = h
+pub left_least : (b : Bool) (start end : ℕ) → 1 ≤ start → 1 ≤ cond b (end + 1) start
+left_least true start end h = omega arith
+left_least false start end h = h

@@ -15,18 +15,18 @@ use Rattle.alphabet.specs.Parts.{split, part_at}
 use Rattle.alphabet.specs.declared.parts.Part.{Part}
 use Rattle.alphabet.specs.declared.parts.Part.TheVariants.{At, Absent}
 use Rattle.alphabet.proofs.ListLaws.{piece_of_piece}
-use Rattle.alphabet.proofs.PartLaws.{split-nothing, part_bytes_lem, past_none, none_past}
+use Rattle.alphabet.proofs.PartLaws.{split_nothing, part_bytes_lem, past_none, none_past}
 use Rattle.reading.specs.Segments.{delimiters_of, field_separator}
 use Rattle.element.specs.States.{state_of}
 use Rattle.element.specs.declared.states.State.TheVariants.{Absent, Empty}
 use Rattle.element.specs.Levels.{between, part_in, fixed, field_in}
-use Rattle.element.proofs.LevelLaws.{between-length, in-at, in-none, field_other, field_header}
+use Rattle.element.proofs.LevelLaws.{between_length, in_at, in_none, field_other, field_header}
 use Rattle.rules.specs.Rules.{judged_part, part_state, repetition_check, repetition_checks, required_check, some_present, is_said, said_field, kind_of, component_of, row_check}
 use Rattle.fields.specs.Judging.{repetitions_in, repetitions_of, said_in}
 use Rattle.fields.specs.Walk.{field_bytes, said_bytes}
 use Rattle.field_table.specs.declared.Kind.{Kind}
 use Rattle.field_table.specs.declared.Row.{Row}
-use Rattle.fields.proofs.CursorLaws.{bytes-other, bytes-fixed, bytes-header}
+use Rattle.fields.proofs.CursorLaws.{bytes_other, bytes_fixed, bytes_header}
 
 -- ---- an absent field is judged as one with no bytes
 
@@ -36,25 +36,25 @@ nothing_part ds zero = refl
 nothing_part ds (suc zero) = refl
 nothing_part ds (suc (suc k)) = refl
 
-pub nothing-state : (ds : List ℕ) → state_of ds [] ≡ Empty
+pub nothing_state : (ds : List ℕ) → state_of ds [] ≡ Empty
 unfolding state_of first
-nothing-state ds = refl
+nothing_state ds = refl
 
-nothing-first : (ds : List ℕ) (required : Bool) (component : ℕ) → required_check required Absent ≡ required_check required (part_state ds component [])
-nothing-first ds required component = rw (nothing_part ds component, nothing-state ds)
+nothing_first : (ds : List ℕ) (required : Bool) (component : ℕ) → required_check required Absent ≡ required_check required (part_state ds component [])
+nothing_first ds required component = rw (nothing_part ds component, nothing_state ds)
 
-nothing-present : (ds : List ℕ) → some_present ds [] ≡ some_present ds ([] ∷ [])
+nothing_present : (ds : List ℕ) → some_present ds [] ≡ some_present ds ([] ∷ [])
 unfolding some_present
-nothing-present ds = rw (nothing-state ds)
+nothing_present ds = rw (nothing_state ds)
 
-nothing-passes : (ds : List ℕ) (component : ℕ) (kind : Kind) → in_order (repetition_checks ds component kind 1 []) ≡ in_order (repetition_checks ds component kind 1 ([] ∷ []))
+nothing_passes : (ds : List ℕ) (component : ℕ) (kind : Kind) → in_order (repetition_checks ds component kind 1 []) ≡ in_order (repetition_checks ds component kind 1 ([] ∷ []))
 unfolding repetition_checks repetition_check
-nothing-passes ds component kind = rw (nothing_part ds component, nothing-state ds)
+nothing_passes ds component kind = rw (nothing_part ds component, nothing_state ds)
 
-nothing-row : (ds : List ℕ) (row : Row) (said : List ℕ) → row_check ds row said [] ≡ row_check ds row said ([] ∷ [])
+nothing_row : (ds : List ℕ) (row : Row) (said : List ℕ) → row_check ds row said [] ≡ row_check ds row said ([] ∷ [])
 unfolding row_check
-nothing-row ds row said =
-    rw (nothing-first ds row.required row.component, nothing-present ds, nothing-passes ds (component_of row said) (kind_of row.kind said))
+nothing_row ds row said =
+    rw (nothing_first ds row.required row.component, nothing_present ds, nothing_passes ds (component_of row said) (kind_of row.kind said))
 
 -- ---- the repetitions of a part of the segment that stands from st to en
 
@@ -63,7 +63,7 @@ abbrev Alike : List (List ℕ) → List (List ℕ) → Type 0
 Alike rs rs' = (rs ≡ rs') ⊎ ((rs ≡ []) × (rs' ≡ [] ∷ []))
 
 alike_row : (ds : List ℕ) (row : Row) (said : List ℕ) (rs rs' : List (List ℕ)) → Alike rs rs' → row_check ds row said rs ≡ row_check ds row said rs'
-alike_row ds row said rs rs' = ⊎_elim (λ e. ap (row_check ds row said) e) (λ n. ap (row_check ds row said) n.0 ∙ nothing-row ds row said ∙ ap (row_check ds row said) (sym n.1))
+alike_row ds row said rs rs' = ⊎_elim (λ e. ap (row_check ds row said) e) (λ n. ap (row_check ds row said) n.0 ∙ nothing_row ds row said ∙ ap (row_check ds row said) (sym n.1))
 
 alike_first : (rs rs' : List (List ℕ)) → Alike rs rs' → get_or rs 0 [] ≡ get_or rs' 0 []
 alike_first rs rs' = ⊎_elim (λ e. ap (λ (ps : List (List ℕ)). get_or ps 0 []) e) (λ n. ap (λ (ps : List (List ℕ)). get_or ps 0 []) n.0 ∙ ap (λ (ps : List (List ℕ)). get_or ps 0 []) (sym n.1))
@@ -78,18 +78,18 @@ module _ (m : List ℕ) (st en : ℕ) (ordered : st ≤ en) (inside : en ≤ len
       at : (p : Part) → part_at (field_separator m) segment i ≡ p → Alike (repetitions_in m (part_in (field_separator m) m (At st en) i)) (split (get_or (delimiters_of m) 2 0) (get_or (split (field_separator m) segment) i []))
       at (At a b) q =
           let p = part_bytes_lem (field_separator m) segment i a b q in
-          let n = between-length m st en ordered inside in
+          let n = between_length m st en ordered inside in
           let p1 = p.1 in
           let p2 = p.2 in
           let e : (st + b) - (st + a) ≡ b - a = omega arith in
           inl
-          (ap (repetitions_in m) (in-at (field_separator m) m (At st en) i st en refl a b q)
+          (ap (repetitions_in m) (in_at (field_separator m) m (At st en) i st en refl a b q)
           ∙ ap (λ (k : ℕ). split (get_or (delimiters_of m) 2 0) (take k (drop (st + a) m))) e
           ∙ ap (split (get_or (delimiters_of m) 2 0)) (sym (piece_of_piece m st (en - st) a (b - a) (omega arith)) ∙ p.3))
       at Absent q =
           inr (
-            ap (repetitions_in m) (in-none (field_separator m) m (At st en) i st en refl q),
-            ap (split (get_or (delimiters_of m) 2 0)) (past_none (split (field_separator m) segment) i (none_past (field_separator m) segment i q)) ∙ split-nothing (get_or (delimiters_of m) 2 0),
+            ap (repetitions_in m) (in_none (field_separator m) m (At st en) i st en refl q),
+            ap (split (get_or (delimiters_of m) 2 0)) (past_none (split (field_separator m) segment) i (none_past (field_separator m) segment i q)) ∙ split_nothing (get_or (delimiters_of m) 2 0),
           )
 
   module _ (number : ℕ) where
@@ -107,17 +107,17 @@ module _ (m : List ℕ) (st en : ℕ) (ordered : st ≤ en) (inside : en ≤ len
         header z true l =
             inr (
               rw (eq-eqb number 0 z, l),
-              ap (split (get_or (delimiters_of m) 2 0)) (bytes-fixed (delimiters_of m) segment number f z (leb-true f 2 l)) ∙ split-nothing (get_or (delimiters_of m) 2 0),
+              ap (split (get_or (delimiters_of m) 2 0)) (bytes_fixed (delimiters_of m) segment number f z (leb-true f 2 l)) ∙ split_nothing (get_or (delimiters_of m) 2 0),
             )
         header z false l =
             let g = leb-false f 2 l in
-            from_part f (f - 1) (rw (eq-eqb number 0 z, l)) (field_header m number (At st en) f z (λ e. omega arith)) (bytes-header (delimiters_of m) segment number f z (omega arith))
+            from_part f (f - 1) (rw (eq-eqb number 0 z, l)) (field_header m number (At st en) f z (λ e. omega arith)) (bytes_header (delimiters_of m) segment number f z (omega arith))
 
         at : (t : Bool) → eqb number 0 ≡ t → Agrees f
         at true e = header (eqb-true number 0 e) (leb f 2) refl
         at false e =
             let z = eqb-false number 0 e in
-            from_part f f (rw e) (field_other m number (At st en) f z) (bytes-other (delimiters_of m) segment number f z)
+            from_part f f (rw e) (field_other m number (At st en) f z) (bytes_other (delimiters_of m) segment number f z)
 
     said_agrees : (kind : Kind) → said_in m number (At st en) kind ≡ said_bytes (delimiters_of m) segment number kind
     said_agrees kind =

@@ -19,7 +19,7 @@ use Rattle.alphabet.specs.declared.answers.Check.TheVariants.{Passes, Fails}
 use Rattle.alphabet.specs.declared.answers.Refusal.{Refusal}
 use Rattle.alphabet.specs.declared.parts.Part.TheVariants.{At}
 use Rattle.reading.specs.Segments.{all_but_last, segments, delimiters_of}
-use Rattle.reading.proofs.SegmentLaws.{segments_walk, segments-over}
+use Rattle.reading.proofs.SegmentLaws.{segments_walk, segments_over}
 use Rattle.field_table.specs.Table.{no_row}
 use Rattle.rules.specs.Rules.{row_check}
 use Rattle.fields.specs.Judging.{Fault, Sound, Faulty, name_at, said_in, repetitions_of, located, or_fault, first_fault, row_fault, segment_fault, segment_faults, judging}
@@ -39,34 +39,34 @@ segments_left rows m number start = first_fault (segment_faults rows m number st
 
 module _ (number field : ℕ) {c : Check} (rest : Fault) where
   -- a check that fails is the first fault, and one that passes none
-  pub own-stops : {kind : Refusal} {place : ℕ} → c ≡ Fails kind place → or_fault (located number field c) rest ≡ located number field c
-  own-stops e = rw e
+  pub own_stops : {kind : Refusal} {place : ℕ} → c ≡ Fails kind place → or_fault (located number field c) rest ≡ located number field c
+  own_stops e = rw e
 
-  pub own-passes : c ≡ Passes → or_fault (located number field c) rest ≡ rest
-  own-passes e = rw e
+  pub own_passes : c ≡ Passes → or_fault (located number field c) rest ≡ rest
+  own_passes e = rw e
 
 -- ---- the rows
 
-first-cons : (f : Fault) (later : List Fault) → first_fault (f ∷ later) ≡ or_fault f (first_fault later)
+first_cons : (f : Fault) (later : List Fault) → first_fault (f ∷ later) ≡ or_fault f (first_fault later)
 unfolding first_fault
-first-cons f later = refl
+first_cons f later = refl
 
-first-none : first_fault [] ≡ Sound
+first_none : first_fault [] ≡ Sound
 unfolding first_fault
-first-none = refl
+first_none = refl
 
 rows_next : (rows : List Row) (f : Row → Fault) (index : ℕ) → index < length rows → first_fault (map f (drop index rows)) ≡ or_fault (f (get_or rows index no_row)) (first_fault (map f (drop (index + 1) rows)))
 rows_next rows f index h =
     ap (λ (rs : List Row). first_fault (map f rs)) (drop-cons rows index no_row h)
-    ∙ first-cons (f (get_or rows index no_row)) (map f (drop (suc index) rows))
+    ∙ first_cons (f (get_or rows index no_row)) (map f (drop (suc index) rows))
     ∙ ap (λ (k : ℕ). or_fault (f (get_or rows index no_row)) (first_fault (map f (drop k rows)))) (sym (add-one index))
 
 pub rows_all : (rows : List Row) (ds : List ℕ) (number : ℕ) (s : List ℕ) → judged_in rows ds number s ≡ rows_left rows ds number s 0
 unfolding judged_in
 rows_all rows ds number s = refl
 
-rows-over : (rows : List Row) (ds : List ℕ) (number : ℕ) (s : List ℕ) (index : ℕ) → length rows ≤ index → rows_left rows ds number s index ≡ Sound
-rows-over rows ds number s index h = ap (λ (rs : List Row). first_fault (map (row_fault_in ds number s) rs)) (drop_of_length-le rows h) ∙ first-none
+rows_over : (rows : List Row) (ds : List ℕ) (number : ℕ) (s : List ℕ) (index : ℕ) → length rows ≤ index → rows_left rows ds number s index ≡ Sound
+rows_over rows ds number s index h = ap (λ (rs : List Row). first_fault (map (row_fault_in ds number s) rs)) (drop_of_length-le rows h) ∙ first_none
 
 module _ (rows : List Row) (ds : List ℕ) (number : ℕ) (s : List ℕ) (index : ℕ) (h : index < length rows) (row : Row) (e : row ≡ get_or rows index no_row) where
   next : rows_left rows ds number s index ≡ or_fault (row_fault_in ds number s row) (rows_left rows ds number s (index + 1))
@@ -79,8 +79,8 @@ module _ (rows : List Row) (ds : List ℕ) (number : ℕ) (s : List ℕ) (index 
   row_other n = next ∙ ap (λ (t : Bool). or_fault (cond t (located number row.field (row_in ds s number row)) Sound) (rows_left rows ds number s (index + 1))) (ne_eqb row.segment (name_at number s) n)
 
   -- a row of this segment
-  pub row-own : row.segment ≡ name_at number s → rows_left rows ds number s index ≡ or_fault (located number row.field (row_in ds s number row)) (rows_left rows ds number s (index + 1))
-  row-own q = next ∙ ap (λ (t : Bool). or_fault (cond t (located number row.field (row_in ds s number row)) Sound) (rows_left rows ds number s (index + 1))) (eq-eqb row.segment (name_at number s) q)
+  pub row_own : row.segment ≡ name_at number s → rows_left rows ds number s index ≡ or_fault (located number row.field (row_in ds s number row)) (rows_left rows ds number s (index + 1))
+  row_own q = next ∙ ap (λ (t : Bool). or_fault (cond t (located number row.field (row_in ds s number row)) Sound) (rows_left rows ds number s (index + 1))) (eq-eqb row.segment (name_at number s) q)
 
 module _ (rows : List Row) (ds : List ℕ) (number : ℕ) (s : List ℕ) where
   go_before : (first : ℕ) → first ≤ length rows → ((index : ℕ) → index < first → (get_or rows index no_row).segment ≡ name_at number s → ⊥) → rows_left rows ds number s 0 ≡ rows_left rows ds number s first
@@ -97,12 +97,12 @@ module _ (rows : List Row) (ds : List ℕ) (number : ℕ) (s : List ℕ) where
   -- the rows from one on from which none is of this segment
   module _ {last : ℕ} (n : NoneFrom rows (name_at number s) last) where
     go_from : (count index : ℕ) → last ≤ index → length rows ≤ index + count → rows_left rows ds number s index ≡ Sound
-    go_from zero index g h = rows-over rows ds number s index (omega arith)
+    go_from zero index g h = rows_over rows ds number s index (omega arith)
     go_from (suc count) index g h = at (go_from count (index + 1) (omega arith) (omega arith)) (dec_lt index (length rows))
       where
         at : rows_left rows ds number s (index + 1) ≡ Sound → Dec (index < length rows) → rows_left rows ds number s index ≡ Sound
         at later (yes l) = row_other rows ds number s index l (get_or rows index no_row) refl (n.others index g l) ∙ later
-        at later (no l) = rows-over rows ds number s index (omega arith)
+        at later (no l) = rows_over rows ds number s index (omega arith)
 
     pub rows_from : (index : ℕ) → last ≤ index → rows_left rows ds number s index ≡ Sound
     rows_from index g = go_from (length rows) index g (omega arith)
@@ -112,15 +112,15 @@ module _ (rows : List Row) (name : ℕ) where
   none_yet = record { inside = omega arith; others = λ index h. absurd (omega arith) }
 
   -- one row of another name on
-  pub none-next : (first : ℕ) → first < length rows → NoneBefore rows name first → ((get_or rows first no_row).segment ≡ name → ⊥) → NoneBefore rows name (first + 1)
-  none-next first h n other = record { inside = omega arith; others = λ index g. at index g (dec_lt index first) }
+  pub none_next : (first : ℕ) → first < length rows → NoneBefore rows name first → ((get_or rows first no_row).segment ≡ name → ⊥) → NoneBefore rows name (first + 1)
+  none_next first h n other = record { inside = omega arith; others = λ index g. at index g (dec_lt index first) }
     where
       at : (index : ℕ) → index < first + 1 → Dec (index < first) → (get_or rows index no_row).segment ≡ name → ⊥
       at index g (yes l) q = n.others index l q
       at index g (no l) q = let e : first ≡ index = omega arith in other (ap (λ (k : ℕ). (get_or rows k no_row).segment) e ∙ q)
 
-  pub none-behind : NoneFrom rows name (length rows)
-  none-behind = record { inside = omega arith; others = λ index g h. absurd (omega arith) }
+  pub none_behind : NoneFrom rows name (length rows)
+  none_behind = record { inside = omega arith; others = λ index g h. absurd (omega arith) }
 
   -- one row of another name back
   pub none_back : (last : ℕ) → 0 < last → NoneFrom rows name last → ((get_or rows (last - 1) no_row).segment ≡ name → ⊥) → NoneFrom rows name (last - 1)
@@ -132,22 +132,22 @@ module _ (rows : List Row) (name : ℕ) where
 
 -- ---- the segments
 
-pub segments-start : (rows : List Row) (m : List ℕ) → judging rows m ≡ segments_left rows m 0 0
+pub segments_start : (rows : List Row) (m : List ℕ) → judging rows m ≡ segments_left rows m 0 0
 unfolding judging segments
-segments-start rows m = refl
+segments_start rows m = refl
 
 module _ (rows : List Row) (m : List ℕ) (number start : ℕ) where
-  pub segments-none : length m ≤ start + find carriage_return (drop start m) → segments_left rows m number start ≡ Sound
+  pub segments_none : length m ≤ start + find carriage_return (drop start m) → segments_left rows m number start ≡ Sound
   unfolding segment_faults
-  segments-none h = rw (segments-over m start h) first-none
+  segments_none h = rw (segments_over m start h) first_none
 
   -- the segment from `start` up to `end`, by its bytes, and those behind it
   module _ (end : ℕ) (f : end ≡ start + find carriage_return (drop start m)) (h : end < length m) (ds : List ℕ) (delimiters : ds ≡ delimiters_of m) where
     abbrev segment : List ℕ
     segment = take (end - start) (drop start m)
 
-    segment-length : start + length segment ≡ end
-    segment-length =
+    segment_length : start + length segment ≡ end
+    segment_length =
         let d = length-drop start m in
         let t = length-take-le (end - start) (drop start m) (omega arith) in
         omega arith
@@ -155,7 +155,7 @@ module _ (rows : List Row) (m : List ℕ) (number start : ℕ) where
     row_same : (row : Row) → row_fault m number (At start (start + length segment)) segment row ≡ row_fault_in ds number segment row
     unfolding row_fault
     row_same row =
-        ap (λ (k : ℕ). cond (eqb row.segment (name_at number segment)) (located number row.field (row_check (delimiters_of m) row (said_in m number (At start k) row.kind) (repetitions_of m number (At start k) row.field))) Sound) segment-length
+        ap (λ (k : ℕ). cond (eqb row.segment (name_at number segment)) (located number row.field (row_check (delimiters_of m) row (said_in m number (At start k) row.kind) (repetitions_of m number (At start k) row.field))) Sound) segment_length
         ∙ ap (λ (c : Check). cond (eqb row.segment (name_at number segment)) (located number row.field c) Sound) (row_agrees m start end (omega arith) (omega arith) number row)
         ∙ ap (λ (d : List ℕ). row_fault_in d number segment row) (sym delimiters)
 
@@ -163,11 +163,11 @@ module _ (rows : List Row) (m : List ℕ) (number start : ℕ) where
     rows_same [] = refl
     rows_same (row ∷ rest) = ap₂ ◌∷◌ (row_same row) (rows_same rest)
 
-    pub segment-next : segments_left rows m number start ≡ or_fault (judged_in rows ds number segment) (segments_left rows m (number + 1) (end + 1))
+    pub segment_next : segments_left rows m number start ≡ or_fault (judged_in rows ds number segment) (segments_left rows m (number + 1) (end + 1))
     unfolding segment_faults judged_in
-    segment-next =
-        let e : start + length segment + 1 ≡ end + 1 = ap (λ (k : ℕ). k + 1) segment-length in
+    segment_next =
+        let e : start + length segment + 1 ≡ end + 1 = ap (λ (k : ℕ). k + 1) segment_length in
         rw (segments_walk m start end f h)
-        (first-cons (segment_fault rows m number start segment) (segment_faults rows m (number + 1) (start + length segment + 1) (all_but_last (split carriage_return (drop (end + 1) m))))
+        (first_cons (segment_fault rows m number start segment) (segment_faults rows m (number + 1) (start + length segment + 1) (all_but_last (split carriage_return (drop (end + 1) m))))
         ∙ ap (λ (k : ℕ). or_fault (segment_fault rows m number start segment) (first_fault (segment_faults rows m (number + 1) k (all_but_last (split carriage_return (drop (end + 1) m)))))) e
         ∙ ap (λ (fs : List Fault). or_fault (first_fault fs) (segments_left rows m (number + 1) (end + 1))) (rows_same rows))

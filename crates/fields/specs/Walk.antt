@@ -110,6 +110,6 @@ pub record NoneFrom (rows : List Row) (name last : ℕ) : Type 0 where
 -- the place of a field, counted from `base`, that is split and whose end is noted
 pub record Indexed (field base most index : ℕ) : Type 0 where
   pub counted : index + base ≡ field
-  pub split-on : base + base < field
+  pub split_on : base + base < field
   pub noted : index ≤ most
   pub room : index < 16

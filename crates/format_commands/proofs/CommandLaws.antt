@@ -14,7 +14,7 @@ use Rattle.alphabet.specs.Bytes.{digit}
 use Rattle.alphabet.specs.Digits.{all_digits, counted, decimal}
 use Rattle.alphabet.specs.Bytes.{ascii}
 use Rattle.alphabet.specs.Lists.{same}
-use Rattle.alphabet.proofs.ListLaws.{same-unlike}
+use Rattle.alphabet.proofs.ListLaws.{same_unlike}
 use Rattle.alphabet.proofs.DigitLaws.{counted_next}
 use Rattle.format_commands.specs.Commands.{past_if, digits_of, signed_of, number_of, numbered, order_of, command, is_order, held_size, held_amount, held_number, held_order}
 use Rattle.format_commands.specs.declared.numbers.Amount.{Amount}
@@ -53,8 +53,8 @@ held_cases n = at (ltb n 201) refl
     at true e = inl (ltb-true n 201 e, held_below n (ltb-true n 201 e))
     at false e = inr (ltb-false n 201 e, held_above n (ltb-false n 201 e))
 
-pub held-most : (n : ℕ) → held_size n ≤ 201
-held-most n =
+pub held_most : (n : ℕ) → held_size n ≤ 201
+held_most n =
     ⊎_elim (λ (h : (n < 201) × (held_size n ≡ n)). let a = h.0 in let b = h.1 in omega arith)
     (λ (h : (201 ≤ n) × (held_size n ≡ 201)). let b = h.1 in omega arith) (held_cases n)
 
@@ -65,8 +65,8 @@ unfolding counted
 counted_grows n [] = omega arith
 counted_grows n (d ∷ r) = let z = counted_grows (n * 10 + (d - 48)) r in omega arith
 
-pub held-counted : (n : ℕ) (l : List ℕ) → held_size (counted (held_size n) l) ≡ held_size (counted n l)
-held-counted n l =
+pub held_counted : (n : ℕ) (l : List ℕ) → held_size (counted (held_size n) l) ≡ held_size (counted n l)
+held_counted n l =
     ⊎_elim (λ (h : (n < 201) × (held_size n ≡ n)). ap (λ (k : ℕ). held_size (counted k l)) h.1)
     (λ (h : (201 ≤ n) × (held_size n ≡ 201)).
     let a = h.0 in
@@ -74,10 +74,10 @@ held-counted n l =
     let y = counted_grows n l in
     ap (λ (k : ℕ). held_size (counted k l)) h.1 ∙ held_above (counted 201 l) x ∙ sym (held_above (counted n l) (omega arith))) (held_cases n)
 
-pub digits-none : (m : Bool) (l : List ℕ) → length l ≡ 0 → held_number (digits_of m l) ≡ Missing
+pub digits_none : (m : Bool) (l : List ℕ) → length l ≡ 0 → held_number (digits_of m l) ≡ Missing
 unfolding digits_of held_number
-digits-none m [] h = refl
-digits-none m (d ∷ r) h = absurd (omega arith)
+digits_none m [] h = refl
+digits_none m (d ∷ r) h = absurd (omega arith)
 
 pub digits_bad : (m : Bool) (l : List ℕ) → all_digits l ≡ false → held_number (digits_of m l) ≡ Missing
 unfolding digits_of held_number
@@ -91,22 +91,22 @@ digits_good m (d ∷ r) h e = rw e
 
 -- ---- held numbers
 
-pub held-own : (n : ℕ) → n ≤ 201 → held_size n ≡ n
-held-own n k =
+pub held_own : (n : ℕ) → n ≤ 201 → held_size n ≡ n
+held_own n k =
     ⊎_elim (λ (h : (n < 201) × (held_size n ≡ n)). h.1)
     (λ (h : (201 ≤ n) × (held_size n ≡ 201)). let a = h.0 in let b = h.1 in omega arith) (held_cases n)
 
 -- the number so far, with one digit more
-pub held-digit : (l : List ℕ) (i n m : ℕ) → i < length l → m ≡ held_size (n * 10 + (get_or l i 0 - 48))
+pub held_digit : (l : List ℕ) (i n m : ℕ) → i < length l → m ≡ held_size (n * 10 + (get_or l i 0 - 48))
     → held_size (counted n (drop i l)) ≡ held_size (counted m (drop (i + 1) l))
-held-digit l i n m h e =
-    ap held_size (counted_next l i h n) ∙ sym (held-counted (n * 10 + (get_or l i 0 - 48)) (drop (i + 1) l)) ∙ ap (λ (k : ℕ). held_size (counted k (drop (i + 1) l))) (sym e)
+held_digit l i n m h e =
+    ap held_size (counted_next l i h n) ∙ sym (held_counted (n * 10 + (get_or l i 0 - 48)) (drop (i + 1) l)) ∙ ap (λ (k : ℕ). held_size (counted k (drop (i + 1) l))) (sym e)
 
 -- a sequence held is the sequence of a number held
-pub held-numbered : (name : List ℕ) (n : Number) → numbered name (held_number n) ≡ held_order (numbered name n)
+pub held_numbered : (name : List ℕ) (n : Number) → numbered name (held_number n) ≡ held_order (numbered name n)
 unfolding numbered held_number held_order
-held-numbered name Missing = refl
-held-numbered name (Given a) = at (same name (ascii ".sp")) (same name (ascii ".sk")) (same name (ascii ".in")) (same name (ascii ".ti"))
+held_numbered name Missing = refl
+held_numbered name (Given a) = at (same name (ascii ".sp")) (same name (ascii ".sk")) (same name (ascii ".in")) (same name (ascii ".ti"))
   where
     at : (t u v w : Bool)
         → cond t (Down (held_amount a)) (cond u (Across (held_amount a)) (cond v (Margin (held_amount a)) (cond w (Once (held_amount a)) Unknown)))
@@ -117,33 +117,33 @@ held-numbered name (Given a) = at (same name (ascii ".sp")) (same name (ascii ".
     at false false false true = refl
     at false false false false = refl
 
-pub known-held : (o : Order) → is_order (held_order o) ≡ is_order o
+pub known_held : (o : Order) → is_order (held_order o) ≡ is_order o
 unfolding held_order
-known-held Unknown = refl
-known-held Highlight = refl
-known-held Break = refl
-known-held Centre = refl
-known-held Fill = refl
-known-held Unfill = refl
-known-held (Down a) = refl
-known-held (Across a) = refl
-known-held (Margin a) = refl
-known-held (Once a) = refl
+known_held Unknown = refl
+known_held Highlight = refl
+known_held Break = refl
+known_held Centre = refl
+known_held Fill = refl
+known_held Unfill = refl
+known_held (Down a) = refl
+known_held (Across a) = refl
+known_held (Margin a) = refl
+known_held (Once a) = refl
 
 -- whether a sequence is a command, told by what it asks for, held
-pub command-held : (c : List ℕ) (o : Order) → o ≡ held_order (order_of c) → is_order o ≡ command c
+pub command_held : (c : List ℕ) (o : Order) → o ≡ held_order (order_of c) → is_order o ≡ command c
 unfolding command
-command-held c o e = ap is_order e ∙ known-held (order_of c)
+command_held c o e = ap is_order e ∙ known_held (order_of c)
 
 -- ---- by the length of a sequence
 
-and-true : (b : Bool) → (b && true) ≡ b
-and-true true = refl
-and-true false = refl
+and_true : (b : Bool) → (b && true) ≡ b
+and_true true = refl
+and_true false = refl
 
-pub name-same : (x y z one two : ℕ) → (eqb x 46 && (eqb y one && eqb z two)) ≡ same (x ∷ y ∷ z ∷ []) (46 ∷ one ∷ two ∷ [])
+pub name_same : (x y z one two : ℕ) → (eqb x 46 && (eqb y one && eqb z two)) ≡ same (x ∷ y ∷ z ∷ []) (46 ∷ one ∷ two ∷ [])
 unfolding same
-name-same x y z one two = ap (λ (b : Bool). eqb x 46 && (eqb y one && b)) (sym (and-true (eqb z two)))
+name_same x y z one two = ap (λ (b : Bool). eqb x 46 && (eqb y one && b)) (sym (and_true (eqb z two)))
 
 abbrev one : Amount
 one = record { minus = false; size = 1 }
@@ -161,14 +161,14 @@ letter_alone x = at (eqb x 72) (eqb x 78) (eqb x 46)
     at false false true = refl
     at false false false = refl
 
-pub letter-order : (x : ℕ) (r n : Order) → n ≡ cond (eqb x 78) Highlight Unknown → r ≡ cond (eqb x 72) Highlight n → r ≡ order_of (x ∷ [])
-letter-order x r n e f = f ∙ ap (cond (eqb x 72) Highlight) e ∙ sym (letter_alone x)
+pub letter_order : (x : ℕ) (r n : Order) → n ≡ cond (eqb x 78) Highlight Unknown → r ≡ cond (eqb x 72) Highlight n → r ≡ order_of (x ∷ [])
+letter_order x r n e f = f ∙ ap (cond (eqb x 72) Highlight) e ∙ sym (letter_alone x)
 
-held-letter : (t u : Bool) → held_order (cond t Highlight (cond u Highlight Unknown)) ≡ cond t Highlight (cond u Highlight Unknown)
+held_letter : (t u : Bool) → held_order (cond t Highlight (cond u Highlight Unknown)) ≡ cond t Highlight (cond u Highlight Unknown)
 unfolding held_order
-held-letter true u = refl
-held-letter false true = refl
-held-letter false false = refl
+held_letter true u = refl
+held_letter false true = refl
+held_letter false false = refl
 
 -- a name
 abbrev named : Bool → Bool → Bool → Bool → Bool → Order
@@ -180,29 +180,29 @@ module _ (x y z : ℕ) where
 
   pub name_alone : order_of (x ∷ y ∷ z ∷ []) ≡ named (is 98 114) (is 99 101) (is 102 105) (is 110 102) (is 115 112)
   unfolding order_of numbered number_of signed_of digits_of
-  name_alone = rw (same-unlike (x ∷ y ∷ z ∷ []) (72 ∷ []) (λ (e : 3 ≡ 1). omega arith), same-unlike (x ∷ y ∷ z ∷ []) (78 ∷ []) (λ (e : 3 ≡ 1). omega arith))
+  name_alone = rw (same_unlike (x ∷ y ∷ z ∷ []) (72 ∷ []) (λ (e : 3 ≡ 1). omega arith), same_unlike (x ∷ y ∷ z ∷ []) (78 ∷ []) (λ (e : 3 ≡ 1). omega arith))
 
-  pub numbered-name : (n : Amount) → numbered (x ∷ y ∷ z ∷ []) (Given n) ≡ cond (is 115 112) (Down n) (cond (is 115 107) (Across n) (cond (is 105 110) (Margin n) (cond (is 116 105) (Once n) Unknown)))
+  pub numbered_name : (n : Amount) → numbered (x ∷ y ∷ z ∷ []) (Given n) ≡ cond (is 115 112) (Down n) (cond (is 115 107) (Across n) (cond (is 105 110) (Margin n) (cond (is 116 105) (Once n) Unknown)))
   unfolding numbered
-  numbered-name n = refl
+  numbered_name n = refl
 
-held-named : (t u v w s : Bool) → held_order (named t u v w s) ≡ named t u v w s
+held_named : (t u v w s : Bool) → held_order (named t u v w s) ≡ named t u v w s
 unfolding held_order held_size
-held-named true u v w s = refl
-held-named false true v w s = refl
-held-named false false true w s = refl
-held-named false false false true s = refl
-held-named false false false false true = refl
-held-named false false false false false = refl
+held_named true u v w s = refl
+held_named false true v w s = refl
+held_named false false true w s = refl
+held_named false false false true s = refl
+held_named false false false false true = refl
+held_named false false false false false = refl
 
-held-name : (x y z : ℕ) → order_of (x ∷ y ∷ z ∷ []) ≡ held_order (order_of (x ∷ y ∷ z ∷ []))
-held-name x y z =
-    name_alone x y z ∙ sym (held-named (is x y z 98 114) (is x y z 99 101) (is x y z 102 105) (is x y z 110 102) (is x y z 115 112)) ∙ ap held_order (sym (name_alone x y z))
+held_name : (x y z : ℕ) → order_of (x ∷ y ∷ z ∷ []) ≡ held_order (order_of (x ∷ y ∷ z ∷ []))
+held_name x y z =
+    name_alone x y z ∙ sym (held_named (is x y z 98 114) (is x y z 99 101) (is x y z 102 105) (is x y z 110 102) (is x y z 115 112)) ∙ ap held_order (sym (name_alone x y z))
 
 -- what the code gives, by the length
 module _ (c : List ℕ) where
-  front-three : 3 ≤ length c → take 3 c ≡ get_or c 0 0 ∷ get_or c 1 0 ∷ get_or c 2 0 ∷ []
-  front-three h = by c h
+  front_three : 3 ≤ length c → take 3 c ≡ get_or c 0 0 ∷ get_or c 1 0 ∷ get_or c 2 0 ∷ []
+  front_three h = by c h
     where
       by : (l : List ℕ) → 3 ≤ length l → take 3 l ≡ get_or l 0 0 ∷ get_or l 1 0 ∷ get_or l 2 0 ∷ []
       by [] h = absurd (omega arith)
@@ -210,14 +210,14 @@ module _ (c : List ℕ) where
       by (x ∷ y ∷ []) h = absurd (omega arith)
       by (x ∷ y ∷ z ∷ r) h = refl
 
-  pub order-three : length c ≡ 3 → order_of (get_or c 0 0 ∷ get_or c 1 0 ∷ get_or c 2 0 ∷ []) ≡ held_order (order_of c)
-  order-three h =
-      held-name (get_or c 0 0) (get_or c 1 0) (get_or c 2 0) ∙ ap (λ (v : List ℕ). held_order (order_of v)) (sym (front-three (omega arith)) ∙ take_all 3 c (omega arith))
+  pub order_three : length c ≡ 3 → order_of (get_or c 0 0 ∷ get_or c 1 0 ∷ get_or c 2 0 ∷ []) ≡ held_order (order_of c)
+  order_three h =
+      held_name (get_or c 0 0) (get_or c 1 0) (get_or c 2 0) ∙ ap (λ (v : List ℕ). held_order (order_of v)) (sym (front_three (omega arith)) ∙ take_all 3 c (omega arith))
 
   pub order_one : length c ≡ 1 → order_of (get_or c 0 0 ∷ []) ≡ held_order (order_of c)
   order_one h =
       let e = letter_alone (get_or c 0 0) in
-      e ∙ sym (held-letter (eqb (get_or c 0 0) 72) (eqb (get_or c 0 0) 78)) ∙ ap held_order (sym e) ∙ ap (λ (v : List ℕ). held_order (order_of v)) (by c h)
+      e ∙ sym (held_letter (eqb (get_or c 0 0) 72) (eqb (get_or c 0 0) 78)) ∙ ap held_order (sym e) ∙ ap (λ (v : List ℕ). held_order (order_of v)) (by c h)
     where
       by : (l : List ℕ) → length l ≡ 1 → get_or l 0 0 ∷ [] ≡ l
       by [] h = absurd (omega arith)
@@ -225,16 +225,16 @@ module _ (c : List ℕ) where
       by (x ∷ y ∷ r) h = absurd (omega arith)
 
   -- no name, and no letter
-  rest-unlike : (length c ≡ 1 → ⊥) → (length c ≡ 3 → ⊥) → order_of c ≡ numbered (take 3 c) (number_of (drop 3 c))
+  rest_unlike : (length c ≡ 1 → ⊥) → (length c ≡ 3 → ⊥) → order_of c ≡ numbered (take 3 c) (number_of (drop 3 c))
   unfolding order_of
-  rest-unlike f g =
-      rw (same-unlike c (72 ∷ []) f, same-unlike c (78 ∷ []) f, same-unlike c (46 ∷ 98 ∷ 114 ∷ []) g, same-unlike c (46 ∷ 99 ∷ 101 ∷ []) g, same-unlike c (46 ∷ 102 ∷ 105 ∷ []) g, same-unlike c (46 ∷ 110 ∷ 102 ∷ []) g, same-unlike c (46 ∷ 115 ∷ 112 ∷ []) g)
+  rest_unlike f g =
+      rw (same_unlike c (72 ∷ []) f, same_unlike c (78 ∷ []) f, same_unlike c (46 ∷ 98 ∷ 114 ∷ []) g, same_unlike c (46 ∷ 99 ∷ 101 ∷ []) g, same_unlike c (46 ∷ 102 ∷ 105 ∷ []) g, same_unlike c (46 ∷ 110 ∷ 102 ∷ []) g, same_unlike c (46 ∷ 115 ∷ 112 ∷ []) g)
 
-  pub order-none : (length c ≡ 1 → ⊥) → (length c ≡ 3 → ⊥) → length c < 4 → Unknown ≡ held_order (order_of c)
+  pub order_none : (length c ≡ 1 → ⊥) → (length c ≡ 3 → ⊥) → length c < 4 → Unknown ≡ held_order (order_of c)
   unfolding held_order numbered number_of signed_of digits_of
-  order-none f g h = sym (ap held_order (rest-unlike f g ∙ ap (λ (l : List ℕ). numbered (take 3 c) (number_of l)) (drop_of_length-le c {i = 3} (omega arith))))
+  order_none f g h = sym (ap held_order (rest_unlike f g ∙ ap (λ (l : List ℕ). numbered (take 3 c) (number_of l)) (drop_of_length-le c {i = 3} (omega arith))))
 
-  pub order-more : (r : Order) (n : Number) → 4 ≤ length c → n ≡ held_number (number_of (drop 3 c)) → r ≡ numbered (get_or c 0 0 ∷ get_or c 1 0 ∷ get_or c 2 0 ∷ []) n → r ≡ held_order (order_of c)
-  order-more r n h e f =
-      f ∙ ap (numbered _) e ∙ held-numbered _ (number_of (drop 3 c)) ∙ ap (λ (l : List ℕ). held_order (numbered l (number_of (drop 3 c)))) (sym (front-three (omega arith)))
-      ∙ ap held_order (sym (rest-unlike (λ (k : length c ≡ 1). omega arith) (λ (k : length c ≡ 3). omega arith)))
+  pub order_more : (r : Order) (n : Number) → 4 ≤ length c → n ≡ held_number (number_of (drop 3 c)) → r ≡ numbered (get_or c 0 0 ∷ get_or c 1 0 ∷ get_or c 2 0 ∷ []) n → r ≡ held_order (order_of c)
+  order_more r n h e f =
+      f ∙ ap (numbered _) e ∙ held_numbered _ (number_of (drop 3 c)) ∙ ap (λ (l : List ℕ). held_order (numbered l (number_of (drop 3 c)))) (sym (front_three (omega arith)))
+      ∙ ap held_order (sym (rest_unlike (λ (k : length c ≡ 1). omega arith) (λ (k : length c ≡ 3). omega arith)))

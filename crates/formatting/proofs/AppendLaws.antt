@@ -17,14 +17,14 @@ use Rattle.formatting.specs.Runs.{clear}
 use Rattle.formatting.specs.Pages.{lead_of, reach_of, Slight, line_with, noted, Settled, word, blank, words, ahead, Matches, Sound, Reaches, at, Follows}
 use Rattle.formatting.proofs.SheetLaws.{on, lead_at, content, blank_is, Runs, runs_ink, runs_blanks, runs_words}
 use Rattle.formatting.proofs.PageLaws.{held_min, reach_exact, length_some}
-use Rattle.formatting.proofs.LineLaws.{begins_less, put_down, down-length, put-begins}
+use Rattle.formatting.proofs.LineLaws.{begins_less, put_down, down_length, put_begins}
 
 -- ---- the numbers stay small
 
 module _ (c : Page) (u : List ℕ) (h : reach_of c + length u ≤ 200) (s : Slight c) where
-  some-line : (n o : ℕ) → 0 < n → lead_of (noted false (line_with n o 0 c)) ≡ o
+  some_line : (n o : ℕ) → 0 < n → lead_of (noted false (line_with n o 0 c)) ≡ o
   unfolding lead_of
-  some-line n o k = rw (ne_eqb n 0 (λ (e : n ≡ 0). omega arith)) (omega arith)
+  some_line n o k = rw (ne_eqb n 0 (λ (e : n ≡ 0). omega arith)) (omega arith)
 
   pub settled_slight : {c' : Page} → Settled c u c' → Slight c'
   unfolding reach_of lead_of
@@ -49,7 +49,7 @@ module _ (c : Page) (u : List ℕ) (h : reach_of c + length u ≤ 200) (s : Slig
       }
   settled_slight (words p q k e f i z) =
       let n : length u ≡ length p + (suc k + length q) = ap length e ∙ length-append p (blanks (suc k) ++ q) ∙ ap (λ (m : ℕ). length p + m) (length-append (blanks (suc k)) q ∙ ap (λ (m : ℕ). m + length q) (length-replicate (suc k) 32)) in
-      let l = some-line (reach_of c + length p) (suc k) (omega arith) in
+      let l = some_line (reach_of c + length p) (suc k) (omega arith) in
       record {
         line = omega arith;
         owed = omega arith;
@@ -79,18 +79,18 @@ run_note : (s : Sheet) (u : List ℕ) (r : List Item) → 0 < length u → clear
 run_note s [] r h e = absurd (omega arith)
 run_note s (b ∷ u) r h e = first_note s b u (map byte u ++ r) e
 
-empty-length : (l : List ℕ) → length l ≡ 0 → l ≡ []
-empty-length [] e = refl
-empty-length (x ∷ r) e = absurd (omega arith)
+empty_length : (l : List ℕ) → length l ≡ 0 → l ≡ []
+empty_length [] e = refl
+empty_length (x ∷ r) e = absurd (omega arith)
 
-clear-front : (p q : List ℕ) → clear (p ++ q) ≡ true → clear p ≡ true
+clear_front : (p q : List ℕ) → clear (p ++ q) ≡ true → clear p ≡ true
 unfolding clear
-clear-front [] q e = refl
-clear-front (b ∷ p) q e = let z = and_both (not (eqb b 10 || eqb b 13)) (clear (p ++ q)) e in rw z.0 (clear-front p q z.1)
+clear_front [] q e = refl
+clear_front (b ∷ p) q e = let z = and_both (not (eqb b 10 || eqb b 13)) (clear (p ++ q)) e in rw z.0 (clear_front p q z.1)
 
-goes-run : (s s' : Sheet) (u : List ℕ) → ((r : List Item) → moves s (map byte u ++ r) ≡ moves s' r) → Goes (laid s) (map byte u) (laid s')
+goes_run : (s s' : Sheet) (u : List ℕ) → ((r : List Item) → moves s (map byte u ++ r) ≡ moves s' r) → Goes (laid s) (map byte u) (laid s')
 unfolding lines_from
-goes-run s s' u f r = ap (λ (m : Laid). written (then_laid m end_word)) (f r)
+goes_run s s' u f r = ap (λ (m : Laid). written (then_laid m end_word)) (f r)
 
 module _ {d₀ : List ℕ} {s : Sheet} {c : Page} {t d : List ℕ} (m : Matches d₀ s c t d) (u : List ℕ) (broad : length t ≡ 200) (h : reach_of c + length u ≤ 200) (some : 0 < length u) where
   -- the sheet behind bytes that hold the same line, debt and word
@@ -98,7 +98,7 @@ module _ {d₀ : List ℕ} {s : Sheet} {c : Page} {t d : List ℕ} (m : Matches 
       → Matches d₀ (on s l' o' w') (noted false (line_with n o w c)) (put_down c t u) d
   unfolding lead
   matches_run l' o' w' n o w g en eo ew =
-      let whole : take (length (ahead s ++ u)) (put_down c t u) ≡ ahead s ++ u = put-begins m u broad h in
+      let whole : take (length (ahead s ++ u)) (put_down c t u) ≡ ahead s ++ u = put_begins m u broad h in
       let same : content s l' o' w' ≡ ahead s ++ u = g.same ∙ sym (append_assoc (s.line ++ blanks (lead s)) s.word u) in
       let begun : take (length (content s l' o' w')) (put_down c t u) ≡ content s l' o' w' = ap (λ (v : List ℕ). take (length v) (put_down c t u)) same ∙ whole ∙ sym same in
       let long : length (content s l' o' w') ≡ length (ahead s) + length u = ap length same ∙ length-append (ahead s) u in
@@ -136,10 +136,10 @@ module _ {d₀ : List ℕ} {s : Sheet} {c : Page} {t d : List ℕ} (m : Matches 
   settled_reaches : {c' : Page} → clear u ≡ true → Settled c u c' → Reaches d₀ s (map byte u) c' (put_down c t u) d
   settled_reaches e (word i) =
       let g = runs_ink s s.line s.word u s.owed i in
-      at (on s s.line s.owed (s.word ++ u)) (goes-run s _ u (λ (r : List Item). run_note s u r some e ∙ g.moved r))
+      at (on s s.line s.owed (s.word ++ u)) (goes_run s _ u (λ (r : List Item). run_note s u r some e ∙ g.moved r))
       (matches_run s.line s.owed (s.word ++ u) c.line c.owed (c.word + length u) g m.line m.owed (ap (λ (n : ℕ). n + length u) m.word ∙ sym (length-append s.word u)))
   settled_reaches e (blank k q f i z) =
-      let w : s.word ≡ [] = empty-length s.word (sym m.word ∙ z) in
+      let w : s.word ≡ [] = empty_length s.word (sym m.word ∙ z) in
       let g : Runs s s.line s.owed s.word u s.line (s.owed + k) q =
       subst (λ (v : List ℕ). Runs s s.line s.owed v u s.line (s.owed + k) q) (sym w)
       (subst (λ (v : List ℕ). Runs s s.line s.owed [] v s.line (s.owed + k) q) (sym f) (runs_blanks s s.line q s.owed k i)) in
@@ -147,7 +147,7 @@ module _ {d₀ : List ℕ} {s : Sheet} {c : Page} {t d : List ℕ} (m : Matches 
       let o = owed_exact in
       let x = held_min (s.owed + k) in
       let y = owed_small in
-      at (on s s.line (s.owed + k) q) (goes-run s _ u (λ (r : List Item). run_note s u r some e ∙ g.moved r))
+      at (on s s.line (s.owed + k) q) (goes_run s _ u (λ (r : List Item). run_note s u r some e ∙ g.moved r))
       (matches_run s.line (s.owed + k) q c.line (c.owed + k) (length q) g m.line (omega arith) refl)
   settled_reaches e (words p q k f fm i z) =
       let n : length u ≡ length p + (suc k + length q) = ap length f ∙ length-append p (blanks (suc k) ++ q) ∙ ap (λ (m : ℕ). length p + m) (length-append (blanks (suc k)) q ∙ ap (λ (m : ℕ). m + length q) (length-replicate (suc k) 32)) in
@@ -156,11 +156,11 @@ module _ {d₀ : List ℕ} {s : Sheet} {c : Page} {t d : List ℕ} (m : Matches 
       let l = length-append s.word p in
       let x = m.word in
       let y = held_min (suc k) in
-      let bright : clear p ≡ true = clear-front p (blanks (suc k) ++ q) (ap clear (sym f) ∙ e) in
+      let bright : clear p ≡ true = clear_front p (blanks (suc k) ++ q) (ap clear (sym f) ∙ e) in
       let g : Runs s s.line s.owed s.word u (content s s.line s.owed (s.word ++ p)) (suc k) q =
       subst (λ (v : List ℕ). Runs s s.line s.owed s.word v (content s s.line s.owed (s.word ++ p)) (suc k) q) (sym f)
       (runs_words s p s.line s.word q s.owed k (length_some (s.word ++ p) (omega arith)) bright fm i (omega arith)) in
-      at (on s (content s s.line s.owed (s.word ++ p)) (suc k) q) (goes-run s _ u (λ (r : List Item). run_note s u r some e ∙ g.moved r))
+      at (on s (content s s.line s.owed (s.word ++ p)) (suc k) q) (goes_run s _ u (λ (r : List Item). run_note s u r some e ∙ g.moved r))
       (matches_run (content s s.line s.owed (s.word ++ p)) (suc k) q (reach_of c + length p) (suc k) (length q) g (omega arith) (omega arith) refl)
 
 settled_same : {c c' : Page} {u : List ℕ} → Settled c u c' → (c'.writes ≡ c.writes) × (c'.unfit ≡ c.unfit) × (c'.place ≡ c.place)
@@ -169,12 +169,12 @@ settled_same (blank k q f i z) = (refl, refl, refl)
 settled_same (words p q k f fm i z) = (refl, refl, refl)
 
 -- bytes that fit behind what stands on the line
-pub append-follows : (c c' : Page) (t d u t' : List ℕ) → Sound c t d → reach_of c + length u ≤ 200 → 0 < length u → clear u ≡ true → Settled c u c' → t' ≡ put_down c t u → Follows (map byte u) c t d c' t' d
-append-follows c c' t d u t' f h n e g q =
+pub append_follows : (c c' : Page) (t d u t' : List ℕ) → Sound c t d → reach_of c + length u ≤ 200 → 0 < length u → clear u ≡ true → Settled c u c' → t' ≡ put_down c t u → Follows (map byte u) c t d c' t' d
+append_follows c c' t d u t' f h n e g q =
     let x = settled_same g in
     subst (λ (v : List ℕ). Follows (map byte u) c t d c' v d) (sym q)
     (record {
-      sound = record { slight = settled_slight c u h f.slight g; place = subst (λ (k : ℕ). k ≤ length d) (sym x.2) f.place; broad = down-length c t u f.broad };
+      sound = record { slight = settled_slight c u h f.slight g; place = subst (λ (k : ℕ). k ≤ length d) (sym x.2) f.place; broad = down_length c t u f.broad };
       writes = x.0;
       size = refl;
       still = λ (w : c.writes ≡ false). refl;

@@ -11,33 +11,33 @@ use borrow.Author.Tests.{lt-ltb, le-ltb, le-leb, lt-leb, leb-true}
 use Rattle.alphabet.specs.Bytes.{is_null}
 use Rattle.alphabet.specs.Delimiters.{first_wrong_delimiter}
 use Rattle.alphabet.specs.Filling.{over, put_at}
-use Rattle.alphabet.proofs.FillingLaws.{put-fits}
+use Rattle.alphabet.proofs.FillingLaws.{put_fits}
 use Rattle.alphabet.specs.declared.answers.Refusal.{Refusal}
 use Rattle.alphabet.specs.declared.answers.Refusal.TheVariants.{None, Delimiter, NoRoom, NullText, Layout}
 use Rattle.alphabet.specs.declared.answers.Check.{Check}
-use Rattle.alphabet.proofs.BoolLaws.{false-true}
+use Rattle.alphabet.proofs.BoolLaws.{false_true}
 use Rattle.escaping.specs.Outcomes.{Outcome, text, fault, fitting, answer, filled}
 use Rattle.escaping.proofs.OutcomeLaws.{ended}
 use Rattle.text.specs.declared.unescaping.Judged.{Judged}
 use Rattle.text.specs.Judging.{judged, text_of}
-use Rattle.text.proofs.OutcomeLaws.{judged-text, judged-fault}
+use Rattle.text.proofs.OutcomeLaws.{judged_text, judged_fault}
 use Rattle.text.specs.Unescape.{before}
 use Rattle.format_commands.specs.Items.{Item, items_of}
-use Rattle.format_commands.proofs.CommandLaws.{held-own}
+use Rattle.format_commands.proofs.CommandLaws.{held_own}
 use Rattle.formatting.specs.declared.page.Page.{Page}
 use Rattle.formatting.specs.declared.laying.Laying.{Laying}
 use Rattle.formatting.specs.Sheet.{Sheet, at_first, laid, unfit, is_empty, shown, end_line, lead, put, end_word, note_cr, Lines, lines, none, written, moves, lines_from, lines_of}
 use Rattle.formatting.specs.Formatting.{told, laid_out, formatting}
 use Rattle.formatting.specs.Pages.{first_page, closed, out_with, shown_of, Output, Wrote, Matches, Sound, Reaches, at, nowhere}
 use Rattle.formatting.specs.Laying.{found_of, Lays, Finishes, concluded, laid_in, Typesets}
-use Rattle.formatting.proofs.OutputLaws.{over-more}
+use Rattle.formatting.proofs.OutputLaws.{over_more}
 use Rattle.formatting.proofs.EndLaws.{shown_is}
 use Rattle.formatting.proofs.ActLaws.{closed_same, closes, Closes}
 
 -- ---- the first page, and the last line
 
-pub first-sound : (w : Bool) (t d : List ℕ) → length t ≡ 200 → Sound (first_page w) t d
-first-sound w t d b =
+pub first_sound : (w : Bool) (t d : List ℕ) → length t ≡ 200 → Sound (first_page w) t d
+first_sound w t d b =
     record {
       slight = record { line = omega arith; owed = omega arith; word = omega arith; margin = omega arith; left = omega arith; reach = λ (k : 0 < 0). absurd (omega arith) };
       place = omega arith;
@@ -48,20 +48,20 @@ first_matches : (w : Bool) (t d : List ℕ) → Matches d at_first (first_page w
 unfolding is_empty
 first_matches w t d =
     record {
-      output = record { done = λ (q : false ≡ false). refl; holds = λ (q : false ≡ false) (k : w ≡ true). refl; beyond = λ (q : false ≡ true). absurd (false-true q) };
+      output = record { done = λ (q : false ≡ false). refl; holds = λ (q : false ≡ false) (k : w ≡ true). refl; beyond = λ (q : false ≡ true). absurd (false_true q) };
       size = refl;
       fit = refl;
       line = refl;
-      owed = sym (held-own 0 (omega arith));
+      owed = sym (held_own 0 (omega arith));
       word = refl;
       margin = refl;
-      left = sym (held-own 0 (omega arith));
+      left = sym (held_own 0 (omega arith));
       fill = refl;
       centre = refl;
       after = refl;
       bytes = refl;
-      narrow = λ (q : true ≡ false). absurd (false-true (sym q));
-      begun = λ (q : true ≡ false). absurd (false-true (sym q));
+      narrow = λ (q : true ≡ false). absurd (false_true (sym q));
+      begun = λ (q : true ≡ false). absurd (false_true (sym q));
     }
 
 written_note : (s : Sheet) (b : Bool) → written (end_word (note_cr b s)) ≡ written (end_word s)
@@ -76,9 +76,9 @@ written_note s b = by (is_empty s.word) (leb (length s.line + lead s + length s.
     by false false true = refl
     by false false false = refl
 
-last-lines : (s s' : Sheet) → end_word (note_cr false s) ≡ laid s' → lines_from s [] ≡ lines (s'.out ++ shown s')
+last_lines : (s s' : Sheet) → end_word (note_cr false s) ≡ laid s' → lines_from s [] ≡ lines (s'.out ++ shown s')
 unfolding lines_from moves written
-last-lines s s' q = sym (written_note s false) ∙ ap written q
+last_lines s s' q = sym (written_note s false) ∙ ap written q
 
 pub finishes : (c k r : Page) (t d d' : List ℕ) → k ≡ closed c → r ≡ out_with r.place r.short k → Wrote (shown_of k t) k d r d' → Finishes c t d r d'
 finishes c k r t d d' e l w =
@@ -95,27 +95,27 @@ finishes c k r t d d' e l w =
         let n : Matches d₀ z.sheet k t d = subst (λ (p : Page). Matches d₀ z.sheet p t d) (sym e) z.matches in
         let same : k.writes ≡ c.writes = ap (λ (p : Page). p.writes) e ∙ (closed_same c).0 in (
           z.sheet.out ++ shown z.sheet,
-          last-lines s z.sheet z.ends,
+          last_lines s z.sheet z.ends,
           subst (λ (v : Bool). Output d₀ (z.sheet.out ++ shown z.sheet) v r.place r.short d') same
               (subst (λ (v : List ℕ). Output d₀ (z.sheet.out ++ v) k.writes r.place r.short d') (shown_is n) (w.output d₀ z.sheet.out n.size n.output)),
         )
 
 -- ---- a text that was measured or written
 
-fit-text : (room : ℕ) (u : List ℕ) → length u ≤ room → fitting room (text u) ≡ text u
+fit_text : (room : ℕ) (u : List ℕ) → length u ≤ room → fitting room (text u) ≡ text u
 unfolding fitting
-fit-text room u h = rw (le-leb (length u) room h)
+fit_text room u h = rw (le-leb (length u) room h)
 
-fit-long : (room : ℕ) (u : List ℕ) → room < length u → fitting room (text u) ≡ fault NoRoom 0
+fit_long : (room : ℕ) (u : List ℕ) → room < length u → fitting room (text u) ≡ fault NoRoom 0
 unfolding fitting
-fit-long room u h = rw (lt-leb (length u) room h)
+fit_long room u h = rw (lt-leb (length u) room h)
 
-fit-fault : (room : ℕ) (k : Refusal) (p : ℕ) → fitting room (fault k p) ≡ fault k p
+fit_fault : (room : ℕ) (k : Refusal) (p : ℕ) → fitting room (fault k p) ≡ fault k p
 unfolding fitting
-fit-fault room k p = refl
+fit_fault room k p = refl
 
-not-text : (k : Refusal) (p : ℕ) (u : List ℕ) → ◌≡◌ {A = Outcome ℕ} (fault k p) (text u) → ⊥
-not-text k p u e = let z : ◌≡◌ {A = ℕ} 0 1 = cc in omega arith
+not_text : (k : Refusal) (p : ℕ) (u : List ℕ) → ◌≡◌ {A = Outcome ℕ} (fault k p) (text u) → ⊥
+not_text k p u e = let z : ◌≡◌ {A = ℕ} 0 1 = cc in omega arith
 
 text_same : (v y : List ℕ) → text v ≡ text y → v ≡ y
 text_same v y e = cc
@@ -130,8 +130,8 @@ pub typeset_fails : (ds s : List ℕ) (w : Bool) (t d t' d' : List ℕ) (r : Lay
 unfolding judged laid_out found_of
 typeset_fails ds s w t d t' d' r k p l e =
     typeset_so ds s w d d' (Judged.Fault k p) (fault k p)
-    (ap (λ (o : Outcome Item). fitting (length d) (laid_out o)) (l.reads ∙ ap (λ (q : Check). before l.items (found_of q)) e) ∙ fit-fault (length d) k p) refl l.follows.size l.follows.still
-    (λ (u : List ℕ) (q : fault k p ≡ text u) (h : w ≡ true). absurd (not-text k p u q))
+    (ap (λ (o : Outcome Item). fitting (length d) (laid_out o)) (l.reads ∙ ap (λ (q : Check). before l.items (found_of q)) e) ∙ fit_fault (length d) k p) refl l.follows.size l.follows.still
+    (λ (u : List ℕ) (q : fault k p ≡ text u) (h : w ≡ true). absurd (not_text k p u q))
 
 -- the lines of all the items are those that are left
 module _ (ds s : List ℕ) (w : Bool) (t d t' d' : List ℕ) (r : Laying) (l : Lays ds s (first_page w) t d r t' d') (e : r.found ≡ Check.Passes) where
@@ -152,23 +152,23 @@ module _ (ds s : List ℕ) (w : Bool) (t d t' d' : List ℕ) (r : Laying) (l : L
     unlaid : lines_of l.items ≡ none → c'.unfit ≡ true → Typesets ds s w d q d''
     unfolding told judged concluded
     unlaid z u =
-        typeset_so ds s w d d'' q (fault Layout 0) (laid_in_lem none z ∙ fit-fault (length d) Layout 0) (g ∙ rw u) sized kept
-        (λ (v : List ℕ) (x : fault Layout 0 ≡ text v) (h : w ≡ true). absurd (not-text Layout 0 v x))
+        typeset_so ds s w d d'' q (fault Layout 0) (laid_in_lem none z ∙ fit_fault (length d) Layout 0) (g ∙ rw u) sized kept
+        (λ (v : List ℕ) (x : fault Layout 0 ≡ text v) (h : w ≡ true). absurd (not_text Layout 0 v x))
 
     -- or the lines are too long, or they are there
-    told-lines : (v : List ℕ) → lines_of l.items ≡ lines v → c'.unfit ≡ false → Output d v w c'.place c'.short d'' → Typesets ds s w d q d''
+    told_lines : (v : List ℕ) → lines_of l.items ≡ lines v → c'.unfit ≡ false → Output d v w c'.place c'.short d'' → Typesets ds s w d q d''
     unfolding told judged concluded
-    told-lines v z u o = by c'.short refl
+    told_lines v z u o = by c'.short refl
       where
         by : (b : Bool) → c'.short ≡ b → Typesets ds s w d q d''
         by true h =
-            typeset_so ds s w d d'' q (fault NoRoom 0) (laid_in_lem (lines v) z ∙ fit-long (length d) v (o.beyond h)) (g ∙ rw (u, h)) sized kept
-            (λ (y : List ℕ) (x : fault NoRoom 0 ≡ text y) (k : w ≡ true). absurd (not-text NoRoom 0 y x))
+            typeset_so ds s w d d'' q (fault NoRoom 0) (laid_in_lem (lines v) z ∙ fit_long (length d) v (o.beyond h)) (g ∙ rw (u, h)) sized kept
+            (λ (y : List ℕ) (x : fault NoRoom 0 ≡ text y) (k : w ≡ true). absurd (not_text NoRoom 0 y x))
         by false h =
             let n = o.done h in
             let i = f.within in
             let j = sized in
-            typeset_so ds s w d d'' q (text v) (laid_in_lem (lines v) z ∙ fit-text (length d) v (omega arith)) (g ∙ rw (u, h) (ap Judged.Text n)) sized kept
+            typeset_so ds s w d d'' q (text v) (laid_in_lem (lines v) z ∙ fit_text (length d) v (omega arith)) (g ∙ rw (u, h) (ap Judged.Text n)) sized kept
             (λ (y : List ℕ) (x : text v ≡ text y) (k : w ≡ true). o.holds h k ∙ ap (λ (a : List ℕ). over a d) (text_same v y x))
 
     pub typeset_passes : Typesets ds s w d q d''
@@ -177,7 +177,7 @@ module _ (ds s : List ℕ) (w : Bool) (t d t' d' : List ℕ) (r : Laying) (l : L
         by : Reaches d at_first l.items r.page t' d' → Typesets ds s w d q d''
         by (at s' x m) =
             let z = f.goes d s' m in
-            told-lines z.0 (ap lines_of (sym (append-nil l.items)) ∙ x [] ∙ z.1) (f.unfit ∙ m.fit) (subst (λ (b : Bool). Output d z.0 b c'.place c'.short d'') l.follows.writes z.2)
+            told_lines z.0 (ap lines_of (sym (append-nil l.items)) ∙ x [] ∙ z.1) (f.unfit ∙ m.fit) (subst (λ (b : Bool). Output d z.0 b c'.place c'.short d'') l.follows.writes z.2)
         by (nowhere x u) = unlaid (ap lines_of (sym (append-nil l.items)) ∙ x []) (f.unfit ∙ u)
 
 -- ---- the outcome, case by case
@@ -188,81 +188,81 @@ module _ (ds s : List ℕ) (room : ℕ) where
   formatting_bad h = rw (lt-ltb _ _ h)
 
   module _ (h : 5 ≤ first_wrong_delimiter ds) where
-    pub formatting-null : is_null s ≡ true → formatting ds s room ≡ fault NullText 0
+    pub formatting_null : is_null s ≡ true → formatting ds s room ≡ fault NullText 0
     unfolding formatting
-    formatting-null e = rw (le-ltb _ _ h) (rw e)
+    formatting_null e = rw (le-ltb _ _ h) (rw e)
 
-    pub formatting-laid : is_null s ≡ false → formatting ds s room ≡ laid_in ds s room
+    pub formatting_laid : is_null s ≡ false → formatting ds s room ≡ laid_in ds s room
     unfolding formatting
-    formatting-laid e = rw (le-ltb _ _ h) (rw e)
+    formatting_laid e = rw (le-ltb _ _ h) (rw e)
 
 -- the walk begins at the first page
-pub lays-first : {ds s : List ℕ} (w : Bool) (p : Page) {t d t' d' : List ℕ} {r : Laying} → p ≡ first_page w → Lays ds s p t d r t' d' → Lays ds s (first_page w) t d r t' d'
-lays-first {ds} {s} w p {t} {d} {t'} {d'} {r} e l = subst (λ (k : Page). Lays ds s k t d r t' d') e l
+pub lays_first : {ds s : List ℕ} (w : Bool) (p : Page) {t d t' d' : List ℕ} {r : Laying} → p ≡ first_page w → Lays ds s p t d r t' d' → Lays ds s (first_page w) t d r t' d'
+lays_first {ds} {s} w p {t} {d} {t'} {d'} {r} e l = subst (λ (k : Page). Lays ds s k t d r t' d') e l
 
-filled-fault : (k : Refusal) (p : ℕ) (d : List ℕ) → d ≡ filled (fault k p) d
+filled_fault : (k : Refusal) (p : ℕ) (d : List ℕ) → d ≡ filled (fault k p) d
 unfolding filled
-filled-fault k p d = refl
+filled_fault k p d = refl
 
-filled-text : (u d : List ℕ) → over u d ≡ filled (text u) d
+filled_text : (u d : List ℕ) → over u d ≡ filled (text u) d
 unfolding filled
-filled-text u d = refl
+filled_text u d = refl
 
-answer-text : (u : List ℕ) (n : ℕ) → length u ≡ n → record { kind = None; place = 0; length = n } ≡ answer (text u)
+answer_text : (u : List ℕ) (n : ℕ) → length u ≡ n → record { kind = None; place = 0; length = n } ≡ answer (text u)
 unfolding answer
-answer-text u n e = ap (λ (k : ℕ). record { kind = None; place = 0; length = k }) (sym e)
+answer_text u n e = ap (λ (k : ℕ). record { kind = None; place = 0; length = k }) (sym e)
 
 -- a fault, or lines, and the answer to it
 module _ (ds s d : List ℕ) where
-  laid-fault : (k : Refusal) (p : ℕ) → laid_in ds s (length d) ≡ fault k p → (answer (fault k p) ≡ answer (laid_in ds s (length d))) × (d ≡ filled (laid_in ds s (length d)) d)
-  laid-fault k p y = let r = ended (laid_in ds s (length d)) (fault k p) d y in (r.0, filled-fault k p d ∙ r.1)
+  laid_fault : (k : Refusal) (p : ℕ) → laid_in ds s (length d) ≡ fault k p → (answer (fault k p) ≡ answer (laid_in ds s (length d))) × (d ≡ filled (laid_in ds s (length d)) d)
+  laid_fault k p y = let r = ended (laid_in ds s (length d)) (fault k p) d y in (r.0, filled_fault k p d ∙ r.1)
 
-  laid-text : (u : List ℕ) (n : ℕ) → laid_in ds s (length d) ≡ text u → length u ≡ n → (record { kind = None; place = 0; length = n } ≡ answer (laid_in ds s (length d))) × (over u d ≡ filled (laid_in ds s (length d)) d)
-  laid-text u n y e = let r = ended (laid_in ds s (length d)) (text u) d y in (answer-text u n e ∙ r.0, filled-text u d ∙ r.1)
+  laid_text : (u : List ℕ) (n : ℕ) → laid_in ds s (length d) ≡ text u → length u ≡ n → (record { kind = None; place = 0; length = n } ≡ answer (laid_in ds s (length d))) × (over u d ≡ filled (laid_in ds s (length d)) d)
+  laid_text u n y e = let r = ended (laid_in ds s (length d)) (text u) d y in (answer_text u n e ∙ r.0, filled_text u d ∙ r.1)
 
 -- measured with a fault, or measured and then written
 module _ (ds s d d₁ : List ℕ) (f : Judged) (m : Typesets ds s false d f d₁) where
-  pub format-refused : (k : Refusal) (p : ℕ) → f ≡ Judged.Fault k p → (answer (fault k p) ≡ answer (laid_in ds s (length d))) × (d₁ ≡ filled (laid_in ds s (length d)) d)
-  format-refused k p e =
-      let r = laid-fault ds s d k p (judged-fault (laid_in ds s (length d)) k p (sym e ∙ m.gives)) in
+  pub format_refused : (k : Refusal) (p : ℕ) → f ≡ Judged.Fault k p → (answer (fault k p) ≡ answer (laid_in ds s (length d))) × (d₁ ≡ filled (laid_in ds s (length d)) d)
+  format_refused k p e =
+      let r = laid_fault ds s d k p (judged_fault (laid_in ds s (length d)) k p (sym e ∙ m.gives)) in
       (r.0, m.still refl ∙ r.1)
 
-  pub format-written : (n : ℕ) (g : Judged) (d₂ : List ℕ) → f ≡ Judged.Text n → Typesets ds s true d₁ g d₂
+  pub format_written : (n : ℕ) (g : Judged) (d₂ : List ℕ) → f ≡ Judged.Text n → Typesets ds s true d₁ g d₂
       → (record { kind = None; place = 0; length = n } ≡ answer (laid_in ds s (length d))) × (d₂ ≡ filled (laid_in ds s (length d)) d)
-  format-written n g d₂ e w =
-      let y = judged-text (laid_in ds s (length d)) n (sym e ∙ m.gives) in
+  format_written n g d₂ e w =
+      let y = judged_text (laid_in ds s (length d)) n (sym e ∙ m.gives) in
       let u = text_of (laid_in ds s (length d)) in
-      let r = laid-text ds s d u n y.0 y.1 in
+      let r = laid_text ds s d u n y.0 y.1 in
       let same : d₁ ≡ d = m.still refl in
       (r.0, w.holds u (ap (λ (v : List ℕ). laid_in ds s (length v)) same ∙ y.0) refl ∙ ap (over u) same ∙ r.1)
 
 -- written as a draft over p, and handed over to the buffer d
 module _ (ds s d p p₁ : List ℕ) (f : Judged) (m : Typesets ds s true p f p₁) (n : ℕ) (e : f ≡ Judged.Text n) where
-  lines-told : (u : List ℕ) × (laid_in ds s (length p) ≡ text u) × (length u ≡ n)
-  lines-told = let y = judged-text (laid_in ds s (length p)) n (sym e ∙ m.gives) in (text_of (laid_in ds s (length p)), y.0, y.1)
+  lines_told : (u : List ℕ) × (laid_in ds s (length p) ≡ text u) × (length u ≡ n)
+  lines_told = let y = judged_text (laid_in ds s (length p)) n (sym e ∙ m.gives) in (text_of (laid_in ds s (length p)), y.0, y.1)
 
-  fit-told : (o : Outcome ℕ) (u : List ℕ) (room : ℕ) → fitting room o ≡ text u → (o ≡ text u) × (length u ≤ room)
+  fit_told : (o : Outcome ℕ) (u : List ℕ) (room : ℕ) → fitting room o ≡ text u → (o ≡ text u) × (length u ≤ room)
   unfolding fitting
-  fit-told (fault k q) u room h = absurd (not-text k q u h)
-  fit-told (text t) u room h = by (leb (length t) room) refl h
+  fit_told (fault k q) u room h = absurd (not_text k q u h)
+  fit_told (text t) u room h = by (leb (length t) room) refl h
     where
       by : (b : Bool) → leb (length t) room ≡ b → cond b (text t) (fault NoRoom 0) ≡ text u → (text t ≡ text u) × (length u ≤ room)
       by true q h = let z = ap length (text_same t u h) in let l = leb-true (length t) room q in (h, omega arith)
-      by false q h = absurd (not-text NoRoom 0 u h)
+      by false q h = absurd (not_text NoRoom 0 u h)
 
-  draft_lines : (laid_out (items_of ds s) ≡ text lines-told.0) × (length lines-told.0 ≤ length p)
-  draft_lines = fit-told (laid_out (items_of ds s)) lines-told.0 (length p) lines-told.1
+  draft_lines : (laid_out (items_of ds s) ≡ text lines_told.0) × (length lines_told.0 ≤ length p)
+  draft_lines = fit_told (laid_out (items_of ds s)) lines_told.0 (length p) lines_told.1
 
   pub draft_size : n ≤ length p₁
-  draft_size = let a = draft_lines.1 in let b = lines-told.2 in let c = m.size in omega arith
+  draft_size = let a = draft_lines.1 in let b = lines_told.2 in let c = m.size in omega arith
 
   pub draft_short : length d < n → (answer (fault NoRoom 0) ≡ answer (laid_in ds s (length d))) × (d ≡ filled (laid_in ds s (length d)) d)
-  draft_short h = let z = lines-told.2 in laid-fault ds s d NoRoom 0 (ap (fitting (length d)) draft_lines.0 ∙ fit-long (length d) lines-told.0 (omega arith))
+  draft_short h = let z = lines_told.2 in laid_fault ds s d NoRoom 0 (ap (fitting (length d)) draft_lines.0 ∙ fit_long (length d) lines_told.0 (omega arith))
 
   pub draft_handed : n ≤ length d → (d₁ : List ℕ) → d₁ ≡ put_at d 0 (take n p₁) → (record { kind = None; place = 0; length = n } ≡ answer (laid_in ds s (length d))) × (d₁ ≡ filled (laid_in ds s (length d)) d)
   draft_handed h d₁ g =
-      let u = lines-told.0 in
-      let z = lines-told.2 in
-      let r = laid-text ds s d u n (ap (fitting (length d)) draft_lines.0 ∙ fit-text (length d) u (omega arith)) z in
-      let held : take n p₁ ≡ u = ap (take n) (m.holds u lines-told.1 refl) ∙ take_at u (drop (length u) p) n z in
-      (r.0, g ∙ ap (put_at d 0) held ∙ (put-fits d u 0 (omega arith)).1 ∙ over-more d [] u d 0 refl refl ∙ r.1)
+      let u = lines_told.0 in
+      let z = lines_told.2 in
+      let r = laid_text ds s d u n (ap (fitting (length d)) draft_lines.0 ∙ fit_text (length d) u (omega arith)) z in
+      let held : take n p₁ ≡ u = ap (take n) (m.holds u lines_told.1 refl) ∙ take_at u (drop (length u) p) n z in
+      (r.0, g ∙ ap (put_at d 0) held ∙ (put_fits d u 0 (omega arith)).1 ∙ over_more d [] u d 0 refl refl ∙ r.1)

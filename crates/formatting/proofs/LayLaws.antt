@@ -19,7 +19,7 @@ use Rattle.escaping.specs.Outcomes.{text, fault}
 use Rattle.plain.specs.Plain.{special}
 use Rattle.plain.proofs.PlainLaws.{plain_is, run_from}
 use Rattle.text.specs.Unescape.{known, meaning, before, stop, scan}
-use Rattle.text.proofs.StepLaws.{step-known, step-unknown, step-unclosed, step-unprintable, step-separator, rest-emit, rest-stop, scan-end, before-before, before-none}
+use Rattle.text.proofs.StepLaws.{step_known, step_unknown, step_unclosed, step_unprintable, step_separator, rest_emit, rest_stop, scan_end, before_before, before_none}
 use Rattle.text.proofs.RunLaws.{scan_from}
 use Rattle.format_commands.specs.Commands.{command}
 use Rattle.format_commands.specs.Items.{Item, byte, order, saying, formatted_text, items_of}
@@ -28,14 +28,14 @@ use Rattle.formatting.specs.declared.laying.Laying.{Laying}
 use Rattle.formatting.specs.Pages.{Sound, Follows}
 use Rattle.formatting.specs.Runs.{clear}
 use Rattle.formatting.specs.Laying.{wrong_plain, found_of, failing, Lays}
-use Rattle.formatting.proofs.PageLaws.{follows-none, follows_then}
+use Rattle.formatting.proofs.PageLaws.{follows_none, follows_then}
 
 -- what a sequence stands for
-pub says-order : (ds inside : List ℕ) {c c' : Page} {t d t' d' : List ℕ} → command inside ≡ true → Follows (order inside ∷ []) c t d c' t' d' → Follows (saying ds inside) c t d c' t' d'
-says-order ds inside {c} {c'} {t} {d} {t'} {d'} e f = subst (λ (b : Bool). Follows (cond b (order inside ∷ []) (map byte (meaning ds inside))) c t d c' t' d') (sym e) f
+pub says_order : (ds inside : List ℕ) {c c' : Page} {t d t' d' : List ℕ} → command inside ≡ true → Follows (order inside ∷ []) c t d c' t' d' → Follows (saying ds inside) c t d c' t' d'
+says_order ds inside {c} {c'} {t} {d} {t'} {d'} e f = subst (λ (b : Bool). Follows (cond b (order inside ∷ []) (map byte (meaning ds inside))) c t d c' t' d') (sym e) f
 
-pub says-bytes : (ds inside : List ℕ) {c c' : Page} {t d t' d' : List ℕ} → command inside ≡ false → Follows (map byte (meaning ds inside)) c t d c' t' d' → Follows (saying ds inside) c t d c' t' d'
-says-bytes ds inside {c} {c'} {t} {d} {t'} {d'} e f = subst (λ (b : Bool). Follows (cond b (order inside ∷ []) (map byte (meaning ds inside))) c t d c' t' d') (sym e) f
+pub says_bytes : (ds inside : List ℕ) {c c' : Page} {t d t' d' : List ℕ} → command inside ≡ false → Follows (map byte (meaning ds inside)) c t d c' t' d' → Follows (saying ds inside) c t d c' t' d'
+says_bytes ds inside {c} {c'} {t} {d} {t'} {d'} e f = subst (λ (b : Bool). Follows (cond b (order inside ∷ []) (map byte (meaning ds inside))) c t d c' t' d') (sym e) f
 
 -- bytes that stand plainly are no ends of lines
 printable_from : (b : ℕ) → printable b ≡ true → 32 ≤ b
@@ -45,25 +45,25 @@ printable_from b e = by (from_to 32 126 b) refl e
     by true f e = (from_to_lem 32 126 b f).0
     by false f e = let h = (from_to_lem 160 255 b e).0 in omega arith
 
-no-ends : (ds : List ℕ) (b : ℕ) → special ds b ≡ false → not (eqb b 10 || eqb b 13) ≡ true
-no-ends ds b e =
+no_ends : (ds : List ℕ) (b : ℕ) → special ds b ≡ false → not (eqb b 10 || eqb b 13) ≡ true
+no_ends ds b e =
     let p = printable_from b (plain_is ds b e).0 in
     ap₂ (λ (x y : Bool). not (x || y)) (ne_eqb b 10 (λ (z : b ≡ 10). omega arith)) (ne_eqb b 13 (λ (z : b ≡ 13). omega arith))
 
-clear-run : (ds : List ℕ) (n : ℕ) (l : List ℕ) → n ≤ first (special ds) l → clear (take n l) ≡ true
+clear_run : (ds : List ℕ) (n : ℕ) (l : List ℕ) → n ≤ first (special ds) l → clear (take n l) ≡ true
 unfolding first clear
-clear-run ds zero l h = refl
-clear-run ds (suc n) [] h = refl
-clear-run ds (suc n) (b ∷ r) h = by (special ds b) refl h (clear-run ds n r)
+clear_run ds zero l h = refl
+clear_run ds (suc n) [] h = refl
+clear_run ds (suc n) (b ∷ r) h = by (special ds b) refl h (clear_run ds n r)
   where
     by : (t : Bool) → special ds b ≡ t → suc n ≤ cond t 0 (suc (first (special ds) r)) → (n ≤ first (special ds) r → clear (take n r) ≡ true) → (not (eqb b 10 || eqb b 13) && clear (take n r)) ≡ true
     by true e h ih = absurd (omega arith)
-    by false e h ih = rw (no-ends ds b e) (ih (omega arith))
+    by false e h ih = rw (no_ends ds b e) (ih (omega arith))
 
-pub plain-clear : (ds s : List ℕ) (i n : ℕ) → i < length s → n ≡ first (special ds) (take (length s - i) (drop i s)) → clear (take ((i + n) - i) (drop i s)) ≡ true
-plain-clear ds s i n h e =
+pub plain_clear : (ds s : List ℕ) (i n : ℕ) → i < length s → n ≡ first (special ds) (take (length s - i) (drop i s)) → clear (take ((i + n) - i) (drop i s)) ≡ true
+plain_clear ds s i n h e =
     let g : (i + n) - i ≡ n = omega arith in
-    ap (λ (k : ℕ). clear (take k (drop i s))) g ∙ clear-run ds n (drop i s) (run_from (special ds) s i n (omega arith) e).0
+    ap (λ (k : ℕ). clear (take k (drop i s))) g ∙ clear_run ds n (drop i s) (run_from (special ds) s i n (omega arith) e).0
 
 pub record Walks (ds s : List ℕ) (i : ℕ) (c : Page) (t d : List ℕ) (c' : Page) (t' d' : List ℕ) : Type 0 where
   pub items : List Item
@@ -71,7 +71,7 @@ pub record Walks (ds s : List ℕ) (i : ℕ) (c : Page) (t d : List ℕ) (c' : P
   pub follows : Follows items c t d c' t' d'
 
 pub walk_start : (ds s : List ℕ) {c : Page} {t d : List ℕ} → Sound c t d → Walks ds s 0 c t d c t d
-walk_start ds s f = record { items = []; reads = before-none (items_of ds s); follows = follows-none f }
+walk_start ds s f = record { items = []; reads = before_none (items_of ds s); follows = follows_none f }
 
 module _ {ds s : List ℕ} {i : ℕ} {c : Page} {t d : List ℕ} {c' : Page} {t' d' : List ℕ} (w : Walks ds s i c t d c' t' d') where
   -- items more
@@ -79,7 +79,7 @@ module _ {ds s : List ℕ} {i : ℕ} {c : Page} {t d : List ℕ} {c' : Page} {t'
   walk_more xs j e f =
       record {
         items = w.items ++ xs;
-        reads = w.reads ∙ ap (before w.items) e ∙ before-before w.items xs (scan formatted_text ds j 0 (drop j s));
+        reads = w.reads ∙ ap (before w.items) e ∙ before_before w.items xs (scan formatted_text ds j 0 (drop j s));
         follows = follows_then w.follows f;
       }
 
@@ -91,7 +91,7 @@ module _ {ds s : List ℕ} {i : ℕ} {c : Page} {t d : List ℕ} {c' : Page} {t'
 
   pub walk_end : length s ≤ i → Lays ds s c t d (record { found = Check.Passes; page = c' }) t' d'
   unfolding found_of
-  walk_end h = record { items = w.items; reads = w.reads ∙ ap (before w.items) (scan-end formatted_text ds s i h); follows = w.follows }
+  walk_end h = record { items = w.items; reads = w.reads ∙ ap (before w.items) (scan_end formatted_text ds s i h); follows = w.follows }
 
   module _ (within : i < length s) where
     -- ---- at an escape delimiter
@@ -110,18 +110,18 @@ module _ {ds s : List ℕ} {i : ℕ} {c : Page} {t d : List ℕ} {c' : Page} {t'
       walk_unclosed r h =
           let l = ap length whole in
           let g = found in
-          walk_fault UnclosedEscape r (rest-stop formatted_text ds s i UnclosedEscape within (step-unclosed formatted_text ds (get_or s i 0) (drop (i + 1) s) q (omega arith)))
+          walk_fault UnclosedEscape r (rest_stop formatted_text ds s i UnclosedEscape within (step_unclosed formatted_text ds (get_or s i 0) (drop (i + 1) s) q (omega arith)))
 
       module _ (closed : n < length rest) where
-        inside-same : take n rest ≡ take n (drop (i + 1) s)
-        inside-same = ap (take n) whole
+        inside_same : take n rest ≡ take n (drop (i + 1) s)
+        inside_same = ap (take n) whole
 
         pub walk_unknown : (r : Laying) → (command (take n rest) || known (take n rest)) ≡ false → r ≡ failing UnknownEscape i c' → Lays ds s c t d r t' d'
         walk_unknown r k =
             let l = ap length whole in
             walk_fault UnknownEscape r
-            (rest-stop formatted_text ds s i UnknownEscape within
-            (step-unknown formatted_text ds (get_or s i 0) (drop (i + 1) s) n q found (omega arith) (ap (λ (v : List ℕ). command v || known v) (sym inside-same) ∙ k)))
+            (rest_stop formatted_text ds s i UnknownEscape within
+            (step_unknown formatted_text ds (get_or s i 0) (drop (i + 1) s) n q found (omega arith) (ap (λ (v : List ℕ). command v || known v) (sym inside_same) ∙ k)))
 
         pub walk_ends : (i + 1) + n + 1 ≤ length s
         walk_ends = let l = ap length whole in let d = length-drop (i + 1) s in omega arith
@@ -130,9 +130,9 @@ module _ {ds s : List ℕ} {i : ℕ} {c : Page} {t d : List ℕ} {c' : Page} {t'
         walk_sequence {c''} {t''} {d''} k f =
             let l = ap length whole in
             walk_more (saying ds (take n (drop (i + 1) s))) ((i + 1) + n + 1)
-            (rest-emit formatted_text ds s i ((i + 1) + n + 1) (n + 1) (saying ds (take n (drop (i + 1) s))) within
-            (step-known formatted_text ds (get_or s i 0) (drop (i + 1) s) n q found (omega arith) (ap (λ (v : List ℕ). command v || known v) (sym inside-same) ∙ k)) (omega arith))
-            (subst (λ (v : List ℕ). Follows (saying ds v) c' t' d' c'' t'' d'') inside-same f)
+            (rest_emit formatted_text ds s i ((i + 1) + n + 1) (n + 1) (saying ds (take n (drop (i + 1) s))) within
+            (step_known formatted_text ds (get_or s i 0) (drop (i + 1) s) n q found (omega arith) (ap (λ (v : List ℕ). command v || known v) (sym inside_same) ∙ k)) (omega arith))
+            (subst (λ (v : List ℕ). Follows (saying ds v) c' t' d' c'' t'' d'') inside_same f)
 
     -- ---- at any other byte
 
@@ -157,10 +157,10 @@ module _ {ds s : List ℕ} {i : ℕ} {c : Page} {t d : List ℕ} {c' : Page} {t'
       walk_wrong r k z g = by (printable (get_or s i 0)) refl (ltb (find (get_or s i 0) ds) 5) refl
         where
           by : (x : Bool) → printable (get_or s i 0) ≡ x → (y : Bool) → ltb (find (get_or s i 0) ds) 5 ≡ y → r ≡ failing k i c' → Lays ds s c t d r t' d'
-          by false a y b h = walk_fault k r (rest-stop formatted_text ds s i k within (step-unprintable formatted_text ds (get_or s i 0) (drop (i + 1) s) q a ∙ ap stop (sym (g ∙ ap (λ (v : Bool). cond v Separator NotAllowed) a)))) h
+          by false a y b h = walk_fault k r (rest_stop formatted_text ds s i k within (step_unprintable formatted_text ds (get_or s i 0) (drop (i + 1) s) q a ∙ ap stop (sym (g ∙ ap (λ (v : Bool). cond v Separator NotAllowed) a)))) h
           by true a true b h =
               walk_fault k r
-              (rest-stop formatted_text ds s i k within (step-separator formatted_text ds (get_or s i 0) (drop (i + 1) s) q a (ltb-true (find (get_or s i 0) ds) 5 b) ∙ ap stop (sym (g ∙ ap (λ (v : Bool). cond v Separator NotAllowed) a)))) h
+              (rest_stop formatted_text ds s i k within (step_separator formatted_text ds (get_or s i 0) (drop (i + 1) s) q a (ltb-true (find (get_or s i 0) ds) 5 b) ∙ ap stop (sym (g ∙ ap (λ (v : Bool). cond v Separator NotAllowed) a)))) h
           by true a false b h =
               let p = first_past (special ds) s i within (plainly a b) in
               let l : n ≡ first (special ds) (drop i s) = e ∙ ap (first (special ds)) (rest_of s i) in

@@ -7,18 +7,18 @@ use native.Mathlib.Omega.{arith}
 use lib.Dec.{leb, ltb, eqb}
 use lib.ListN.{length, take, replicate, length-append, length-replicate, replicate-append-replicate}
 use borrow.Author.Tests.{eq-eqb, ne_eqb, le-leb, lt-leb, leb-true, leb-false}
-use Rattle.alphabet.proofs.BoolLaws.{false-true, and_both}
+use Rattle.alphabet.proofs.BoolLaws.{false_true, and_both}
 use Rattle.format_commands.specs.declared.numbers.Amount.{Amount}
 use Rattle.format_commands.specs.declared.orders.Order.{Order}
 use Rattle.format_commands.specs.declared.orders.Order.TheVariants.{Unknown, Highlight, Break, Centre, Fill, Unfill, Down, Across, Margin, Once}
 use Rattle.format_commands.specs.Commands.{order_of, held_size, held_order}
 use Rattle.format_commands.specs.Items.{order}
-use Rattle.format_commands.proofs.CommandLaws.{held-own, held-most}
+use Rattle.format_commands.proofs.CommandLaws.{held_own, held_most}
 use Rattle.formatting.specs.declared.page.Page.{Page}
 use Rattle.formatting.specs.Sheet.{Sheet, Laid, laid, unfit, then_laid, blanks, is_empty, shown, end_line, end_word, position, note_cr, owe, set_left, set_margin, set_fill, set_centre, empty_lines, natural, fits, moved, down, obey, quiet, obeyed, move}
 use Rattle.formatting.specs.Pages.{Slight, new_line, indent_of, position_of, out_with, shown_of, Wrote, Matches, Sound, at, Follows, closed, Tells, Acts, left_at, margin_at, filling, centring, spoiling}
-use Rattle.formatting.proofs.SheetLaws.{moves_one, goes-moves}
-use Rattle.formatting.proofs.PageLaws.{held_min, empty-eqb}
+use Rattle.formatting.proofs.SheetLaws.{moves_one, goes_moves}
+use Rattle.formatting.proofs.PageLaws.{held_min, empty_eqb}
 use Rattle.formatting.proofs.EndLaws.{shown_is}
 use Rattle.formatting.proofs.ActLaws.{absurd_word, acts_plain, acts_ended, acts_map, acts_follow}
 
@@ -41,20 +41,20 @@ acts_order o o' c t d c' t' d' e a = subst (λ (q : Order). Acts (obey q) c t d 
 -- ---- what changes a number alone
 
 module _ (c : Page) (s : Slight c) (z : c.word ≡ 0) where
-  left-slight : (n : ℕ) → n ≤ 201 → Slight (left_at n c)
-  left-slight n h = record { line = s.line; owed = s.owed; word = s.word; margin = s.margin; left = h; reach = λ (k : 0 < c.word). absurd (omega arith) }
+  left_slight : (n : ℕ) → n ≤ 201 → Slight (left_at n c)
+  left_slight n h = record { line = s.line; owed = s.owed; word = s.word; margin = s.margin; left = h; reach = λ (k : 0 < c.word). absurd (omega arith) }
 
-  margin-slight : (n : ℕ) → n ≤ 200 → Slight (margin_at n c)
-  margin-slight n h = record { line = s.line; owed = s.owed; word = s.word; margin = h; left = omega arith; reach = λ (k : 0 < c.word). absurd (omega arith) }
+  margin_slight : (n : ℕ) → n ≤ 200 → Slight (margin_at n c)
+  margin_slight n h = record { line = s.line; owed = s.owed; word = s.word; margin = h; left = omega arith; reach = λ (k : 0 < c.word). absurd (omega arith) }
 
-  fill-slight : (b : Bool) → Slight (filling b c)
-  fill-slight b = record { line = s.line; owed = s.owed; word = s.word; margin = s.margin; left = s.left; reach = λ (k : 0 < c.word). absurd (omega arith) }
+  fill_slight : (b : Bool) → Slight (filling b c)
+  fill_slight b = record { line = s.line; owed = s.owed; word = s.word; margin = s.margin; left = s.left; reach = λ (k : 0 < c.word). absurd (omega arith) }
 
-  centre-slight : Slight (centring c)
-  centre-slight = record { line = s.line; owed = s.owed; word = s.word; margin = s.margin; left = s.left; reach = λ (k : 0 < c.word). absurd (omega arith) }
+  centre_slight : Slight (centring c)
+  centre_slight = record { line = s.line; owed = s.owed; word = s.word; margin = s.margin; left = s.left; reach = λ (k : 0 < c.word). absurd (omega arith) }
 
-  spoilt-slight : Slight (spoiling c)
-  spoilt-slight = record { line = s.line; owed = s.owed; word = s.word; margin = s.margin; left = s.left; reach = λ (k : 0 < c.word). absurd (omega arith) }
+  spoilt_slight : Slight (spoiling c)
+  spoilt_slight = record { line = s.line; owed = s.owed; word = s.word; margin = s.margin; left = s.left; reach = λ (k : 0 < c.word). absurd (omega arith) }
 
 module _ {d₀ : List ℕ} {s : Sheet} {c : Page} {t d : List ℕ} (m : Matches d₀ s c t d) (none : is_empty s.word ≡ true) where
   left_matches : (n k : ℕ) → n ≡ held_size k → Matches d₀ (set_left k s) (left_at n c) t d
@@ -63,7 +63,7 @@ module _ {d₀ : List ℕ} {s : Sheet} {c : Page} {t d : List ℕ} (m : Matches 
 
   margin_matches : (n k : ℕ) → n ≡ k → k ≤ 200 → Matches d₀ (set_margin k s) (margin_at n c) t d
   margin_matches n k e h =
-      record { output = m.output; size = m.size; fit = m.fit; line = m.line; owed = m.owed; word = m.word; margin = e; left = e ∙ sym (held-own k (omega arith)); fill = m.fill; centre = m.centre; after = m.after; bytes = m.bytes; narrow = absurd_word none; begun = absurd_word none }
+      record { output = m.output; size = m.size; fit = m.fit; line = m.line; owed = m.owed; word = m.word; margin = e; left = e ∙ sym (held_own k (omega arith)); fill = m.fill; centre = m.centre; after = m.after; bytes = m.bytes; narrow = absurd_word none; begun = absurd_word none }
 
   fill_matches : (b : Bool) → Matches d₀ (set_fill b s) (filling b c) t d
   fill_matches b =
@@ -74,16 +74,16 @@ module _ {d₀ : List ℕ} {s : Sheet} {c : Page} {t d : List ℕ} (m : Matches 
       record { output = m.output; size = m.size; fit = m.fit; line = m.line; owed = m.owed; word = m.word; margin = m.margin; left = m.left; fill = m.fill; centre = refl; after = m.after; bytes = m.bytes; narrow = absurd_word none; begun = absurd_word none }
 
   -- "the length of the line as written (`left` where it is empty) + `owed`"
-  shown-length : length (shown s) ≡ indent_of c + c.line
-  shown-length =
+  shown_length : length (shown s) ≡ indent_of c + c.line
+  shown_length =
       ap length (sym (shown_is m)) ∙ length-append (blanks (indent_of c)) (take c.line t)
       ∙ ap₂ ◌+◌ (length-replicate (indent_of c) 32) (ap length (ap (λ (n : ℕ). take n t) m.line ∙ m.bytes) ∙ sym m.line)
 
   position_is : position_of c ≡ held_size (position s)
   unfolding position_of position held_size indent_of is_empty
   position_is =
-      rw (m.left, m.owed, ← shown-length) (ap (λ (n : ℕ). held_size (cond (eqb n 0) (held_size s.left) (length (shown s)) + held_size s.owed)) m.line
-      ∙ ap (λ (b : Bool). held_size (cond b (held_size s.left) (length (shown s)) + held_size s.owed)) (sym (empty-eqb s.line)) ∙ by (is_empty s.line))
+      rw (m.left, m.owed, ← shown_length) (ap (λ (n : ℕ). held_size (cond (eqb n 0) (held_size s.left) (length (shown s)) + held_size s.owed)) m.line
+      ∙ ap (λ (b : Bool). held_size (cond b (held_size s.left) (length (shown s)) + held_size s.owed)) (sym (empty_eqb s.line)) ∙ by (is_empty s.line))
     where
       by : (b : Bool) → held_size (cond b (held_size s.left) (length (shown s)) + held_size s.owed) ≡ held_size (cond b s.left (length (shown s)) + s.owed)
       by true =
@@ -98,35 +98,35 @@ module _ {d₀ : List ℕ} {s : Sheet} {c : Page} {t d : List ℕ} (m : Matches 
           let v = held_min (length (shown s) + s.owed) in
           omega arith
 
-pub down-none : (n : ℕ) (s : Sheet) → n ≡ 0 → down n s ≡ s
+pub down_none : (n : ℕ) (s : Sheet) → n ≡ 0 → down n s ≡ s
 unfolding down
-down-none n s e = rw (eq-eqb n 0 e)
+down_none n s e = rw (eq-eqb n 0 e)
 
-down-more : (n : ℕ) (s : Sheet) → (n ≡ 0 → ⊥) → down n s ≡ set_left (position s) (empty_lines (n - 1) (end_line s))
+down_more : (n : ℕ) (s : Sheet) → (n ≡ 0 → ⊥) → down n s ≡ set_left (position s) (empty_lines (n - 1) (end_line s))
 unfolding down
-down-more n s e = rw (ne_eqb n 0 e)
+down_more n s e = rw (ne_eqb n 0 e)
 
 position_small : (c : Page) → position_of c ≤ 201
 unfolding position_of
-position_small c = held-most (cond (eqb c.line 0) c.left (indent_of c + c.line) + c.owed)
+position_small c = held_most (cond (eqb c.line 0) c.left (indent_of c + c.line) + c.owed)
 
 -- ---- each command
 
 module _ (c : Page) (t d : List ℕ) (f : Sound c t d) (z : c.word ≡ 0) where
   pub acts_spoilt : (act : Sheet → Laid) → ((s : Sheet) → is_empty s.word ≡ true → (c.margin ≡ s.margin) → act s ≡ unfit) → Acts act c t d (spoiling c) t d
   acts_spoilt act e =
-      acts_plain act c (spoiling c) t d f (spoilt-slight c f.slight z) refl refl (λ (q : c.unfit ≡ true). refl)
+      acts_plain act c (spoiling c) t d f (spoilt_slight c f.slight z) refl refl (λ (q : c.unfit ≡ true). refl)
       (λ (d₀ : List ℕ) (s : Sheet) (m : Matches d₀ s c t d) (n : is_empty s.word ≡ true). subst (λ (l : Laid). Tells d₀ l (spoiling c) t d) (sym (e s n m.margin)) refl)
 
   pub acts_fill : (b : Bool) → Acts (λ (s : Sheet). laid (set_fill b s)) c t d (filling b c) t d
   acts_fill b =
-      acts_plain (λ (s : Sheet). laid (set_fill b s)) c (filling b c) t d f (fill-slight c f.slight z b) refl refl (λ (q : c.unfit ≡ true). q)
+      acts_plain (λ (s : Sheet). laid (set_fill b s)) c (filling b c) t d f (fill_slight c f.slight z b) refl refl (λ (q : c.unfit ≡ true). q)
       (λ (d₀ : List ℕ) (s : Sheet) (m : Matches d₀ s c t d) (n : is_empty s.word ≡ true). fill_matches m n b)
 
   pub acts_margin : (a : Amount) (n : ℕ) → fits c.margin a ≡ true → n ≡ moved c.margin a → n ≤ 200 → Acts (obey (Margin a)) c t d (margin_at n c) t d
   unfolding obey
   acts_margin a n e q h =
-      acts_plain (obey (Margin a)) c (margin_at n c) t d f (margin-slight c f.slight z n h) refl refl (λ (q : c.unfit ≡ true). q)
+      acts_plain (obey (Margin a)) c (margin_at n c) t d f (margin_slight c f.slight z n h) refl refl (λ (q : c.unfit ≡ true). q)
       (λ (d₀ : List ℕ) (s : Sheet) (m : Matches d₀ s c t d) (k : is_empty s.word ≡ true).
       let same : moved c.margin a ≡ moved s.margin a = ap (λ (x : ℕ). moved x a) m.margin in
       subst (λ (l : Laid). Tells d₀ l (margin_at n c) t d) (sym (ap (λ (b : Bool). cond b (laid (set_margin (moved s.margin a) s)) unfit) (ap (λ (x : ℕ). fits x a) (sym m.margin) ∙ e)))
@@ -135,31 +135,31 @@ module _ (c : Page) (t d : List ℕ) (f : Sound c t d) (z : c.word ≡ 0) where
   pub acts_once : (a : Amount) (n : ℕ) → fits c.margin a ≡ true → n ≡ moved c.margin a → n ≤ 200 → Acts (obey (Once a)) c t d (left_at n c) t d
   unfolding obey
   acts_once a n e q h =
-      acts_plain (obey (Once a)) c (left_at n c) t d f (left-slight c f.slight z n (omega arith)) refl refl (λ (q : c.unfit ≡ true). q)
+      acts_plain (obey (Once a)) c (left_at n c) t d f (left_slight c f.slight z n (omega arith)) refl refl (λ (q : c.unfit ≡ true). q)
       (λ (d₀ : List ℕ) (s : Sheet) (m : Matches d₀ s c t d) (k : is_empty s.word ≡ true).
       let same : moved c.margin a ≡ moved s.margin a = ap (λ (x : ℕ). moved x a) m.margin in
       subst (λ (l : Laid). Tells d₀ l (left_at n c) t d) (sym (ap (λ (b : Bool). cond b (laid (set_left (moved s.margin a) s)) unfit) (ap (λ (x : ℕ). fits x a) (sym m.margin) ∙ e)))
-      (left_matches m k n (moved s.margin a) (q ∙ same ∙ sym (held-own (moved s.margin a) (let y = q ∙ same in omega arith)))))
+      (left_matches m k n (moved s.margin a) (q ∙ same ∙ sym (held_own (moved s.margin a) (let y = q ∙ same in omega arith)))))
 
   -- the line and n LF were written, and the next line begins at the same column
   pub acts_down : (n : ℕ) (k : Page) (d' : List ℕ) (p : ℕ) → (n ≡ 0 → ⊥) → k ≡ new_line (out_with k.place k.short c) → Wrote (shown_of c t ++ replicate n 10) c d k d' → p ≡ position_of c
       → Acts (λ (s : Sheet). laid (down n s)) c t d (left_at p k) t d'
   unfolding end_line
   acts_down n k d' p h e w q =
-      let a = acts_ended n (λ (s : Sheet). s.out ++ shown s ++ 10 ∷ [] ++ replicate (n - 1) 10) c k t d d' f z e w (λ (s : Sheet). lines-out s) in
-      acts_same (λ (s : Sheet). laid (set_left (position s) (empty_lines (n - 1) (end_line s)))) (λ (s : Sheet). laid (down n s)) c t d (left_at p k) t d' (λ (s : Sheet). ap laid (sym (down-some s)))
+      let a = acts_ended n (λ (s : Sheet). s.out ++ shown s ++ 10 ∷ [] ++ replicate (n - 1) 10) c k t d d' f z e w (λ (s : Sheet). lines_out s) in
+      acts_same (λ (s : Sheet). laid (set_left (position s) (empty_lines (n - 1) (end_line s)))) (λ (s : Sheet). laid (down n s)) c t d (left_at p k) t d' (λ (s : Sheet). ap laid (sym (down_some s)))
       (acts_map (λ (s : Sheet). empty_lines (n - 1) (end_line s)) (λ (s : Sheet). set_left (position s) (empty_lines (n - 1) (end_line s))) c k (left_at p k) t d t d' a
-      (left-slight k a.sound.slight (ap (λ (x : Page). x.word) e ∙ z) p (small p q)) refl refl refl
+      (left_slight k a.sound.slight (ap (λ (x : Page). x.word) e ∙ z) p (small p q)) refl refl refl
       (λ (d₀ : List ℕ) (s : Sheet) (m : Matches d₀ s c t d) (i : is_empty s.word ≡ true) (j : Matches d₀ (empty_lines (n - 1) (end_line s)) k t d'). left_matches j i p (position s) (q ∙ position_is m i)))
     where
-      lines-out : (s : Sheet) → s.out ++ shown s ++ 10 ∷ [] ++ replicate (n - 1) 10 ≡ s.out ++ (shown s ++ replicate n 10)
-      lines-out s =
+      lines_out : (s : Sheet) → s.out ++ shown s ++ 10 ∷ [] ++ replicate (n - 1) 10 ≡ s.out ++ (shown s ++ replicate n 10)
+      lines_out s =
           let g : 1 + (n - 1) ≡ n = omega arith in
           append_assoc (s.out ++ shown s) (10 ∷ []) (replicate (n - 1) 10) ∙ ap (λ (v : List ℕ). s.out ++ shown s ++ v) (replicate-append-replicate 1 (n - 1) 10 ∙ ap (λ (i : ℕ). replicate i 10) g)
           ∙ append_assoc s.out (shown s) (replicate n 10)
 
-      down-some : (s : Sheet) → down n s ≡ set_left (position s) (empty_lines (n - 1) (end_line s))
-      down-some s = down-more n s h
+      down_some : (s : Sheet) → down n s ≡ set_left (position s) (empty_lines (n - 1) (end_line s))
+      down_some s = down_more n s h
 
       small : (p : ℕ) → p ≡ position_of c → p ≤ 201
       small p q = let y = position_small c in omega arith
@@ -168,7 +168,7 @@ module _ (c : Page) (t d : List ℕ) (f : Sound c t d) (z : c.word ≡ 0) where
   pub acts_centre : (k : Page) (d' : List ℕ) → Acts (λ (s : Sheet). laid (end_line s)) c t d k t d' → k.word ≡ 0 → Acts (obey Centre) c t d (centring k) t d'
   unfolding obey end_line
   acts_centre k d' a h =
-      acts_map end_line (λ (s : Sheet). set_centre (end_line s)) c k (centring k) t d t d' a (centre-slight k a.sound.slight h) refl refl refl
+      acts_map end_line (λ (s : Sheet). set_centre (end_line s)) c k (centring k) t d t d' a (centre_slight k a.sound.slight h) refl refl refl
       (λ (d₀ : List ℕ) (s : Sheet) (m : Matches d₀ s c t d) (i : is_empty s.word ≡ true) (j : Matches d₀ (end_line s) k t d'). centre_matches j i)
 
 -- ---- a number that is held
@@ -176,8 +176,8 @@ module _ (c : Page) (t d : List ℕ) (f : Sound c t d) (z : c.word ≡ 0) where
 natural_small : (a : Amount) → natural a ≡ true → a.size ≤ 200
 natural_small a e = leb-true a.size 200 (and_both (leb a.size 200) _ e).0
 
-held-leb : (n : ℕ) → leb (held_size n) 200 ≡ leb n 200
-held-leb n = by (leb n 200) refl
+held_leb : (n : ℕ) → leb (held_size n) 200 ≡ leb n 200
+held_leb n = by (leb n 200) refl
   where
     by : (t : Bool) → leb n 200 ≡ t → leb (held_size n) 200 ≡ t
     by true e = let h = leb-true n 200 e in let x = held_min n in le-leb (held_size n) 200 (omega arith)
@@ -190,43 +190,43 @@ small_held P q n = by (leb n 200) refl
     by : (t : Bool) → leb n 200 ≡ t → cond (leb (held_size n) 200 && q (held_size n)) (P (held_size n)) unfit ≡ cond (leb n 200 && q n) (P n) unfit
     by true e =
         let h = leb-true n 200 e in
-        let x : held_size n ≡ n = held-own n (omega arith) in
+        let x : held_size n ≡ n = held_own n (omega arith) in
         ap (λ (k : ℕ). cond (leb k 200 && q k) (P k) unfit) x
-    by false e = ap (λ (b : Bool). cond (b && q (held_size n)) (P (held_size n)) unfit) (held-leb n ∙ e) ∙ sym (ap (λ (b : Bool). cond (b && q n) (P n) unfit) e)
+    by false e = ap (λ (b : Bool). cond (b && q (held_size n)) (P (held_size n)) unfit) (held_leb n ∙ e) ∙ sym (ap (λ (b : Bool). cond (b && q n) (P n) unfit) e)
 
-pub obey-held : (o : Order) (s : Sheet) → obey (held_order o) s ≡ obey o s
+pub obey_held : (o : Order) (s : Sheet) → obey (held_order o) s ≡ obey o s
 unfolding obey held_order
-obey-held Unknown s = refl
-obey-held Highlight s = refl
-obey-held Break s = refl
-obey-held Centre s = refl
-obey-held Fill s = refl
-obey-held Unfill s = refl
-obey-held (Down a) s = small_held (λ (n : ℕ). laid (down n s)) (λ (n : ℕ). not (a.minus && ltb 0 n)) a.size
-obey-held (Across a) s = small_held (λ (n : ℕ). laid (owe n s)) (λ (n : ℕ). not (a.minus && ltb 0 n)) a.size
-obey-held (Margin a) s =
+obey_held Unknown s = refl
+obey_held Highlight s = refl
+obey_held Break s = refl
+obey_held Centre s = refl
+obey_held Fill s = refl
+obey_held Unfill s = refl
+obey_held (Down a) s = small_held (λ (n : ℕ). laid (down n s)) (λ (n : ℕ). not (a.minus && ltb 0 n)) a.size
+obey_held (Across a) s = small_held (λ (n : ℕ). laid (owe n s)) (λ (n : ℕ). not (a.minus && ltb 0 n)) a.size
+obey_held (Margin a) s =
     small_held (λ (n : ℕ). laid (set_margin (cond a.minus (s.margin - n) (s.margin + n)) s)) (λ (n : ℕ). (a.minus && leb n s.margin) || (not a.minus && leb (s.margin + n) 200)) a.size
-obey-held (Once a) s =
+obey_held (Once a) s =
     small_held (λ (n : ℕ). laid (set_left (cond a.minus (s.margin - n) (s.margin + n)) s)) (λ (n : ℕ). (a.minus && leb n s.margin) || (not a.minus && leb (s.margin + n) 200)) a.size
 
-pub quiet-held : (o : Order) → quiet (held_order o) ≡ quiet o
+pub quiet_held : (o : Order) → quiet (held_order o) ≡ quiet o
 unfolding held_order
-quiet-held Unknown = refl
-quiet-held Highlight = refl
-quiet-held Break = refl
-quiet-held Centre = refl
-quiet-held Fill = refl
-quiet-held Unfill = refl
-quiet-held (Down a) = refl
-quiet-held (Across a) = refl
-quiet-held (Margin a) = refl
-quiet-held (Once a) = refl
+quiet_held Unknown = refl
+quiet_held Highlight = refl
+quiet_held Break = refl
+quiet_held Centre = refl
+quiet_held Fill = refl
+quiet_held Unfill = refl
+quiet_held (Down a) = refl
+quiet_held (Across a) = refl
+quiet_held (Margin a) = refl
+quiet_held (Once a) = refl
 
 -- ---- a command as an item
 
-move-quiet : (s : Sheet) (inside : List ℕ) → quiet (order_of inside) ≡ true → move s (order inside) ≡ laid s
+move_quiet : (s : Sheet) (inside : List ℕ) → quiet (order_of inside) ≡ true → move s (order inside) ≡ laid s
 unfolding move obeyed
-move-quiet s inside e = rw e
+move_quiet s inside e = rw e
 
 move_loud : (s : Sheet) (inside : List ℕ) → quiet (order_of inside) ≡ false → move s (order inside) ≡ then_laid (end_word (note_cr false s)) (obey (order_of inside))
 unfolding move obeyed
@@ -234,26 +234,26 @@ move_loud s inside e = rw e
 
 module _ (inside : List ℕ) (o : Order) (e : o ≡ held_order (order_of inside)) (c : Page) (t d : List ℕ) (f : Sound c t d) where
   is_quiet : quiet (order_of inside) ≡ quiet o
-  is_quiet = sym (quiet-held (order_of inside)) ∙ ap quiet (sym e)
+  is_quiet = sym (quiet_held (order_of inside)) ∙ ap quiet (sym e)
 
-  pub order-quiet : quiet o ≡ true → Follows (order inside ∷ []) c t d c t d
-  order-quiet q =
+  pub order_quiet : quiet o ≡ true → Follows (order inside ∷ []) c t d c t d
+  order_quiet q =
       record {
         sound = f;
         writes = refl;
         size = refl;
         still = λ (w : c.writes ≡ false). refl;
         spoilt = λ (w : c.unfit ≡ true). w;
-        goes = λ (d₀ : List ℕ) (s : Sheet) (m : Matches d₀ s c t d). at s (goes-moves s (order inside ∷ []) (laid s) (moves_one s (order inside) ∙ silent s)) m;
+        goes = λ (d₀ : List ℕ) (s : Sheet) (m : Matches d₀ s c t d). at s (goes_moves s (order inside ∷ []) (laid s) (moves_one s (order inside) ∙ silent s)) m;
       }
     where
       silent : (s : Sheet) → move s (order inside) ≡ laid s
-      silent s = move-quiet s inside (is_quiet ∙ q)
+      silent s = move_quiet s inside (is_quiet ∙ q)
 
-  pub order-follows : (k c' : Page) (d' : List ℕ) → quiet o ≡ false → k ≡ closed c → Acts (obey o) k t d c' t d' → Follows (order inside ∷ []) c t d c' t d'
-  order-follows k c' d' q g a =
+  pub order_follows : (k c' : Page) (d' : List ℕ) → quiet o ≡ false → k ≡ closed c → Acts (obey o) k t d c' t d' → Follows (order inside ∷ []) c t d c' t d'
+  order_follows k c' d' q g a =
       acts_follow (order inside) (obey (order_of inside)) c t d c' t d'
-      (subst (λ (p : Page). Acts (obey (order_of inside)) p t d c' t d') g (acts_same (obey o) (obey (order_of inside)) k t d c' t d' (λ (s : Sheet). ap (λ (x : Order). obey x s) e ∙ obey-held (order_of inside) s) a))
+      (subst (λ (p : Page). Acts (obey (order_of inside)) p t d c' t d') g (acts_same (obey o) (obey (order_of inside)) k t d c' t d' (λ (s : Sheet). ap (λ (x : Order). obey x s) e ∙ obey_held (order_of inside) s) a))
       (λ (s : Sheet) (h : s.after_cr ≡ c.after). moves_one s (order inside) ∙ move_loud s inside (is_quiet ∙ q))
 
 -- ---- numbers in their ranges, as the code tests them
@@ -271,7 +271,7 @@ module _ (m : ℕ) (a : Amount) where
       by : (x y z : Bool) → (x && ((true && y) || (false && z))) ≡ true → y ≡ true
       by true true z e = refl
       by true false z e = e
-      by false y z e = false-true e
+      by false y z e = false_true e
 
   pub fits_on : fits m a ≡ true → a.minus ≡ false → m + a.size ≤ 200
   fits_on e n = leb-true (m + a.size) 200 (by (leb a.size 200) (leb a.size m) (leb (m + a.size) 200) (ap (λ (b : Bool). leb a.size 200 && ((b && leb a.size m) || (not b && leb (m + a.size) 200))) (sym n) ∙ e))
@@ -279,7 +279,7 @@ module _ (m : ℕ) (a : Amount) where
       by : (x y z : Bool) → (x && ((false && y) || (true && z))) ≡ true → z ≡ true
       by true y true e = refl
       by true y false e = e
-      by false y z e = false-true e
+      by false y z e = false_true e
 
   pub moved_small : fits m a ≡ true → m ≤ 200 → moved m a ≤ 200
   moved_small e h = by a.minus refl
@@ -288,17 +288,17 @@ module _ (m : ℕ) (a : Amount) where
       by true n = omega arith
       by false n = fits_on e n
 
-pub natural-most : (a : Amount) → natural a ≡ true → a.size ≤ 200
-natural-most a e = natural_small a e
+pub natural_most : (a : Amount) → natural a ≡ true → a.size ≤ 200
+natural_most a e = natural_small a e
 
 module _ (a : Amount) (s : Sheet) where
-  pub obey-down : natural a ≡ true → laid (down a.size s) ≡ obey (Down a) s
+  pub obey_down : natural a ≡ true → laid (down a.size s) ≡ obey (Down a) s
   unfolding obey
-  obey-down e = rw e
+  obey_down e = rw e
 
-  pub stop-down : natural a ≡ false → obey (Down a) s ≡ unfit
+  pub stop_down : natural a ≡ false → obey (Down a) s ≡ unfit
   unfolding obey
-  stop-down e = rw e
+  stop_down e = rw e
 
   pub obey_across : natural a ≡ true → laid (owe a.size s) ≡ obey (Across a) s
   unfolding obey
@@ -308,14 +308,14 @@ module _ (a : Amount) (s : Sheet) where
   unfolding obey
   stop_across e = rw e
 
-  pub stop-margin : (m : ℕ) → fits m a ≡ false → m ≡ s.margin → obey (Margin a) s ≡ unfit
+  pub stop_margin : (m : ℕ) → fits m a ≡ false → m ≡ s.margin → obey (Margin a) s ≡ unfit
   unfolding obey
-  stop-margin m e q = rw (ap (λ (x : ℕ). fits x a) (sym q) ∙ e)
+  stop_margin m e q = rw (ap (λ (x : ℕ). fits x a) (sym q) ∙ e)
 
-  pub stop-once : (m : ℕ) → fits m a ≡ false → m ≡ s.margin → obey (Once a) s ≡ unfit
+  pub stop_once : (m : ℕ) → fits m a ≡ false → m ≡ s.margin → obey (Once a) s ≡ unfit
   unfolding obey
-  stop-once m e q = rw (ap (λ (x : ℕ). fits x a) (sym q) ∙ e)
+  stop_once m e q = rw (ap (λ (x : ℕ). fits x a) (sym q) ∙ e)
 
-pub obey-plain : (s : Sheet) → (obey Highlight s ≡ laid s) × (obey Break s ≡ laid (end_line s)) × (obey Fill s ≡ laid (set_fill true s)) × (obey Unfill s ≡ laid (set_fill false s)) × (obey Unknown s ≡ unfit)
+pub obey_plain : (s : Sheet) → (obey Highlight s ≡ laid s) × (obey Break s ≡ laid (end_line s)) × (obey Fill s ≡ laid (set_fill true s)) × (obey Unfill s ≡ laid (set_fill false s)) × (obey Unknown s ≡ unfit)
 unfolding obey
-obey-plain s = (refl, refl, refl, refl, refl)
+obey_plain s = (refl, refl, refl, refl, refl)

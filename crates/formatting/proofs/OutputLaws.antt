@@ -8,9 +8,9 @@ use lib.Dec.{ltb, leb}
 use lib.ListN.{length, take, drop, replicate, length-append, length-replicate}
 use lib.Seq.{length-take-le}
 use borrow.Author.Tests.{ltb-true, ltb-false, leb-true}
-use Rattle.alphabet.proofs.BoolLaws.{false-true}
+use Rattle.alphabet.proofs.BoolLaws.{false_true}
 use Rattle.alphabet.specs.Filling.{over, pasted, put_at, behind}
-use Rattle.alphabet.proofs.FillingLaws.{fill_more, fill_end, fill_from, fill_from_end, fill-length, put-fits, put-none}
+use Rattle.alphabet.proofs.FillingLaws.{fill_more, fill_end, fill_from, fill_from_end, fill_length, put_fits, put_none}
 use Rattle.formatting.specs.declared.page.Page.{Page}
 use Rattle.formatting.specs.Sheet.{blanks}
 use Rattle.formatting.specs.Pages.{out_with, new_line, spent_of, indent_of, shown_of, Output, Wrote}
@@ -21,22 +21,22 @@ pasted_length : (d xs : List ℕ) (at : ℕ) → at + length xs ≤ length d →
 pasted_length d xs at h =
     let n = length-append (take at d) xs in
     let m = length-take-le at d (omega arith) in
-    fill-length (fill_more xs [] (pasted d at xs) (at + length xs) (fill_from xs d at (omega arith)) (sym (append-nil xs)) refl refl) (omega arith)
+    fill_length (fill_more xs [] (pasted d at xs) (at + length xs) (fill_from xs d at (omega arith)) (sym (append-nil xs)) refl refl) (omega arith)
 
-pub put-length : (d xs : List ℕ) (at : ℕ) → length (put_at d at xs) ≡ length d
+pub put_length : (d xs : List ℕ) (at : ℕ) → length (put_at d at xs) ≡ length d
 unfolding put_at
-put-length d xs at = by (leb (at + length xs) (length d)) refl
+put_length d xs at = by (leb (at + length xs) (length d)) refl
   where
     by : (t : Bool) → leb (at + length xs) (length d) ≡ t → length (cond t (pasted d at xs) d) ≡ length d
     by true e = pasted_length d xs at (leb-true (at + length xs) (length d) e)
     by false e = refl
 
-pub kept-length : (w : Bool) (d xs : List ℕ) (at : ℕ) → length (cond w (put_at d at xs) d) ≡ length d
-kept-length true d xs at = put-length d xs at
-kept-length false d xs at = refl
+pub kept_length : (w : Bool) (d xs : List ℕ) (at : ℕ) → length (cond w (put_at d at xs) d) ≡ length d
+kept_length true d xs at = put_length d xs at
+kept_length false d xs at = refl
 
-pub over-more : (d₀ out xs d : List ℕ) (at : ℕ) → at ≡ length out → d ≡ over out d₀ → pasted d at xs ≡ over (out ++ xs) d₀
-over-more d₀ out xs d at e f =
+pub over_more : (d₀ out xs d : List ℕ) (at : ℕ) → at ≡ length out → d ≡ over out d₀ → pasted d at xs ≡ over (out ++ xs) d₀
+over_more d₀ out xs d at e f =
     fill_end
     (fill_more {W = out ++ xs} {d₀ = d₀} {rest₀ = xs} {d = d} {o = at} xs [] (pasted d at xs) (at + length xs)
     (record { front = out; whole = refl; size = sym e; holds = f ∙ ap (λ (n : ℕ). out ++ drop n d₀) (sym e) }) (sym (append-nil xs)) refl refl) refl
@@ -50,17 +50,17 @@ put_three d at xs ys zs d₁ d₂ d₃ a b h e₁ ea e₂ eb e₃ =
     let m = length-append ys zs in
     let w = length-append (take at d) (xs ++ (ys ++ zs)) in
     let k = length-take-le at d (omega arith) in
-    let f₁ = fill_more xs (ys ++ zs) d₁ a (fill_from (xs ++ (ys ++ zs)) d at (omega arith)) refl (e₁ ∙ (put-fits d xs at (omega arith)).1) ea in
-    let l₁ = fill-length f₁ (omega arith) in
-    let p = put-fits d₁ ys a (omega arith) in
+    let f₁ = fill_more xs (ys ++ zs) d₁ a (fill_from (xs ++ (ys ++ zs)) d at (omega arith)) refl (e₁ ∙ (put_fits d xs at (omega arith)).1) ea in
+    let l₁ = fill_length f₁ (omega arith) in
+    let p = put_fits d₁ ys a (omega arith) in
     let f₂ = fill_more ys zs d₂ b f₁ refl (e₂ ∙ p.1) (eb ∙ p.0) in
-    let l₂ = fill-length f₂ (omega arith) in
+    let l₂ = fill_length f₂ (omega arith) in
     let q = eb ∙ p.0 in
-    let f₃ = fill_more zs [] d₃ (b + length zs) f₂ (sym (append-nil zs)) (e₃ ∙ (put-fits d₂ zs b (omega arith)).1) refl in
-    (fill_from_end (xs ++ (ys ++ zs)) at f₃ (omega arith) refl).1 ∙ sym (put-fits d (xs ++ (ys ++ zs)) at h).1
+    let f₃ = fill_more zs [] d₃ (b + length zs) f₂ (sym (append-nil zs)) (e₃ ∙ (put_fits d₂ zs b (omega arith)).1) refl in
+    (fill_from_end (xs ++ (ys ++ zs)) at f₃ (omega arith) refl).1 ∙ sym (put_fits d (xs ++ (ys ++ zs)) at h).1
 
-pub line-length : (i n : ℕ) (l : List ℕ) → length (blanks i ++ (l ++ replicate n 10)) ≡ i + (length l + n)
-line-length i n l =
+pub line_length : (i n : ℕ) (l : List ℕ) → length (blanks i ++ (l ++ replicate n 10)) ≡ i + (length l + n)
+line_length i n l =
     let a = length-append (blanks i) (l ++ replicate n 10) in
     let b = length-append l (replicate n 10) in
     let c = length-replicate {A = ℕ} i 32 in
@@ -85,7 +85,7 @@ module _ (xs d : List ℕ) (c : Page) (h : c.place ≤ length d) where
   short_wrote : (d' : List ℕ) → ltb (length d - c.place) (length xs) ≡ true → d' ≡ cond c.writes (put_at d c.place xs) d → Wrote xs c d (out_with c.place true c) d'
   short_wrote d' e f =
       let l = ltb-true (length d - c.place) (length xs) e in
-      let same : d' ≡ d = f ∙ ap (λ (v : List ℕ). cond c.writes v d) (put-none d xs c.place (omega arith)).1 ∙ either c.writes d in
+      let same : d' ≡ d = f ∙ ap (λ (v : List ℕ). cond c.writes v d) (put_none d xs c.place (omega arith)).1 ∙ either c.writes d in
       let z = ap length same in
       record {
         within = omega arith;
@@ -94,8 +94,8 @@ module _ (xs d : List ℕ) (c : Page) (h : c.place ≤ length d) where
         output = λ (d₀ out : List ℕ) (n : length d ≡ length d₀) (o : Output d₀ out c.writes c.place c.short d).
             let a = length-append out xs in
             record {
-              done = λ (q : true ≡ false). absurd (false-true (sym q));
-              holds = λ (q : true ≡ false). absurd (false-true (sym q));
+              done = λ (q : true ≡ false). absurd (false_true (sym q));
+              holds = λ (q : true ≡ false). absurd (false_true (sym q));
               beyond = λ (q : true ≡ true). by d₀ out n o c.short refl;
             };
       }
@@ -111,7 +111,7 @@ module _ (xs d : List ℕ) (c : Page) (h : c.place ≤ length d) where
   fits_wrote : (d' : List ℕ) → ltb (length d - c.place) (length xs) ≡ false → d' ≡ cond c.writes (put_at d c.place xs) d → Wrote xs c d (out_with (c.place + length xs) c.short c) d'
   fits_wrote d' e f =
       let l = ltb-false (length d - c.place) (length xs) e in
-      let z = ap length f ∙ kept-length c.writes d xs c.place in
+      let z = ap length f ∙ kept_length c.writes d xs c.place in
       record {
         within = omega arith;
         size = z;
@@ -120,13 +120,13 @@ module _ (xs d : List ℕ) (c : Page) (h : c.place ≤ length d) where
             let a = length-append out xs in
             record {
               done = λ (q : c.short ≡ false). let b = o.done q in omega arith;
-              holds = λ (q : c.short ≡ false) (w : c.writes ≡ true). f ∙ ap (λ (t : Bool). cond t (put_at d c.place xs) d) w ∙ fitted ∙ over-more d₀ out xs d c.place (o.done q) (o.holds q w);
+              holds = λ (q : c.short ≡ false) (w : c.writes ≡ true). f ∙ ap (λ (t : Bool). cond t (put_at d c.place xs) d) w ∙ fitted ∙ over_more d₀ out xs d c.place (o.done q) (o.holds q w);
               beyond = λ (q : c.short ≡ true). let b = o.beyond q in omega arith;
             };
       }
     where
       fitted : put_at d c.place xs ≡ pasted d c.place xs
-      fitted = let l = ltb-false (length d - c.place) (length xs) e in (put-fits d xs c.place (omega arith)).1
+      fitted = let l = ltb-false (length d - c.place) (length xs) e in (put_fits d xs c.place (omega arith)).1
 
   pub wrote : (c' : Page) (d' : List ℕ) → c' ≡ spent_of (length xs) (length d) c → d' ≡ cond c.writes (put_at d c.place xs) d → Wrote xs c d c' d'
   wrote c' d' e f = by (ltb (length d - c.place) (length xs)) refl
@@ -152,10 +152,10 @@ pub shown_wrote : (c c' : Page) (t d d' : List ℕ) (i n : ℕ) → c.place ≤ 
 shown_wrote c c' t d d' i n h b e f g =
     let xs = shown_of c t ++ replicate n 10 in
     let same : blanks i ++ (take c.line t ++ replicate n 10) ≡ xs = ap (λ (k : ℕ). blanks k ++ (take c.line t ++ replicate n 10)) e ∙ sym (append_assoc (blanks (indent_of c)) (take c.line t) (replicate n 10)) in
-    let l = line-length i n (take c.line t) in
+    let l = line_length i n (take c.line t) in
     let m = ap length same in
     let z : i + c.line + n ≡ length xs = omega arith in
-    let counted : c' ≡ spent_of (length xs) (length d) c = g ∙ ap₂ (λ (k r : ℕ). spent_of k r c) z (ap length f ∙ kept-length c.writes d _ c.place) in
+    let counted : c' ≡ spent_of (length xs) (length d) c = g ∙ ap₂ (λ (k r : ℕ). spent_of k r c) z (ap length f ∙ kept_length c.writes d _ c.place) in
     (spent_layout xs d c h c' (length xs) counted, wrote xs d c h c' d' counted (f ∙ ap (λ (v : List ℕ). cond c.writes (put_at d c.place v) d) same))
 
 -- the start of a line writes nothing

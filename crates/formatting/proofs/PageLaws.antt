@@ -9,7 +9,7 @@ use native.Mathlib.Omega.{arith}
 use lib.Dec.{ltb, eqb}
 use lib.ListN.{length}
 use borrow.Author.Tests.{eq-eqb, ne_eqb}
-use Rattle.alphabet.proofs.BoolLaws.{false-true}
+use Rattle.alphabet.proofs.BoolLaws.{false_true}
 use Rattle.format_commands.specs.Commands.{held_size}
 use Rattle.format_commands.specs.Items.{Item, byte}
 use Rattle.format_commands.proofs.CommandLaws.{held_cases}
@@ -17,7 +17,7 @@ use Rattle.formatting.specs.declared.page.Page.{Page}
 use Rattle.formatting.specs.Sheet.{Sheet, laid, unfit, blanks, is_empty, lead}
 use Rattle.formatting.specs.Going.{Goes}
 use Rattle.formatting.specs.Pages.{lead_of, reach_of, Slight, line_with, word_ended, indent_of, ahead, Matches, Sound, Reaches, at, nowhere, Follows}
-use Rattle.formatting.proofs.SheetLaws.{goes_then, goes_none, goes-unfit, ahead-length}
+use Rattle.formatting.proofs.SheetLaws.{goes_then, goes_none, goes_unfit, ahead_length}
 
 -- ---- numbers that are held
 
@@ -26,15 +26,15 @@ held_min n =
     ⊎_elim (λ (h : (n < 201) × (held_size n ≡ n)). let a = h.0 in let b = h.1 in omega arith)
     (λ (h : (201 ≤ n) × (held_size n ≡ 201)). let a = h.0 in let b = h.1 in omega arith) (held_cases n)
 
-pub empty-eqb : (l : List ℕ) → is_empty l ≡ eqb (length l) 0
+pub empty_eqb : (l : List ℕ) → is_empty l ≡ eqb (length l) 0
 unfolding is_empty
-empty-eqb [] = refl
-empty-eqb (x ∷ r) = sym (ne_eqb (length (x ∷ r)) 0 (λ (e : length (x ∷ r) ≡ 0). omega arith))
+empty_eqb [] = refl
+empty_eqb (x ∷ r) = sym (ne_eqb (length (x ∷ r)) 0 (λ (e : length (x ∷ r) ≡ 0). omega arith))
 
-pub some-length : (l : List ℕ) → is_empty l ≡ false → 0 < length l
+pub some_length : (l : List ℕ) → is_empty l ≡ false → 0 < length l
 unfolding is_empty
-some-length [] e = false-true (sym e)
-some-length (x ∷ r) e = omega arith
+some_length [] e = false_true (sym e)
+some_length (x ∷ r) e = omega arith
 
 pub length_some : (l : List ℕ) → 0 < length l → is_empty l ≡ false
 unfolding is_empty
@@ -44,7 +44,7 @@ length_some (x ∷ r) h = refl
 pub empty_is : (l : List ℕ) → is_empty l ≡ true → l ≡ []
 unfolding is_empty
 empty_is [] e = refl
-empty_is (x ∷ r) e = absurd (false-true e)
+empty_is (x ∷ r) e = absurd (false_true e)
 
 pub length_none : (l : List ℕ) → length l ≡ 0 → is_empty l ≡ true
 unfolding is_empty
@@ -53,8 +53,8 @@ length_none (x ∷ r) h = absurd (omega arith)
 
 -- ---- one function behind another
 
-pub follows-none : {c : Page} {t d : List ℕ} → Sound c t d → Follows [] c t d c t d
-follows-none {c} {t} {d} f =
+pub follows_none : {c : Page} {t d : List ℕ} → Sound c t d → Follows [] c t d c t d
+follows_none {c} {t} {d} f =
     record {
       sound = f;
       writes = refl;
@@ -65,15 +65,15 @@ follows-none {c} {t} {d} f =
     }
 
 -- a page that is unfit stays so, whatever the items
-pub follows-spoilt : (xs : List Item) {c : Page} {t d : List ℕ} → Sound c t d → c.unfit ≡ true → Follows xs c t d c t d
-follows-spoilt xs {c} {t} {d} f u =
+pub follows_spoilt : (xs : List Item) {c : Page} {t d : List ℕ} → Sound c t d → c.unfit ≡ true → Follows xs c t d c t d
+follows_spoilt xs {c} {t} {d} f u =
     record {
       sound = f;
       writes = refl;
       size = refl;
       still = λ (q : c.writes ≡ false). refl;
       spoilt = λ (q : c.unfit ≡ true). q;
-      goes = λ (d₀ : List ℕ) (s : Sheet) (m : Matches d₀ s c t d). absurd (false-true (sym m.fit ∙ u));
+      goes = λ (d₀ : List ℕ) (s : Sheet) (m : Matches d₀ s c t d). absurd (false_true (sym m.fit ∙ u));
     }
 
 pub follows_then : {xs ys : List Item} {c c' c'' : Page} {t d t' d' t'' d'' : List ℕ} → Follows xs c t d c' t' d' → Follows ys c' t' d' c'' t'' d'' → Follows (xs ++ ys) c t d c'' t'' d''
@@ -93,40 +93,40 @@ follows_then {xs} {ys} {c} {c'} {c''} {t} {d} {t'} {d'} {t''} {d''} f g =
 
     by : (d₀ : List ℕ) (s : Sheet) → Reaches d₀ s xs c' t' d' → Reaches d₀ s (xs ++ ys) c'' t'' d''
     by d₀ s (at s' x m) = on d₀ s s' x (g.goes d₀ s' m)
-    by d₀ s (nowhere x e) = nowhere (goes_then (laid s) unfit unfit xs ys x (goes-unfit ys)) (g.spoilt e)
+    by d₀ s (nowhere x e) = nowhere (goes_then (laid s) unfit unfit xs ys x (goes_unfit ys)) (g.spoilt e)
 
 -- ---- the blanks before a word
 
-lead-held : (t : Bool) (o l : ℕ) → (held_size o + cond t (held_size l) 0 ≤ o + cond t l 0) × (held_size o + cond t (held_size l) 0 ≤ 200 → o + cond t l 0 ≡ held_size o + cond t (held_size l) 0)
-lead-held true o l = let a = held_min o in let b = held_min l in (omega arith, λ (h : held_size o + held_size l ≤ 200). omega arith)
-lead-held false o l = let a = held_min o in (omega arith, λ (h : held_size o + 0 ≤ 200). omega arith)
+lead_held : (t : Bool) (o l : ℕ) → (held_size o + cond t (held_size l) 0 ≤ o + cond t l 0) × (held_size o + cond t (held_size l) 0 ≤ 200 → o + cond t l 0 ≡ held_size o + cond t (held_size l) 0)
+lead_held true o l = let a = held_min o in let b = held_min l in (omega arith, λ (h : held_size o + held_size l ≤ 200). omega arith)
+lead_held false o l = let a = held_min o in (omega arith, λ (h : held_size o + 0 ≤ 200). omega arith)
 
 module _ {d₀ : List ℕ} {s : Sheet} {c : Page} {t d : List ℕ} (m : Matches d₀ s c t d) where
   lead_is : lead_of c ≡ held_size s.owed + cond (is_empty s.line && not s.centre) (held_size s.left) 0
   unfolding lead_of
-  lead_is = rw (m.owed, m.left, m.centre, m.line) (ap (λ (t : Bool). held_size s.owed + cond (t && not s.centre) (held_size s.left) 0) (sym (empty-eqb s.line)))
+  lead_is = rw (m.owed, m.left, m.centre, m.line) (ap (λ (t : Bool). held_size s.owed + cond (t && not s.centre) (held_size s.left) 0) (sym (empty_eqb s.line)))
 
-  pub lead-least : lead_of c ≤ lead s
+  pub lead_least : lead_of c ≤ lead s
   unfolding lead
-  lead-least = let a = lead_is in let b = (lead-held (is_empty s.line && not s.centre) s.owed s.left).0 in omega arith
+  lead_least = let a = lead_is in let b = (lead_held (is_empty s.line && not s.centre) s.owed s.left).0 in omega arith
 
   pub lead_exact : lead_of c ≤ 200 → lead s ≡ lead_of c
   unfolding lead
   lead_exact h =
       let a = lead_is in
-      let b = (lead-held (is_empty s.line && not s.centre) s.owed s.left).1 (omega arith) in
+      let b = (lead_held (is_empty s.line && not s.centre) s.owed s.left).1 (omega arith) in
       omega arith
 
   -- where the next byte of a word would stand
-  pub reach-least : reach_of c ≤ length (ahead s)
+  pub reach_least : reach_of c ≤ length (ahead s)
   unfolding reach_of
-  reach-least = let a = lead-least in let b = ahead-length s in let x = m.line in let y = m.word in omega arith
+  reach_least = let a = lead_least in let b = ahead_length s in let x = m.line in let y = m.word in omega arith
 
   pub reach_exact : reach_of c ≤ 200 → (length (ahead s) ≡ reach_of c) × (lead s ≡ lead_of c)
   unfolding reach_of
   reach_exact h =
       let a = lead_exact (omega arith) in
-      let b = ahead-length s in
+      let b = ahead_length s in
       let x = m.line in
       let y = m.word in
       (omega arith, a)
@@ -137,9 +137,9 @@ pub pick_most : (t : Bool) (a b n : ℕ) → a ≤ n → b ≤ n → cond t a b 
 pick_most true a b n h k = h
 pick_most false a b n h k = k
 
-pub lead-most : (c : Page) → Slight c → lead_of c ≤ 402
+pub lead_most : (c : Page) → Slight c → lead_of c ≤ 402
 unfolding lead_of
-lead-most c s =
+lead_most c s =
     let a = pick_most (eqb c.line 0 && not c.centre) c.left 0 201 s.left (omega arith) in
     let b = s.owed in
     omega arith
@@ -148,9 +148,9 @@ pub indent_most : (c : Page) → indent_of c ≤ 100
 unfolding indent_of
 indent_most c = pick_most (c.centre && ltb 0 c.line) ((200 - c.line) / 2) 0 100 (omega arith) (omega arith)
 
-pub ended-none : (c : Page) → c.word ≡ 0 → word_ended c ≡ c
+pub ended_none : (c : Page) → c.word ≡ 0 → word_ended c ≡ c
 unfolding word_ended
-ended-none c e = rw (eq-eqb _ _ e)
+ended_none c e = rw (eq-eqb _ _ e)
 
 pub ended_some : (c : Page) → (c.word ≡ 0 → ⊥) → word_ended c ≡ line_with (reach_of c) 0 0 c
 unfolding word_ended
@@ -158,8 +158,8 @@ ended_some c e = rw (ne_eqb _ _ e)
 
 -- ---- bytes behind bytes
 
-pub follows-bytes : (u v w : List ℕ) {c c' c'' : Page} {t d t' d' t'' d'' : List ℕ} → u ++ v ≡ w → Follows (map byte u) c t d c' t' d' → Follows (map byte v) c' t' d' c'' t'' d'' → Follows (map byte w) c t d c'' t'' d''
-follows-bytes u v w {c} {c'} {c''} {t} {d} {t'} {d'} {t''} {d''} e f g =
+pub follows_bytes : (u v w : List ℕ) {c c' c'' : Page} {t d t' d' t'' d'' : List ℕ} → u ++ v ≡ w → Follows (map byte u) c t d c' t' d' → Follows (map byte v) c' t' d' c'' t'' d'' → Follows (map byte w) c t d c'' t'' d''
+follows_bytes u v w {c} {c'} {c''} {t} {d} {t'} {d'} {t''} {d''} e f g =
     subst (λ (xs : List Item). Follows xs c t d c'' t'' d'') (sym (map-append byte u v) ∙ ap (map byte) e) (follows_then f g)
 
 pub follows_same : (u v : List ℕ) {c c' : Page} {t d t' d' : List ℕ} → u ≡ v → Follows (map byte u) c t d c' t' d' → Follows (map byte v) c t d c' t' d'

@@ -9,29 +9,29 @@ use lib.ListN.{length, get_or, take, drop, replicate-append-replicate, take-appe
 use lib.Seq.{take_all, length-take-le}
 use borrow.Author.Tests.{ne_eqb}
 use Rattle.alphabet.proofs.BoolLaws.{and_both}
-use Rattle.alphabet.proofs.ListLaws.{drop-next}
+use Rattle.alphabet.proofs.ListLaws.{drop_next}
 use Rattle.formatting.specs.Sheet.{blanks}
 use Rattle.formatting.specs.Runs.{clear, firm, inked, blankless}
 
-pub blankless-next : (l : List ℕ) (j : ℕ) → 0 < j → j ≤ length l → (get_or l (j - 1) 0 ≡ 32 → ⊥) → blankless (drop j l) ≡ true → blankless (drop (j - 1) l) ≡ true
+pub blankless_next : (l : List ℕ) (j : ℕ) → 0 < j → j ≤ length l → (get_or l (j - 1) 0 ≡ 32 → ⊥) → blankless (drop j l) ≡ true → blankless (drop (j - 1) l) ≡ true
 unfolding blankless
-blankless-next l j h k n e =
+blankless_next l j h k n e =
     let i : (j - 1) + 1 ≡ j = omega arith in
-    ap blankless (drop-next l (j - 1) (omega arith)) ∙ rw (ne_eqb _ _ n) (ap (λ (m : ℕ). blankless (drop m l)) i ∙ e)
+    ap blankless (drop_next l (j - 1) (omega arith)) ∙ rw (ne_eqb _ _ n) (ap (λ (m : ℕ). blankless (drop m l)) i ∙ e)
 
-pub clear-drop : (n : ℕ) (l : List ℕ) → clear l ≡ true → clear (drop n l) ≡ true
+pub clear_drop : (n : ℕ) (l : List ℕ) → clear l ≡ true → clear (drop n l) ≡ true
 unfolding clear
-clear-drop zero l c = c
-clear-drop (suc n) [] c = refl
-clear-drop (suc n) (b ∷ r) c = clear-drop n r (and_both (not (eqb b 10 || eqb b 13)) (clear r) c).1
+clear_drop zero l c = c
+clear_drop (suc n) [] c = refl
+clear_drop (suc n) (b ∷ r) c = clear_drop n r (and_both (not (eqb b 10 || eqb b 13)) (clear r) c).1
 
-pub clear-take : (n : ℕ) (l : List ℕ) → clear l ≡ true → clear (take n l) ≡ true
+pub clear_take : (n : ℕ) (l : List ℕ) → clear l ≡ true → clear (take n l) ≡ true
 unfolding clear
-clear-take zero l c = refl
-clear-take (suc n) [] c = refl
-clear-take (suc n) (b ∷ r) c =
+clear_take zero l c = refl
+clear_take (suc n) [] c = refl
+clear_take (suc n) (b ∷ r) c =
     let q = and_both (not (eqb b 10 || eqb b 13)) (clear r) c in
-    rw q.0 (clear-take n r q.1)
+    rw q.0 (clear_take n r q.1)
 
 pub inked_of : (l : List ℕ) → clear l ≡ true → blankless l ≡ true → inked l ≡ true
 unfolding clear blankless inked
@@ -48,14 +48,14 @@ inked_of (b ∷ r) c e =
     by false false true h k = k
     by false false false h k = refl
 
-pub firm-take : (l : List ℕ) (e : ℕ) → 0 < e → e ≤ length l → (get_or l (e - 1) 0 ≡ 32 → ⊥) → firm (take e l) ≡ true
+pub firm_take : (l : List ℕ) (e : ℕ) → 0 < e → e ≤ length l → (get_or l (e - 1) 0 ≡ 32 → ⊥) → firm (take e l) ≡ true
 unfolding firm
-firm-take [] e h k n = absurd (omega arith)
-firm-take (b ∷ r) zero h k n = absurd (omega arith)
-firm-take (b ∷ r) (suc zero) h k n = ap not (ne_eqb b 32 n)
-firm-take (b ∷ []) (suc (suc e)) h k n = absurd (omega arith)
-firm-take (b ∷ x ∷ r) (suc (suc e)) h k n =
-    firm-take (x ∷ r) (suc e) (omega arith) (omega arith) (λ (q : get_or (x ∷ r) (suc e - 1) 0 ≡ 32). n (by q))
+firm_take [] e h k n = absurd (omega arith)
+firm_take (b ∷ r) zero h k n = absurd (omega arith)
+firm_take (b ∷ r) (suc zero) h k n = ap not (ne_eqb b 32 n)
+firm_take (b ∷ []) (suc (suc e)) h k n = absurd (omega arith)
+firm_take (b ∷ x ∷ r) (suc (suc e)) h k n =
+    firm_take (x ∷ r) (suc e) (omega arith) (omega arith) (λ (q : get_or (x ∷ r) (suc e - 1) 0 ≡ 32). n (by q))
   where
     by : get_or (x ∷ r) (suc e - 1) 0 ≡ 32 → get_or (b ∷ x ∷ r) (suc (suc e) - 1) 0 ≡ 32
     by q =
@@ -81,10 +81,10 @@ trim_start l =
     sym (ap (λ (m : ℕ). take (length l) l ++ blanks m) n ∙ append-nil (take (length l) l) ∙ take_all (length l) l (omega arith))
 
 -- bytes that end in a blank and then a word: words, blanks, and a word
-pub split-run : (u : List ℕ) (start end : ℕ) → 0 < start → start ≤ length u → get_or u (start - 1) 0 ≡ 32
+pub split_run : (u : List ℕ) (start end : ℕ) → 0 < start → start ≤ length u → get_or u (start - 1) 0 ≡ 32
     → take (start - 1) u ≡ take end (take (start - 1) u) ++ blanks (length (take (start - 1) u) - end)
     → u ≡ take end (take (start - 1) u) ++ (blanks (suc ((start - 1) - end)) ++ drop start u)
-split-run u start end h k b e =
+split_run u start end h k b e =
     let i : (start - 1) + 1 ≡ start = omega arith in
     let n = length-take-le (start - 1) u (omega arith) in
     let m : ((start - 1) - end) + 1 ≡ suc ((start - 1) - end) = omega arith in
@@ -92,5 +92,5 @@ split-run u start end h k b e =
     let a = blanks ((start - 1) - end) in
     let q = drop start u in
     sym (take-append-drop (start - 1) u)
-    ∙ ap₂ ◌++◌ (e ∙ ap (λ (x : ℕ). p ++ blanks (x - end)) n) (drop-next u (start - 1) (omega arith) ∙ ap₂ ◌∷◌ b (ap (λ (x : ℕ). drop x u) i))
+    ∙ ap₂ ◌++◌ (e ∙ ap (λ (x : ℕ). p ++ blanks (x - end)) n) (drop_next u (start - 1) (omega arith) ∙ ap₂ ◌∷◌ b (ap (λ (x : ℕ). drop x u) i))
     ∙ append_assoc p a (32 ∷ q) ∙ ap (λ (v : List ℕ). p ++ v) (sym (append_assoc a (32 ∷ []) q) ∙ ap (λ (v : List ℕ). v ++ q) (replicate-append-replicate ((start - 1) - end) 1 32 ∙ ap blanks m))

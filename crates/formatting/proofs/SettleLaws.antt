@@ -10,7 +10,7 @@ use Rattle.formatting.specs.declared.page.Page.{Page}
 use Rattle.formatting.specs.Sheet.{blanks}
 use Rattle.formatting.specs.Runs.{clear, firm, blankless}
 use Rattle.formatting.specs.Pages.{reach_of, line_with, noted, Settled, word, blank, words}
-use Rattle.formatting.proofs.RunLaws.{clear-drop, inked_of, split-run}
+use Rattle.formatting.proofs.RunLaws.{clear_drop, inked_of, split_run}
 
 module _ (c : Page) (u : List ℕ) (bright : clear u ≡ true) (start : ℕ) (within : start ≤ length u) (rest : blankless (drop start u) ≡ true) where
   pub settled_word : start ≡ 0 → Settled c u (noted false (line_with c.line c.owed (c.word + length u) c))
@@ -19,7 +19,7 @@ module _ (c : Page) (u : List ℕ) (bright : clear u ≡ true) (start : ℕ) (wi
   module _ (end : ℕ) (some : start ≡ 0 → ⊥) (last : 0 < start → get_or u (start - 1) 0 ≡ 32) (small : end ≤ length (take (start - 1) u))
       (parts : take (start - 1) u ≡ take end (take (start - 1) u) ++ blanks (length (take (start - 1) u) - end)) where
     whole : u ≡ take end (take (start - 1) u) ++ (blanks (suc ((start - 1) - end)) ++ drop start u)
-    whole = split-run u start end (omega arith) within (last (omega arith)) parts
+    whole = split_run u start end (omega arith) within (last (omega arith)) parts
 
     pub settled_blank : end + c.word ≡ 0 → Settled c u (noted false (line_with c.line (c.owed + start) (length u - start) c))
     settled_blank e =
@@ -27,7 +27,7 @@ module _ (c : Page) (u : List ℕ) (bright : clear u ≡ true) (start : ℕ) (wi
         let z : end ≡ 0 = omega arith in
         subst (λ (m : ℕ). Settled c u (noted false (line_with c.line (c.owed + start) m c))) (length-drop start u)
         (blank start (drop start u) (whole ∙ ap (λ (k : ℕ). take k (take (start - 1) u) ++ (blanks (suc ((start - 1) - end)) ++ drop start u)) z ∙ ap (λ (k : ℕ). blanks k ++ drop start u) n)
-        (inked_of (drop start u) (clear-drop start u bright) rest) (omega arith))
+        (inked_of (drop start u) (clear_drop start u bright) rest) (omega arith))
 
     pub settled_words : (end + c.word ≡ 0 → ⊥) → firm (take end (take (start - 1) u)) ≡ true → (reach : ℕ) → reach ≡ reach_of c
         → Settled c u (noted false (line_with (reach + end) (start - end) (length u - start) c))
@@ -39,4 +39,4 @@ module _ (c : Page) (u : List ℕ) (bright : clear u ≡ true) (start : ℕ) (wi
         subst (λ (m : ℕ). Settled c u (noted false (line_with m (start - end) (length u - start) c))) r
         (subst (λ (m : ℕ). Settled c u (noted false (line_with (reach_of c + length (take end (take (start - 1) u))) m (length u - start) c))) o
         (subst (λ (m : ℕ). Settled c u (noted false (line_with (reach_of c + length (take end (take (start - 1) u))) (suc ((start - 1) - end)) m c))) (length-drop start u)
-        (words (take end (take (start - 1) u)) (drop start u) ((start - 1) - end) whole f (inked_of (drop start u) (clear-drop start u bright) rest) (omega arith))))
+        (words (take end (take (start - 1) u)) (drop start u) ((start - 1) - end) whole f (inked_of (drop start u) (clear_drop start u bright) rest) (omega arith))))

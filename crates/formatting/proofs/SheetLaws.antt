@@ -9,7 +9,7 @@ use lib.Dec.{leb, eqb}
 use lib.ListN.{length, length-append, length-replicate, replicate-append-replicate}
 use borrow.Author.Tests.{le-leb, lt-leb, leb-true, leb-false, eqb-true}
 use native.Mathlib.Nat.{add-zero}
-use Rattle.alphabet.proofs.BoolLaws.{false-true, and_both}
+use Rattle.alphabet.proofs.BoolLaws.{false_true, and_both}
 use Rattle.format_commands.specs.Commands.{order_of}
 use Rattle.format_commands.specs.Items.{Item, byte, order}
 use Rattle.formatting.specs.Sheet.{Sheet, Laid, laid, unfit, then_laid, blanks, is_empty, shown, end_line, lead, put, end_word, note_cr, add_byte, obey, quiet, obeyed, of_word, space, move, moves, Lines, lines, none, written, lines_from}
@@ -19,10 +19,10 @@ use Rattle.formatting.specs.Pages.{ahead}
 
 -- ---- items one behind another
 
-pub moves-append : (s : Sheet) (xs r : List Item) → moves s (xs ++ r) ≡ then_laid (moves s xs) (λ (t : Sheet). moves t r)
+pub moves_append : (s : Sheet) (xs r : List Item) → moves s (xs ++ r) ≡ then_laid (moves s xs) (λ (t : Sheet). moves t r)
 unfolding moves
-moves-append s [] r = refl
-moves-append s (x ∷ xs) r = by (move s x) (λ (t : Sheet). moves-append t xs r)
+moves_append s [] r = refl
+moves_append s (x ∷ xs) r = by (move s x) (λ (t : Sheet). moves_append t xs r)
   where
     by : (m : Laid) → ((t : Sheet) → moves t (xs ++ r) ≡ then_laid (moves t xs) (λ (u : Sheet). moves u r))
         → then_laid m (λ (t : Sheet). moves t (xs ++ r)) ≡ then_laid (then_laid m (λ (t : Sheet). moves t xs)) (λ (u : Sheet). moves u r)
@@ -35,12 +35,12 @@ goes_then l m n xs ys f g r = ap (lines_after l) (append_assoc xs ys r) ∙ f (y
 pub goes_none : (l : Laid) → Goes l [] l
 goes_none l r = refl
 
-pub goes-unfit : (xs : List Item) → Goes unfit xs unfit
-goes-unfit xs r = refl
+pub goes_unfit : (xs : List Item) → Goes unfit xs unfit
+goes_unfit xs r = refl
 
-pub goes-moves : (s : Sheet) (xs : List Item) (m : Laid) → moves s xs ≡ m → Goes (laid s) xs m
+pub goes_moves : (s : Sheet) (xs : List Item) (m : Laid) → moves s xs ≡ m → Goes (laid s) xs m
 unfolding lines_from written
-goes-moves s xs m e r = ap (λ (q : Laid). written (then_laid q end_word)) (moves-append s xs r ∙ ap (λ (q : Laid). then_laid q (λ (t : Sheet). moves t r)) e) ∙ by m
+goes_moves s xs m e r = ap (λ (q : Laid). written (then_laid q end_word)) (moves_append s xs r ∙ ap (λ (q : Laid). then_laid q (λ (t : Sheet). moves t r)) e) ∙ by m
   where
     by : (m : Laid) → written (then_laid (then_laid m (λ (t : Sheet). moves t r)) end_word) ≡ lines_after m r
     by (laid t) = refl
@@ -56,8 +56,8 @@ moves_one s x = by (move s x)
 
 -- ---- a line that is still being filled
 
-pub ahead-length : (s : Sheet) → length (ahead s) ≡ length s.line + lead s + length s.word
-ahead-length s = simp (length-append, length-replicate) refl
+pub ahead_length : (s : Sheet) → length (ahead s) ≡ length s.line + lead s + length s.word
+ahead_length s = simp (length-append, length-replicate) refl
 
 -- the state s, with another line, another debt and another word, and not behind CR
 abbrev pub on : Sheet → List ℕ → ℕ → List ℕ → Sheet
@@ -69,14 +69,14 @@ lead_at s l o = o + cond (is_empty l && not s.centre) s.left 0
 abbrev pub content : Sheet → List ℕ → ℕ → List ℕ → List ℕ
 content s l o w = l ++ blanks (lead_at s l o) ++ w
 
-pub lead-on : (s : Sheet) (l : List ℕ) (o : ℕ) (w : List ℕ) → lead (on s l o w) ≡ lead_at s l o
+pub lead_on : (s : Sheet) (l : List ℕ) (o : ℕ) (w : List ℕ) → lead (on s l o w) ≡ lead_at s l o
 unfolding lead
-lead-on s l o w = refl
+lead_on s l o w = refl
 
 -- a word that fits ends on the line
-pub end-some : (s : Sheet) → is_empty s.word ≡ false → length (ahead s) ≤ 200 → end_word s ≡ laid (put (lead s) s)
+pub end_some : (s : Sheet) → is_empty s.word ≡ false → length (ahead s) ≤ 200 → end_word s ≡ laid (put (lead s) s)
 unfolding end_word
-end-some s e h = let n = ahead-length s in rw e (rw (le-leb (length s.line + lead s + length s.word) 200 (omega arith)))
+end_some s e h = let n = ahead_length s in rw e (rw (le-leb (length s.line + lead s + length s.word) 200 (omega arith)))
 
 pub end_none : (s : Sheet) → is_empty s.word ≡ true → end_word s ≡ laid s
 unfolding end_word
@@ -93,9 +93,9 @@ pub data Words : List ℕ → Type 0 where
   inner : {p : List ℕ} (b : ℕ) → of_word b ≡ true → Words p → Words (b ∷ p)
   blank : {p : List ℕ} → Words p → Words (32 ∷ p)
 
-pub clear-rest : (b : ℕ) (r : List ℕ) → clear (b ∷ r) ≡ true → clear r ≡ true
+pub clear_rest : (b : ℕ) (r : List ℕ) → clear (b ∷ r) ≡ true → clear r ≡ true
 unfolding clear
-clear-rest b r c = (and_both (not (eqb b 10 || eqb b 13)) (clear r) c).1
+clear_rest b r c = (and_both (not (eqb b 10 || eqb b 13)) (clear r) c).1
 
 pub blank_is : (b : ℕ) (r : List ℕ) → of_word b ≡ false → clear (b ∷ r) ≡ true → b ≡ 32
 unfolding clear
@@ -103,24 +103,24 @@ blank_is b r p c = at (eqb b 32) refl (eqb b 13) (eqb b 10) p (and_both (not (eq
   where
     at : (t : Bool) → eqb b 32 ≡ t → (u v : Bool) → not (t || (u || v)) ≡ false → not (v || u) ≡ true → b ≡ 32
     at true e u v x y = eqb-true b 32 e
-    at false e true true x y = false-true y
-    at false e true false x y = false-true y
-    at false e false true x y = false-true y
-    at false e false false x y = false-true (sym x)
+    at false e true true x y = false_true y
+    at false e true false x y = false_true y
+    at false e false true x y = false_true y
+    at false e false false x y = false_true (sym x)
 
-firm-word : (b : ℕ) → firm (b ∷ []) ≡ true → b ≡ 32 → ⊥
+firm_word : (b : ℕ) → firm (b ∷ []) ≡ true → b ≡ 32 → ⊥
 unfolding firm
-firm-word b f e = false-true (sym (ap (λ (n : ℕ). not (eqb n 32)) e) ∙ f)
+firm_word b f e = false_true (sym (ap (λ (n : ℕ). not (eqb n 32)) e) ∙ f)
 
 pub words_of : (p : List ℕ) → is_empty p ≡ false → clear p ≡ true → firm p ≡ true → Words p
 unfolding is_empty firm
-words_of [] n c f = false-true (sym n)
+words_of [] n c f = false_true (sym n)
 words_of (b ∷ []) n c f = at (of_word b) refl
   where
     at : (t : Bool) → of_word b ≡ t → Words (b ∷ [])
     at true e = last b e
-    at false e = absurd (firm-word b f (blank_is b [] e c))
-words_of (b ∷ x ∷ r) n c f = at (of_word b) refl (words_of (x ∷ r) refl (clear-rest b (x ∷ r) c) f)
+    at false e = absurd (firm_word b f (blank_is b [] e c))
+words_of (b ∷ x ∷ r) n c f = at (of_word b) refl (words_of (x ∷ r) refl (clear_rest b (x ∷ r) c) f)
   where
     at : (t : Bool) → of_word b ≡ t → Words (x ∷ r) → Words (b ∷ x ∷ r)
     at true e m = inner b e m
@@ -135,31 +135,31 @@ module _ (s : Sheet) where
   unfolding move space is_empty
   blank_none l o = rw (end_none (on s l o []) refl)
 
-  blank-some : (l w : List ℕ) (o : ℕ) → is_empty w ≡ false → length (content s l o w) ≤ 200 → move (on s l o w) (byte 32) ≡ laid (on s (content s l o w) 1 [])
+  blank_some : (l w : List ℕ) (o : ℕ) → is_empty w ≡ false → length (content s l o w) ≤ 200 → move (on s l o w) (byte 32) ≡ laid (on s (content s l o w) 1 [])
   unfolding move space lead put
-  blank-some l w o e h = rw (end-some (on s l o w) e h)
+  blank_some l w o e h = rw (end_some (on s l o w) e h)
 
   -- bytes of a word, one behind another
-  pub ink-moves : (q l w : List ℕ) (o : ℕ) (r : List Item) → inked q ≡ true → moves (on s l o w) (map byte q ++ r) ≡ moves (on s l o (w ++ q)) r
+  pub ink_moves : (q l w : List ℕ) (o : ℕ) (r : List Item) → inked q ≡ true → moves (on s l o w) (map byte q ++ r) ≡ moves (on s l o (w ++ q)) r
   unfolding moves inked
-  ink-moves [] l w o r e = ap (λ (v : List ℕ). moves (on s l o v) r) (sym (append-nil w))
-  ink-moves (b ∷ q) l w o r e =
+  ink_moves [] l w o r e = ap (λ (v : List ℕ). moves (on s l o v) r) (sym (append-nil w))
+  ink_moves (b ∷ q) l w o r e =
       let both = and_both (of_word b) (inked q) e in
       ap (λ (m : Laid). then_laid m (λ (t : Sheet). moves t (map byte q ++ r))) (word_byte l w o b both.0)
-      ∙ ink-moves q l (w ++ b ∷ []) o r both.1 ∙ ap (λ (v : List ℕ). moves (on s l o v) r) (append_assoc w (b ∷ []) q)
+      ∙ ink_moves q l (w ++ b ∷ []) o r both.1 ∙ ap (λ (v : List ℕ). moves (on s l o v) r) (append_assoc w (b ∷ []) q)
 
   -- blanks, one behind another
-  pub blank-moves : (k : ℕ) (l : List ℕ) (o : ℕ) (r : List Item) → moves (on s l o []) (map byte (blanks k) ++ r) ≡ moves (on s l (o + k) []) r
+  pub blank_moves : (k : ℕ) (l : List ℕ) (o : ℕ) (r : List Item) → moves (on s l o []) (map byte (blanks k) ++ r) ≡ moves (on s l (o + k) []) r
   unfolding moves
-  blank-moves zero l o r = ap (λ (n : ℕ). moves (on s l n []) r) (sym (add-zero o))
-  blank-moves (suc k) l o r =
+  blank_moves zero l o r = ap (λ (n : ℕ). moves (on s l n []) r) (sym (add-zero o))
+  blank_moves (suc k) l o r =
       let e : (o + 1) + k ≡ o + suc k = omega arith in
       ap (λ (m : Laid). then_laid m (λ (t : Sheet). moves t (map byte (blanks k) ++ r))) (blank_none l o)
-      ∙ blank-moves k l (o + 1) r ∙ ap (λ (n : ℕ). moves (on s l n []) r) e
+      ∙ blank_moves k l (o + 1) r ∙ ap (λ (n : ℕ). moves (on s l n []) r) e
 
   pub some_content : (l v p : List ℕ) (o k : ℕ) → is_empty v ≡ false → content s (content s l o v) k p ≡ content s l o (v ++ (blanks k ++ p))
   unfolding is_empty
-  some_content l [] p o k e = false-true (sym e)
+  some_content l [] p o k e = false_true (sym e)
   some_content l (x ∷ v) p o k e = by (l ++ blanks (lead_at s l o))
     where
       zeros : (z : List ℕ) → z ++ blanks (k + 0) ++ p ≡ z ++ (blanks k ++ p)
@@ -176,29 +176,29 @@ module _ (s : Sheet) where
       ap (λ (n : ℕ). l ++ blanks n ++ p) e ∙ ap (λ (v : List ℕ). l ++ v ++ p) (sym (replicate-append-replicate (o + x) k 32)) ∙ simp append_assoc
 
   -- words up to a blank
-  words-moves : {p : List ℕ} → Words p → (l w : List ℕ) (o : ℕ) (r : List Item) → length (content s l o (w ++ p)) ≤ 200
+  words_moves : {p : List ℕ} → Words p → (l w : List ℕ) (o : ℕ) (r : List Item) → length (content s l o (w ++ p)) ≤ 200
       → moves (on s l o w) (map byte p ++ byte 32 ∷ r) ≡ moves (on s (content s l o (w ++ p)) 1 []) r
   unfolding moves is_empty
-  words-moves (last b e) l w o r h =
+  words_moves (last b e) l w o r h =
       ap (λ (m : Laid). then_laid m (λ (t : Sheet). moves t (byte 32 ∷ r))) (word_byte l w o b e)
-      ∙ ap (λ (m : Laid). then_laid m (λ (t : Sheet). moves t r)) (blank-some l (w ++ b ∷ []) o (snoc_some w b) h)
-  words-moves (inner {p} b e m) l w o r h =
+      ∙ ap (λ (m : Laid). then_laid m (λ (t : Sheet). moves t r)) (blank_some l (w ++ b ∷ []) o (snoc_some w b) h)
+  words_moves (inner {p} b e m) l w o r h =
       let a = append_assoc w (b ∷ []) p in
       ap (λ (m : Laid). then_laid m (λ (t : Sheet). moves t (map byte p ++ byte 32 ∷ r))) (word_byte l w o b e)
-      ∙ words-moves m l (w ++ b ∷ []) o r (subst (λ (v : List ℕ). length (content s l o v) ≤ 200) (sym a) h)
+      ∙ words_moves m l (w ++ b ∷ []) o r (subst (λ (v : List ℕ). length (content s l o v) ≤ 200) (sym a) h)
       ∙ ap (λ (v : List ℕ). moves (on s (content s l o v) 1 []) r) a
-  words-moves (blank {p} m) l [] o r h =
+  words_moves (blank {p} m) l [] o r h =
       let a = none_content l p o 1 in
       ap (λ (m : Laid). then_laid m (λ (t : Sheet). moves t (map byte p ++ byte 32 ∷ r))) (blank_none l o)
-      ∙ words-moves m l [] (o + 1) r (subst (λ (v : List ℕ). length v ≤ 200) (sym a) h)
+      ∙ words_moves m l [] (o + 1) r (subst (λ (v : List ℕ). length v ≤ 200) (sym a) h)
       ∙ ap (λ (v : List ℕ). moves (on s v 1 []) r) a
-  words-moves (blank {p} m) l (x ∷ w) o r h =
+  words_moves (blank {p} m) l (x ∷ w) o r h =
       let a = some_content l (x ∷ w) p o 1 refl in
       let n = length-append (content s l o (x ∷ w)) (32 ∷ p) in
       let f = append_assoc (l ++ blanks (lead_at s l o)) (x ∷ w) (32 ∷ p) in
       let g = ap length f in
-      ap (λ (m : Laid). then_laid m (λ (t : Sheet). moves t (map byte p ++ byte 32 ∷ r))) (blank-some l (x ∷ w) o refl (omega arith))
-      ∙ words-moves m (content s l o (x ∷ w)) [] 1 r (subst (λ (v : List ℕ). length v ≤ 200) (sym a) h)
+      ap (λ (m : Laid). then_laid m (λ (t : Sheet). moves t (map byte p ++ byte 32 ∷ r))) (blank_some l (x ∷ w) o refl (omega arith))
+      ∙ words_moves m (content s l o (x ∷ w)) [] 1 r (subst (λ (v : List ℕ). length v ≤ 200) (sym a) h)
       ∙ ap (λ (v : List ℕ). moves (on s v 1 []) r) a
 
   -- where bytes lead that go on the line: to another line, debt and word, which hold the same bytes
@@ -207,13 +207,13 @@ module _ (s : Sheet) where
     pub same : content s l' o' w' ≡ content s l o (w ++ u)
 
   pub runs_ink : (l w q : List ℕ) (o : ℕ) → inked q ≡ true → Runs l o w q l o (w ++ q)
-  runs_ink l w q o e = record { moved = λ (r : List Item). ink-moves q l w o r e; same = refl }
+  runs_ink l w q o e = record { moved = λ (r : List Item). ink_moves q l w o r e; same = refl }
 
   -- behind words come blanks, and what may be a word's beginning
   behind : (l w q : List ℕ) (o k : ℕ) → inked q ≡ true → (r : List Item) → moves (on s l o []) (map byte (blanks k ++ q) ++ r) ≡ moves (on s l (o + k) q) r
   behind l w q o k e r =
       ap (moves (on s l o [])) (ap (λ (v : List Item). v ++ r) (map-append byte (blanks k) q) ∙ append_assoc (map byte (blanks k)) (map byte q) r)
-      ∙ blank-moves k l o (map byte q ++ r) ∙ ink-moves q l [] (o + k) r e
+      ∙ blank_moves k l o (map byte q ++ r) ∙ ink_moves q l [] (o + k) r e
 
   pub runs_blanks : (l q : List ℕ) (o k : ℕ) → inked q ≡ true → Runs l o [] (blanks k ++ q) l (o + k) q
   runs_blanks l q o k e = record { moved = behind l [] q o k e; same = none_content l q o k }
@@ -223,9 +223,9 @@ module _ (s : Sheet) where
   unfolding is_empty moves
   closes [] l w o r n c f h =
       let a = append-nil w in
-      ap (λ (m : Laid). then_laid m (λ (t : Sheet). moves t r)) (blank-some l w o (ap is_empty (sym a) ∙ n) (subst (λ (v : List ℕ). length (content s l o v) ≤ 200) a h))
+      ap (λ (m : Laid). then_laid m (λ (t : Sheet). moves t r)) (blank_some l w o (ap is_empty (sym a) ∙ n) (subst (λ (v : List ℕ). length (content s l o v) ≤ 200) a h))
       ∙ ap (λ (v : List ℕ). moves (on s (content s l o v) 1 []) r) (sym a)
-  closes (b ∷ p) l w o r n c f h = words-moves (words_of (b ∷ p) refl c f) l w o r h
+  closes (b ∷ p) l w o r n c f h = words_moves (words_of (b ∷ p) refl c f) l w o r h
 
   pub runs_words : (p l w q : List ℕ) (o k : ℕ) → is_empty (w ++ p) ≡ false → clear p ≡ true → firm p ≡ true → inked q ≡ true → length (content s l o (w ++ p)) ≤ 200
       → Runs l o w (p ++ (blanks (suc k) ++ q)) (content s l o (w ++ p)) (suc k) q
@@ -245,13 +245,13 @@ module _ (s : Sheet) where
 abbrev pub Passes : Sheet → Type 0
 Passes s = (is_empty s.word ≡ false) × (200 < length s.line + lead s + length s.word)
 
-more-word : (s : Sheet) (b : ℕ) → Passes s → Passes (add_byte b s)
+more_word : (s : Sheet) (b : ℕ) → Passes s → Passes (add_byte b s)
 unfolding lead
-more-word s b h = let n = length-append s.word (b ∷ []) in let m = h.1 in (snoc_some s.word b, omega arith)
+more_word s b h = let n = length-append s.word (b ∷ []) in let m = h.1 in (snoc_some s.word b, omega arith)
 
-end-passes : (s : Sheet) → Passes s → end_word s ≡ cond (s.fill && leb (s.margin + length s.word) 200) (laid (put s.margin (end_line s))) unfit
+end_passes : (s : Sheet) → Passes s → end_word s ≡ cond (s.fill && leb (s.margin + length s.word) 200) (laid (put s.margin (end_line s))) unfit
 unfolding end_word
-end-passes s h = rw h.0 (rw (lt-leb (length s.line + lead s + length s.word) 200 h.1))
+end_passes s h = rw h.0 (rw (lt-leb (length s.line + lead s + length s.word) 200 h.1))
 
 lead_new : (s : Sheet) → lead (end_line s) ≡ s.margin
 unfolding lead end_line is_empty
@@ -264,7 +264,7 @@ new_word s = refl
 new_length : (s : Sheet) → length (ahead (end_line s)) ≡ s.margin + length s.word
 unfolding end_line
 new_length s =
-    let n : length (ahead (end_line s)) ≡ 0 + lead (end_line s) + length s.word = ahead-length (end_line s) in
+    let n : length (ahead (end_line s)) ≡ 0 + lead (end_line s) + length s.word = ahead_length (end_line s) in
     let m = lead_new s in
     omega arith
 
@@ -277,19 +277,19 @@ end_early s h f = by (leb (s.margin + length s.word) 200) refl
     by true e =
         let l = leb-true (s.margin + length s.word) 200 e in
         let n = new_length s in
-        end-passes s h ∙ ap₂ (λ (a b : Bool). cond (a && b) (laid (put s.margin (end_line s))) unfit) f e
-        ∙ ap (λ (k : ℕ). laid (put k (end_line s))) (sym (lead_new s)) ∙ sym (end-some (end_line s) h.0 (omega arith))
+        end_passes s h ∙ ap₂ (λ (a b : Bool). cond (a && b) (laid (put s.margin (end_line s))) unfit) f e
+        ∙ ap (λ (k : ℕ). laid (put k (end_line s))) (sym (lead_new s)) ∙ sym (end_some (end_line s) h.0 (omega arith))
     by false e =
         let l = leb-false (s.margin + length s.word) 200 e in
         let m = lead_new s in
-        end-passes s h ∙ ap₂ (λ (a b : Bool). cond (a && b) (laid (put s.margin (end_line s))) unfit) f e
-        ∙ sym (end-passes (end_line s) (h.0, let z : 200 < 0 + lead (end_line s) + length s.word = omega arith in z) ∙ ap₂ (λ (a b : Bool). cond (a && b) (laid (put s.margin (end_line (end_line s)))) unfit) f e)
+        end_passes s h ∙ ap₂ (λ (a b : Bool). cond (a && b) (laid (put s.margin (end_line s))) unfit) f e
+        ∙ sym (end_passes (end_line s) (h.0, let z : 200 < 0 + lead (end_line s) + length s.word = omega arith in z) ∙ ap₂ (λ (a b : Bool). cond (a && b) (laid (put s.margin (end_line (end_line s)))) unfit) f e)
 
 -- the same state, and the same with its line ended: they come to the same lines
 early : (s : Sheet) (r : List Item) → Passes s → s.fill ≡ true → lines_from s r ≡ lines_from (end_line s) r
 unfolding lines_from moves end_line move obeyed shown lead
 early s [] h f = ap written (end_early s h f)
-early s (byte b ∷ r) h f = by (of_word b) (early (add_byte b s) r (more-word s b h) f)
+early s (byte b ∷ r) h f = by (of_word b) (early (add_byte b s) r (more_word s b h) f)
   where
     by : (t : Bool) → lines_from (add_byte b s) r ≡ lines_from (end_line (add_byte b s)) r
         → written (then_laid (then_laid (cond t (laid (add_byte b s)) (then_laid (end_word (note_cr false s)) (λ (t : Sheet). laid (space b s.after_cr t)))) (λ (t : Sheet). moves t r)) end_word)
@@ -308,8 +308,8 @@ early s (order c ∷ r) h f = by (quiet (order_of c)) (early s r h f)
 abbrev pub Stuck : Sheet → Type 0
 Stuck s = (Passes s) × ((s.fill && leb (s.margin + length s.word) 200) ≡ false)
 
-more-stuck : (s : Sheet) (b : ℕ) → Stuck s → Stuck (add_byte b s)
-more-stuck s b h = (more-word s b h.0, by s.fill h.1)
+more_stuck : (s : Sheet) (b : ℕ) → Stuck s → Stuck (add_byte b s)
+more_stuck s b h = (more_word s b h.0, by s.fill h.1)
   where
     by : (t : Bool) → (t && leb (s.margin + length s.word) 200) ≡ false → (t && leb (s.margin + length (s.word ++ b ∷ [])) 200) ≡ false
     by true e =
@@ -318,39 +318,39 @@ more-stuck s b h = (more-word s b h.0, by s.fill h.1)
         lt-leb (s.margin + length (s.word ++ b ∷ [])) 200 (omega arith)
     by false e = refl
 
-end-stuck : (s : Sheet) → Stuck s → end_word s ≡ unfit
-end-stuck s h = end-passes s h.0 ∙ ap (λ (t : Bool). cond t (laid (put s.margin (end_line s))) unfit) h.1
+end_stuck : (s : Sheet) → Stuck s → end_word s ≡ unfit
+end_stuck s h = end_passes s h.0 ∙ ap (λ (t : Bool). cond t (laid (put s.margin (end_line s))) unfit) h.1
 
 stuck : (s : Sheet) (r : List Item) → Stuck s → lines_from s r ≡ none
 unfolding lines_from moves move obeyed written lead
-stuck s [] h = ap written (end-stuck s h)
-stuck s (byte b ∷ r) h = by (of_word b) (stuck (add_byte b s) r (more-stuck s b h))
+stuck s [] h = ap written (end_stuck s h)
+stuck s (byte b ∷ r) h = by (of_word b) (stuck (add_byte b s) r (more_stuck s b h))
   where
     by : (t : Bool) → lines_from (add_byte b s) r ≡ none
         → written (then_laid (then_laid (cond t (laid (add_byte b s)) (then_laid (end_word (note_cr false s)) (λ (t : Sheet). laid (space b s.after_cr t)))) (λ (t : Sheet). moves t r)) end_word) ≡ none
     by true more = more
-    by false more = ap (λ (m : Laid). written (then_laid (then_laid (then_laid m (λ (t : Sheet). laid (space b s.after_cr t))) (λ (t : Sheet). moves t r)) end_word)) (end-stuck (note_cr false s) h)
+    by false more = ap (λ (m : Laid). written (then_laid (then_laid (then_laid m (λ (t : Sheet). laid (space b s.after_cr t))) (λ (t : Sheet). moves t r)) end_word)) (end_stuck (note_cr false s) h)
 stuck s (order c ∷ r) h = by (quiet (order_of c)) (stuck s r h)
   where
     by : (t : Bool) → lines_from s r ≡ none
         → written (then_laid (then_laid (cond t (laid s) (then_laid (end_word (note_cr false s)) (obey (order_of c)))) (λ (t : Sheet). moves t r)) end_word) ≡ none
     by true more = more
-    by false more = ap (λ (m : Laid). written (then_laid (then_laid (then_laid m (obey (order_of c))) (λ (t : Sheet). moves t r)) end_word)) (end-stuck (note_cr false s) h)
+    by false more = ap (λ (m : Laid). written (then_laid (then_laid (then_laid m (obey (order_of c))) (λ (t : Sheet). moves t r)) end_word)) (end_stuck (note_cr false s) h)
 
 -- a byte more, where the word then passes the line's end
 module _ (s : Sheet) (b : ℕ) (ink : of_word b ≡ true) where
-  goes-byte : (s : Sheet) → moves s (byte b ∷ []) ≡ laid (add_byte b s)
+  goes_byte : (s : Sheet) → moves s (byte b ∷ []) ≡ laid (add_byte b s)
   unfolding move
-  goes-byte s = moves_one s (byte b) ∙ rw ink
+  goes_byte s = moves_one s (byte b) ∙ rw ink
 
-  ended-more : lines_from (end_line (add_byte b s)) ≡ lines_from (add_byte b (end_line s))
+  ended_more : lines_from (end_line (add_byte b s)) ≡ lines_from (add_byte b (end_line s))
   unfolding end_line shown
-  ended-more = refl
+  ended_more = refl
 
   pub goes_early : Passes (add_byte b s) → s.fill ≡ true → (r : List Item) → lines_from s (byte b ∷ r) ≡ lines_from (end_line s) (byte b ∷ r)
   goes_early h f r =
-      goes-moves s (byte b ∷ []) (laid (add_byte b s)) (goes-byte s) r ∙ early (add_byte b s) r h f ∙ ap (λ (g : List Item → Lines). g r) ended-more
-      ∙ sym (goes-moves (end_line s) (byte b ∷ []) (laid (add_byte b (end_line s))) (goes-byte (end_line s)) r)
+      goes_moves s (byte b ∷ []) (laid (add_byte b s)) (goes_byte s) r ∙ early (add_byte b s) r h f ∙ ap (λ (g : List Item → Lines). g r) ended_more
+      ∙ sym (goes_moves (end_line s) (byte b ∷ []) (laid (add_byte b (end_line s))) (goes_byte (end_line s)) r)
 
-  pub goes-stuck : Stuck (add_byte b s) → Goes (laid s) (byte b ∷ []) unfit
-  goes-stuck h r = goes-moves s (byte b ∷ []) (laid (add_byte b s)) (goes-byte s) r ∙ stuck (add_byte b s) r h
+  pub goes_stuck : Stuck (add_byte b s) → Goes (laid s) (byte b ∷ []) unfit
+  goes_stuck h r = goes_moves s (byte b ∷ []) (laid (add_byte b s)) (goes_byte s) r ∙ stuck (add_byte b s) r h

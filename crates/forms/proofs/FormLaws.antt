@@ -23,12 +23,12 @@ behind n l h = let k = length-take-le n l h in (omega arith, rest_of l (length (
 
 -- ---- one of a list
 
-or-none : (t : Bool) → t ≡ (t || false)
-or-none true = refl
-or-none false = refl
+or_none : (t : Bool) → t ≡ (t || false)
+or_none true = refl
+or_none false = refl
 
 pub of_three : (n a b c : ℕ) → (eqb n a || (eqb n b || eqb n c)) ≡ one_of (a ∷ b ∷ c ∷ []) n
-of_three n a b c = ap (λ (t : Bool). eqb n a || (eqb n b || t)) (or-none (eqb n c))
+of_three n a b c = ap (λ (t : Bool). eqb n a || (eqb n b || t)) (or_none (eqb n c))
 
 pub of_five : (n a b c d e : ℕ) → (eqb n a || (eqb n b || (eqb n c || (eqb n d || eqb n e)))) ≡ one_of (a ∷ b ∷ c ∷ d ∷ e ∷ []) n
 of_five n a b c d e = ap (λ (t : Bool). eqb n a || (eqb n b || t)) (of_three n c d e)
@@ -42,37 +42,37 @@ one_of_lem x l n e = at (eqb n x) refl e
 
 -- ---- DT
 
-pub dt-digits : (l : List ℕ) → dt_form l ≡ true → all_digits l ≡ true
+pub dt_digits : (l : List ℕ) → dt_form l ≡ true → all_digits l ≡ true
 unfolding dt_form
-dt-digits l e = (and_both (all_digits l) (dt_length (length l)) e).0
+dt_digits l e = (and_both (all_digits l) (dt_length (length l)) e).0
 
-pub dt-length : (l : List ℕ) → dt_form l ≡ true → dt_length (length l) ≡ true
+pub dt_length_lem : (l : List ℕ) → dt_form l ≡ true → dt_length (length l) ≡ true
 unfolding dt_form
-dt-length l e = (and_both (all_digits l) (dt_length (length l)) e).1
+dt_length_lem l e = (and_both (all_digits l) (dt_length (length l)) e).1
 
 -- ---- the fraction
 
-none-digits : (l : List ℕ) → length l ≡ 0 → all_digits (drop 1 l) ≡ true
+none_digits : (l : List ℕ) → length l ≡ 0 → all_digits (drop 1 l) ≡ true
 unfolding all_digits
-none-digits [] h = refl
-none-digits (b ∷ r) h = absurd (omega arith)
+none_digits [] h = refl
+none_digits (b ∷ r) h = absurd (omega arith)
 
-pub fraction-none : (seconds : Bool) (tail : List ℕ) → length tail ≡ 0 → fraction_form seconds tail ≡ true
+pub fraction_none : (seconds : Bool) (tail : List ℕ) → length tail ≡ 0 → fraction_form seconds tail ≡ true
 unfolding fraction_form
-fraction-none seconds tail h = rw (eq-eqb (length tail) 0 h)
+fraction_none seconds tail h = rw (eq-eqb (length tail) 0 h)
 
-pub fraction-some : (seconds : Bool) (tail : List ℕ) → (length tail ≡ 0 → ⊥)
+pub fraction_some : (seconds : Bool) (tail : List ℕ) → (length tail ≡ 0 → ⊥)
     → fraction_form seconds tail ≡ ((seconds && from_to 2 5 (length tail)) && all_digits (drop 1 tail))
 unfolding fraction_form
-fraction-some seconds tail h = rw (ne_eqb (length tail) 0 h)
+fraction_some seconds tail h = rw (ne_eqb (length tail) 0 h)
 
-pub fraction-holds : (seconds : Bool) (tail : List ℕ) → fraction_form seconds tail ≡ true → (all_digits (drop 1 tail) ≡ true) × (length tail ≤ 5)
+pub fraction_holds : (seconds : Bool) (tail : List ℕ) → fraction_form seconds tail ≡ true → (all_digits (drop 1 tail) ≡ true) × (length tail ≤ 5)
 unfolding fraction_form
-fraction-holds seconds tail e = at (eqb (length tail) 0) refl e
+fraction_holds seconds tail e = at (eqb (length tail) 0) refl e
   where
     at : (t : Bool) → eqb (length tail) 0 ≡ t → (t || ((seconds && from_to 2 5 (length tail)) && all_digits (drop 1 tail))) ≡ true
         → (all_digits (drop 1 tail) ≡ true) × (length tail ≤ 5)
-    at true q e = let h = eqb-true (length tail) 0 q in (none-digits tail h, omega arith)
+    at true q e = let h = eqb-true (length tail) 0 q in (none_digits tail h, omega arith)
     at false q e =
         let b = and_both (seconds && from_to 2 5 (length tail)) (all_digits (drop 1 tail)) e in
         (b.1, (from_to_lem 2 5 (length tail) (and_both seconds (from_to 2 5 (length tail)) b.0).1).1)
@@ -99,7 +99,7 @@ zone_holds zone e = at (eqb (length zone) 0) refl e
   where
     at : (t : Bool) → eqb (length zone) 0 ≡ t → (t || (eqb (length zone) 5 && all_digits (drop 1 zone))) ≡ true
         → (all_digits (drop 1 zone) ≡ true) × ((length zone ≡ 0 → ⊥) → length zone ≡ 5)
-    at true q e = let h = eqb-true (length zone) 0 q in (none-digits zone h, λ n. absurd (n h))
+    at true q e = let h = eqb-true (length zone) 0 q in (none_digits zone h, λ n. absurd (n h))
     at false q e = let b = and_both (eqb (length zone) 5) (all_digits (drop 1 zone)) e in (b.1, λ n. eqb-true (length zone) 5 b.0)
 
 -- ---- the three parts
@@ -122,14 +122,14 @@ module _ (form : Form) (l : List ℕ) (e : time_form form l ≡ true) where
   unfolding time_form
   form_parts = formed form (front_of l) (tail_of l) (zone_of l) e
 
-  pub front-digits : all_digits (front_of l) ≡ true
-  front-digits = form_parts.digits
+  pub front_digits : all_digits (front_of l) ≡ true
+  front_digits = form_parts.digits
 
   pub front_length_lem : front_length form (length (front_of l)) ≡ true
   front_length_lem = form_parts.long
 
   pub tail_holds : (all_digits (drop 1 (tail_of l)) ≡ true) × (length (tail_of l) ≤ 5)
-  tail_holds = fraction-holds (eqb (length (front_of l)) (layout_of form).seconds) (tail_of l) form_parts.tailed
+  tail_holds = fraction_holds (eqb (length (front_of l)) (layout_of form).seconds) (tail_of l) form_parts.tailed
 
   pub zone_held : (all_digits (drop 1 (zone_of l)) ≡ true) × ((length (zone_of l) ≡ 0 → ⊥) → length (zone_of l) ≡ 5)
   zone_held = zone_holds (zone_of l) form_parts.zoned

@@ -13,14 +13,14 @@ use lib.Seq.{length-take-le, get_or-take, get_or-drop}
 use borrow.Author.Tests.{eqb-true, eq-eqb, ne_eqb, leb-true, le-leb, lt-leb, ltb-true, lt-ltb, le-ltb}
 use Rattle.alphabet.specs.Digits.{all_digits}
 use Rattle.alphabet.specs.Lists.{first, find}
-use Rattle.alphabet.proofs.BoolLaws.{false-true, and_both, both_and, neither_or}
-use Rattle.alphabet.proofs.DigitLaws.{digits-drop, digits-here}
-use Rattle.alphabet.proofs.ListLaws.{first-le, first_passes, first-before, first-least, find_is}
+use Rattle.alphabet.proofs.BoolLaws.{false_true, and_both, both_and, neither_or}
+use Rattle.alphabet.proofs.DigitLaws.{digits_drop, digits_here}
+use Rattle.alphabet.proofs.ListLaws.{first_le, first_passes, first_before, first_least, find_is}
 use Rattle.numbers.specs.Numbers.{is_sign}
 use Rattle.forms.specs.declared.layouts.Form.{Form}
 use Rattle.forms.specs.Forms.{layout_of, first_sign, body_of, front_of, tail_of, zone_of, fraction_form, zone_form, parts_form, time_form}
 use Rattle.forms.specs.Places.{sign_place, point_place, body_at, zone_at, front_at, tail_at}
-use Rattle.forms.proofs.FormLaws.{Formed, formed, fraction-some, fraction-holds, zone_holds}
+use Rattle.forms.proofs.FormLaws.{Formed, formed, fraction_some, fraction_holds, zone_holds}
 
 -- ---- where a byte first stands
 
@@ -30,11 +30,11 @@ reached test l n h k = at (dec_lt (first test l) n)
   where
     at : Dec (first test l < n) → n ≤ first test l
     at (no c) = omega arith
-    at (yes c) = absurd (false-true (sym (k (first test l) c) ∙ first_passes test l (omega arith)))
+    at (yes c) = absurd (false_true (sym (k (first test l) c) ∙ first_passes test l (omega arith)))
 
 -- and where one stands at n, it is n
 found : (b : ℕ) (l : List ℕ) (n : ℕ) → n < length l → get_or l n 0 ≡ b → n ≤ find b l → find b l ≡ n
-found b l n h e k = let m = first-least (eqb b) l n h (eq-eqb b (get_or l n 0) (sym e)) in omega arith
+found b l n h e k = let m = first_least (eqb b) l n h (eq-eqb b (get_or l n 0) (sym e)) in omega arith
 
 -- ---- the sign
 
@@ -65,8 +65,8 @@ module _ (l : List ℕ) where
       at false q k =
           let x = reached (eqb 43) l (length l) (omega arith) (λ i h. ne_eqb 43 (get_or l i 0) (λ e. (k i h).0 (sym e))) in
           let y = reached (eqb 45) l (length l) (omega arith) (λ i h. ne_eqb 45 (get_or l i 0) (λ e. (k i h).1 (sym e))) in
-          let p = first-le (eqb 43) l in
-          let m = first-le (eqb 45) l in
+          let p = first_le (eqb 43) l in
+          let m = first_le (eqb 45) l in
           omega arith
 
   -- where nothing stands from the first sign on, or five bytes do, it stands at that place
@@ -74,10 +74,10 @@ module _ (l : List ℕ) where
   sign_placed h = at (dec_lt (first_sign l) (length l))
     where
       p : find 43 l ≤ length l
-      p = first-le (eqb 43) l
+      p = first_le (eqb 43) l
 
       m : find 45 l ≤ length l
-      m = first-le (eqb 45) l
+      m = first_le (eqb 45) l
 
       there : 5 ≤ length l → is_sign (get_or l (length l - 5) 0) ≡ true → sign_place l ≡ length l - 5
       there k e = ap (λ (t : Bool). cond t (length l - 5) (length l)) (both_and (le-leb 5 (length l) k) e)
@@ -88,11 +88,11 @@ module _ (l : List ℕ) where
       minus : length l - 5 < length l → find 45 l ≡ length l - 5 → is_sign (get_or l (length l - 5) 0) ≡ true
       minus k e =
           let g = subst (λ (n : ℕ). get_or l n 0 ≡ 45) e (find_is 45 l (omega arith)) in
-          or-second (eqb (get_or l (length l - 5) 0) 43) (eq-eqb (get_or l (length l - 5) 0) 45 g)
+          or_second (eqb (get_or l (length l - 5) 0) 43) (eq-eqb (get_or l (length l - 5) 0) 45 g)
         where
-          or-second : (t : Bool) {u : Bool} → u ≡ true → (t || u) ≡ true
-          or-second true e = refl
-          or-second false e = e
+          or_second : (t : Bool) {u : Bool} → u ≡ true → (t || u) ≡ true
+          or_second true e = refl
+          or_second false e = e
 
       some : first_sign l < length l → is_sign (get_or l (length l - 5) 0) ≡ true
       some k = which (dec_lt (find 45 l) (find 43 l))
@@ -107,12 +107,12 @@ module _ (l : List ℕ) where
           long : Dec (length l < 5) → (leb 5 (length l) && is_sign (get_or l (length l - 5) 0)) ≡ false
           long (yes c) = rw (lt-leb 5 (length l) c)
           long (no c) =
-              let x = first-before (eqb 43) l (length l - 5) (omega arith) in
-              let y = first-before (eqb 45) l (length l - 5) (omega arith) in
+              let x = first_before (eqb 43) l (length l - 5) (omega arith) in
+              let y = first_before (eqb 45) l (length l - 5) (omega arith) in
               rw (le-leb 5 (length l) (omega arith)) (neither_or (flip 43 x) (flip 45 y))
             where
               flip : (b : ℕ) → eqb b (get_or l (length l - 5) 0) ≡ false → eqb (get_or l (length l - 5) 0) b ≡ false
-              flip b e = ne_eqb (get_or l (length l - 5) 0) b (λ q. absurd (false-true (sym e ∙ eq-eqb b (get_or l (length l - 5) 0) (sym q))))
+              flip b e = ne_eqb (get_or l (length l - 5) 0) b (λ q. absurd (false_true (sym e ∙ eq-eqb b (get_or l (length l - 5) 0) (sym q))))
 
       at : Dec (first_sign l < length l) → sign_place l ≡ first_sign l
       at (yes c) =
@@ -140,7 +140,7 @@ module _ (seconds : ℕ) (body : List ℕ) where
           found 46 body seconds m (eqb-true (get_or body seconds 0) 46 b.1) x
       at false q k =
           let x = reached (eqb 46) body (length body) (omega arith) (λ i h. ne_eqb 46 (get_or body i 0) (λ e. k i h (sym e))) in
-          let m = first-le (eqb 46) body in
+          let m = first_le (eqb 46) body in
           omega arith
 
   -- where nothing stands from the point on, or the point stands behind the seconds, it stands at that place
@@ -159,14 +159,14 @@ module _ (seconds : ℕ) (body : List ℕ) where
           long : Dec (seconds < length body) → (ltb seconds (length body) && eqb (get_or body seconds 0) 46) ≡ false
           long (no c) = rw (le-ltb seconds (length body) (omega arith))
           long (yes c) =
-              let x = first-before (eqb 46) body seconds (omega arith) in
-              rw (lt-ltb seconds (length body) c) (ne_eqb (get_or body seconds 0) 46 (λ q. absurd (false-true (sym x ∙ eq-eqb 46 (get_or body seconds 0) (sym q)))))
+              let x = first_before (eqb 46) body seconds (omega arith) in
+              rw (lt-ltb seconds (length body) c) (ne_eqb (get_or body seconds 0) 46 (λ q. absurd (false_true (sym x ∙ eq-eqb 46 (get_or body seconds 0) (sym q)))))
 
       at : Dec (find 46 body < length body) → point_place seconds body ≡ find 46 body
       at (yes c) = some c ∙ sym (h (λ z. absurd (omega arith)))
       at (no c) =
           let e : point_place seconds body ≡ length body = ap (λ (t : Bool). cond t seconds (length body)) (none (omega arith)) in
-          let m = first-le (eqb 46) body in
+          let m = first_le (eqb 46) body in
           omega arith
 
   pub point_within : point_place seconds body ≤ length body
@@ -193,7 +193,7 @@ sign_within l = at (leb 5 (length l) && is_sign (get_or l (length l - 5) 0))
 -- ---- the three parts
 
 digit_at : (l : List ℕ) (i : ℕ) → all_digits l ≡ true → i < length l → 48 ≤ get_or l i 0
-digit_at l i e h = (digits-here l i h (digits-drop i l e)).0
+digit_at l i e h = (digits_here l i h (digits_drop i l e)).0
 
 module _ (form : Form) (l : List ℕ) where
   abbrev seconds : ℕ
@@ -208,8 +208,8 @@ module _ (form : Form) (l : List ℕ) where
   abbrev pub SameParts : Type 0
   SameParts = (front_at form l ≡ front_of l) × (tail_at form l ≡ tail_of l) × (zone_at l ≡ zone_of l)
 
-  same-places : first_sign l ≡ sign_place l → find 46 body ≡ point → SameParts
-  same-places e q = (
+  same_places : first_sign l ≡ sign_place l → find 46 body ≡ point → SameParts
+  same_places e q = (
     sym (ap (λ (z : ℕ). take (find 46 (take z l)) (take z l)) e ∙ ap (λ (n : ℕ). take n body) q),
     sym (ap (λ (z : ℕ). drop (find 46 (take z l)) (take z l)) e ∙ ap (λ (n : ℕ). drop n body) q),
     sym (ap (λ (z : ℕ). drop z l) e),
@@ -220,8 +220,8 @@ module _ (form : Form) (l : List ℕ) where
     body_length : length body ≡ sign_place l
     body_length = length-take-le (sign_place l) l (sign_within l)
 
-    in-front : (i : ℕ) → i < point → 48 ≤ get_or body i 0
-    in-front i h =
+    in_front : (i : ℕ) → i < point → 48 ≤ get_or body i 0
+    in_front i h =
         let n = length-take-le point body (point_within seconds body) in
         subst (λ (x : ℕ). 48 ≤ x) (get_or-take point body i 0 h) (digit_at (take point body) i f.digits (omega arith))
 
@@ -231,7 +231,7 @@ module _ (form : Form) (l : List ℕ) where
         let n = length-drop point body in
         let m = length-drop 1 t in
         let e : point + (1 + (i - point - 1)) ≡ i = omega arith in
-        let d = (fraction-holds (eqb (length (take point body)) seconds) t f.tailed).0 in
+        let d = (fraction_holds (eqb (length (take point body)) seconds) t f.tailed).0 in
         subst (λ (x : ℕ). 48 ≤ x) (get_or-drop 1 t (i - point - 1) 0 ∙ get_or-drop point body (1 + (i - point - 1)) 0 ∙ ap (λ (j : ℕ). get_or body j 0) e)
         (digit_at (drop 1 t) (i - point - 1) d (omega arith))
 
@@ -239,7 +239,7 @@ module _ (form : Form) (l : List ℕ) where
     in_body i h = at (dec_lt i point) (dec_lt point i)
       where
         at : Dec (i < point) → Dec (point < i) → 46 ≤ get_or body i 0
-        at (yes c) d = let m = in-front i c in omega arith
+        at (yes c) d = let m = in_front i c in omega arith
         at (no c) (yes d) = let m = in_tail i d h in omega arith
         at (no c) (no d) =
             let e : point ≡ i = omega arith in
@@ -249,10 +249,10 @@ module _ (form : Form) (l : List ℕ) where
     before_sign : (i : ℕ) → i < sign_place l → 46 ≤ get_or l i 0
     before_sign i h = let n = body_length in subst (λ (x : ℕ). 46 ≤ x) (get_or-take (sign_place l) l i 0 h) (in_body i (omega arith))
 
-    by-places : SameParts
-    by-places =
-        same-places (sign_found l (λ i h. let m = before_sign i h in (λ e. absurd (omega arith), λ e. absurd (omega arith))))
-        (point_found seconds body (λ i h e. let m = in-front i h in absurd (omega arith)))
+    by_places : SameParts
+    by_places =
+        same_places (sign_found l (λ i h. let m = before_sign i h in (λ e. absurd (omega arith), λ e. absurd (omega arith))))
+        (point_found seconds body (λ i h e. let m = in_front i h in absurd (omega arith)))
 
   -- where those from the first sign and the first point on are, the places are theirs
   module _ (f : Formed form (front_of l) (tail_of l) (zone_of l)) where
@@ -261,19 +261,19 @@ module _ (form : Form) (l : List ℕ) where
         let n = length-drop (first_sign l) l in
         let z = (zone_holds (zone_of l) f.zoned).1 in
         let e = sign_placed l (λ h. let k = z (λ m. h (omega arith)) in omega arith) in
-        same-places (sym e) (subst (λ (z : ℕ). find 46 (take z l) ≡ point_place seconds (take z l)) (sym e) (sym (point_placed seconds (body_of l) at-seconds)))
+        same_places (sym e) (subst (λ (z : ℕ). find 46 (take z l) ≡ point_place seconds (take z l)) (sym e) (sym (point_placed seconds (body_of l) at_seconds)))
       where
-        at-seconds : (length (body_of l) - find 46 (body_of l) ≡ 0 → ⊥) → find 46 (body_of l) ≡ seconds
-        at-seconds h =
+        at_seconds : (length (body_of l) - find 46 (body_of l) ≡ 0 → ⊥) → find 46 (body_of l) ≡ seconds
+        at_seconds h =
             let b = body_of l in
             let n = length-drop (find 46 b) b in
-            let m = length-take-le (find 46 b) b (first-le (eqb 46) b) in
-            let t = sym (fraction-some (eqb (length (front_of l)) seconds) (tail_of l) (λ k. h (omega arith))) ∙ f.tailed in
+            let m = length-take-le (find 46 b) b (first_le (eqb 46) b) in
+            let t = sym (fraction_some (eqb (length (front_of l)) seconds) (tail_of l) (λ k. h (omega arith))) ∙ f.tailed in
             let e = eqb-true (length (front_of l)) seconds (and_both (eqb (length (front_of l)) seconds) _ (and_both _ (all_digits (drop 1 (tail_of l))) t).0).0 in
             omega arith
 
   pub same_parts : parts_form form (front_at form l) (tail_at form l) (zone_at l) ≡ true → SameParts
-  same_parts e = by-places (formed form (front_at form l) (tail_at form l) (zone_at l) e)
+  same_parts e = by_places (formed form (front_at form l) (tail_at form l) (zone_at l) e)
 
   pub placed_form : parts_form form (front_at form l) (tail_at form l) (zone_at l) ≡ time_form form l
   unfolding time_form

@@ -9,46 +9,46 @@ use Rattle.frames.specs.declared.steps.Event.TheVariants.{Quiet, Frame, Broken, 
 use Rattle.frames.specs.Wire.{opens, closes, most_dropped, frame_limit}
 use Rattle.frames.specs.Steps.{frame_state, outside, inside, ending, skipping, skipping_end, quiet, gather, stop, counted, step_outside, step_inside, step_ending, step_skipping, step_skipping_end, stepped}
 
-pub counted-more : {n : ℕ} → n < most_dropped → counted n ≡ n + 1
+pub counted_more : {n : ℕ} → n < most_dropped → counted n ≡ n + 1
 unfolding counted
-counted-more {n} h = rw (lt-ltb n most_dropped h)
+counted_more {n} h = rw (lt-ltb n most_dropped h)
 
-pub counted-most : {n : ℕ} → most_dropped ≤ n → counted n ≡ n
+pub counted_most : {n : ℕ} → most_dropped ≤ n → counted n ≡ n
 unfolding counted
-counted-most {n} h = rw (le-ltb n most_dropped h)
+counted_most {n} h = rw (le-ltb n most_dropped h)
 
 module _ (n b : ℕ) where
-  pub outside-opens : b ≡ 11 → step_outside n b ≡ quiet (inside 0 n)
+  pub outside_opens : b ≡ 11 → step_outside n b ≡ quiet (inside 0 n)
   unfolding step_outside
-  outside-opens e = rw (eq-eqb b 11 e)
+  outside_opens e = rw (eq-eqb b 11 e)
 
-  pub outside-drops : (b ≡ 11 → ⊥) → step_outside n b ≡ quiet (outside (counted n))
+  pub outside_drops : (b ≡ 11 → ⊥) → step_outside n b ≡ quiet (outside (counted n))
   unfolding step_outside
-  outside-drops e = rw (ne_eqb b 11 e)
+  outside_drops e = rw (ne_eqb b 11 e)
 
-  pub ending-frame : b ≡ 13 → step_ending n b ≡ stop Frame (outside n)
+  pub ending_frame : b ≡ 13 → step_ending n b ≡ stop Frame (outside n)
   unfolding step_ending
-  ending-frame e = rw (eq-eqb b 13 e)
+  ending_frame e = rw (eq-eqb b 13 e)
 
-  pub ending-opens : (b ≡ 13 → ⊥) → b ≡ 11 → step_ending n b ≡ stop Broken (inside 0 n)
+  pub ending_opens : (b ≡ 13 → ⊥) → b ≡ 11 → step_ending n b ≡ stop Broken (inside 0 n)
   unfolding step_ending
-  ending-opens f e = rw (ne_eqb b 13 f, eq-eqb b 11 e)
+  ending_opens f e = rw (ne_eqb b 13 f, eq-eqb b 11 e)
 
-  pub ending-breaks : (b ≡ 13 → ⊥) → (b ≡ 11 → ⊥) → step_ending n b ≡ stop Broken (outside n)
+  pub ending_breaks : (b ≡ 13 → ⊥) → (b ≡ 11 → ⊥) → step_ending n b ≡ stop Broken (outside n)
   unfolding step_ending
-  ending-breaks f e = rw (ne_eqb b 13 f, ne_eqb b 11 e)
+  ending_breaks f e = rw (ne_eqb b 13 f, ne_eqb b 11 e)
 
-  pub skipping-opens : b ≡ 11 → step_skipping n b ≡ quiet (inside 0 n)
+  pub skipping_opens : b ≡ 11 → step_skipping n b ≡ quiet (inside 0 n)
   unfolding step_skipping
-  skipping-opens e = rw (eq-eqb b 11 e)
+  skipping_opens e = rw (eq-eqb b 11 e)
 
-  pub skipping-closes : (b ≡ 11 → ⊥) → b ≡ 28 → step_skipping n b ≡ quiet (skipping_end n)
+  pub skipping_closes : (b ≡ 11 → ⊥) → b ≡ 28 → step_skipping n b ≡ quiet (skipping_end n)
   unfolding step_skipping
-  skipping-closes f e = rw (ne_eqb b 11 f, eq-eqb b 28 e)
+  skipping_closes f e = rw (ne_eqb b 11 f, eq-eqb b 28 e)
 
-  pub skipping-on : (b ≡ 11 → ⊥) → (b ≡ 28 → ⊥) → step_skipping n b ≡ quiet (skipping n)
+  pub skipping_on : (b ≡ 11 → ⊥) → (b ≡ 28 → ⊥) → step_skipping n b ≡ quiet (skipping n)
   unfolding step_skipping
-  skipping-on f e = rw (ne_eqb b 11 f, ne_eqb b 28 e)
+  skipping_on f e = rw (ne_eqb b 11 f, ne_eqb b 28 e)
 
   pub skipped_opens : b ≡ 11 → step_skipping_end n b ≡ quiet (inside 0 n)
   unfolding step_skipping_end
@@ -59,38 +59,38 @@ module _ (n b : ℕ) where
   skipped_on e = rw (ne_eqb b 11 e)
 
 module _ (limit h n b : ℕ) where
-  pub inside-opens : b ≡ 11 → step_inside limit h n b ≡ stop Broken (inside 0 n)
+  pub inside_opens : b ≡ 11 → step_inside limit h n b ≡ stop Broken (inside 0 n)
   unfolding step_inside
-  inside-opens e = rw (eq-eqb b 11 e)
+  inside_opens e = rw (eq-eqb b 11 e)
 
-  pub inside-closes : (b ≡ 11 → ⊥) → b ≡ 28 → step_inside limit h n b ≡ quiet (ending h n)
+  pub inside_closes : (b ≡ 11 → ⊥) → b ≡ 28 → step_inside limit h n b ≡ quiet (ending h n)
   unfolding step_inside
-  inside-closes f e = rw (ne_eqb b 11 f, eq-eqb b 28 e)
+  inside_closes f e = rw (ne_eqb b 11 f, eq-eqb b 28 e)
 
-  pub inside-long : (b ≡ 11 → ⊥) → (b ≡ 28 → ⊥) → limit ≤ h → step_inside limit h n b ≡ stop Long (skipping n)
+  pub inside_long : (b ≡ 11 → ⊥) → (b ≡ 28 → ⊥) → limit ≤ h → step_inside limit h n b ≡ stop Long (skipping n)
   unfolding step_inside
-  inside-long f g k = rw (ne_eqb b 11 f, ne_eqb b 28 g, le-leb limit h k)
+  inside_long f g k = rw (ne_eqb b 11 f, ne_eqb b 28 g, le-leb limit h k)
 
   pub inside_gathers : (b ≡ 11 → ⊥) → (b ≡ 28 → ⊥) → h < limit → step_inside limit h n b ≡ gather (inside (h + 1) n)
   unfolding step_inside
   inside_gathers f g k = rw (ne_eqb b 11 f, ne_eqb b 28 g, lt-leb limit h k)
 
 module _ (limit : ℕ) (s : FrameState) (b : ℕ) where
-  pub step-outside : s.mode ≡ 0 → stepped limit s b ≡ step_outside s.count b
+  pub step_outside_lem : s.mode ≡ 0 → stepped limit s b ≡ step_outside s.count b
   unfolding stepped
-  step-outside e = rw (eq-eqb s.mode 0 e)
+  step_outside_lem e = rw (eq-eqb s.mode 0 e)
 
-  pub step-inside : s.mode ≡ 1 → stepped limit s b ≡ step_inside limit s.held s.count b
+  pub step_inside_lem : s.mode ≡ 1 → stepped limit s b ≡ step_inside limit s.held s.count b
   unfolding stepped
-  step-inside e = rw e
+  step_inside_lem e = rw e
 
-  pub step-ending : s.mode ≡ 2 → stepped limit s b ≡ step_ending s.count b
+  pub step_ending_lem : s.mode ≡ 2 → stepped limit s b ≡ step_ending s.count b
   unfolding stepped
-  step-ending e = rw e
+  step_ending_lem e = rw e
 
-  pub step-skipping : s.mode ≡ 3 → stepped limit s b ≡ step_skipping s.count b
+  pub step_skipping_lem : s.mode ≡ 3 → stepped limit s b ≡ step_skipping s.count b
   unfolding stepped
-  step-skipping e = rw e
+  step_skipping_lem e = rw e
 
   pub step_skipped : (s.mode ≡ 0 → ⊥) → (s.mode ≡ 1 → ⊥) → (s.mode ≡ 2 → ⊥) → (s.mode ≡ 3 → ⊥) → stepped limit s b ≡ step_skipping_end s.count b
   unfolding stepped

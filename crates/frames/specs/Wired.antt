@@ -39,7 +39,7 @@ pub data Wired (limit : ℕ) : Place → ℕ → List ℕ → List Happening →
       → Wired limit opened n l es cs t
       → Wired limit out n (opens ∷ l) es cs t
   -- "0x0B, the message, 0x1C, 0x0D"
-  whole-frame : {n : ℕ} {c l : List ℕ} {es : List Happening} {cs : List (List ℕ)} {t : FrameState}
+  whole_frame : {n : ℕ} {c l : List ℕ} {es : List Happening} {cs : List (List ℕ)} {t : FrameState}
       → Plain c
       → Wired limit out n l es cs t
       → Wired limit opened n (c ++ closes ∷ carriage_return ∷ l) (or_long limit c (frame c) ∷ es) (take limit c ∷ cs) t
@@ -72,7 +72,7 @@ pub data Wired (limit : ℕ) : Place → ℕ → List ℕ → List Happening →
       → Plain c
       → limit < length c
       → Wired limit opened n c (dropped FrameTooLong ∷ []) (take limit c ∷ []) (skipping n)
-  open_long-end : {n : ℕ} {c : List ℕ}
+  open_long_end : {n : ℕ} {c : List ℕ}
       → Plain c
       → limit < length c
       → Wired limit opened n (c ++ closes ∷ []) (dropped FrameTooLong ∷ []) (take limit c ∷ []) (skipping_end n)

@@ -12,12 +12,12 @@ use Rattle.alphabet.specs.Bytes.{hex_of}
 use Rattle.alphabet.specs.Delimiters.{first_wrong_delimiter}
 use Rattle.alphabet.specs.Hex.{all_hex, pairs_of}
 use Rattle.alphabet.specs.Lists.{first, find}
-use Rattle.alphabet.proofs.BoolLaws.{and_both, both_and, false-true}
-use Rattle.alphabet.proofs.DelimiterLaws.{delimiter-own}
+use Rattle.alphabet.proofs.BoolLaws.{and_both, both_and, false_true}
+use Rattle.alphabet.proofs.DelimiterLaws.{delimiter_own}
 use Rattle.alphabet.proofs.ListLaws.{find_is}
 use Rattle.escaping.specs.Escape.{letters, escape_byte}
 use Rattle.text.specs.Unescape.{known, meaning}
-use Rattle.escaping.proofs.PieceLaws.{written-letter}
+use Rattle.escaping.proofs.PieceLaws.{written_letter}
 use Rattle.grammars.specs.Escapes.{Letter, F, S, T, R, E, Pairs, none, pair, Escapes, letter, hex}
 use Rattle.laws.proofs.RoundTrip.{AreBytes}
 use Rattle.grammars.proofs.TableLaws.{hex_table}
@@ -27,13 +27,13 @@ module _ (field component repetition escape subcomponent : ℕ) where
   ds = field ∷ component ∷ repetition ∷ escape ∷ subcomponent ∷ []
 
   -- a row is read
-  letter-known : {l b : ℕ} → Letter field component repetition escape subcomponent l b → (known (l ∷ []) ≡ true) × (meaning ds (l ∷ []) ≡ b ∷ [])
+  letter_known : {l b : ℕ} → Letter field component repetition escape subcomponent l b → (known (l ∷ []) ≡ true) × (meaning ds (l ∷ []) ≡ b ∷ [])
   unfolding known meaning first
-  letter-known F = (refl, refl)
-  letter-known S = (refl, refl)
-  letter-known T = (refl, refl)
-  letter-known R = (refl, refl)
-  letter-known E = (refl, refl)
+  letter_known F = (refl, refl)
+  letter_known S = (refl, refl)
+  letter_known T = (refl, refl)
+  letter_known R = (refl, refl)
+  letter_known E = (refl, refl)
 
   -- and nothing else of one letter
   pub row_at : (i l : ℕ) → i < 5 → get_or letters i 0 ≡ l → Letter field component repetition escape subcomponent l (get_or ds i 0)
@@ -46,11 +46,11 @@ module _ (field component repetition escape subcomponent : ℕ) where
 
   -- each delimiter is written by its own row
   pub row_written : first_wrong_delimiter ds ≡ 5 → {l b : ℕ} → Letter field component repetition escape subcomponent l b → escape_byte ds b ≡ escape ∷ l ∷ escape ∷ []
-  row_written fine F = written-letter ds field 0 (sym (delimiter-own ds refl fine 0 (omega arith))) (omega arith)
-  row_written fine S = written-letter ds component 1 (sym (delimiter-own ds refl fine 1 (omega arith))) (omega arith)
-  row_written fine R = written-letter ds repetition 2 (sym (delimiter-own ds refl fine 2 (omega arith))) (omega arith)
-  row_written fine E = written-letter ds escape 3 (sym (delimiter-own ds refl fine 3 (omega arith))) (omega arith)
-  row_written fine T = written-letter ds subcomponent 4 (sym (delimiter-own ds refl fine 4 (omega arith))) (omega arith)
+  row_written fine F = written_letter ds field 0 (sym (delimiter_own ds refl fine 0 (omega arith))) (omega arith)
+  row_written fine S = written_letter ds component 1 (sym (delimiter_own ds refl fine 1 (omega arith))) (omega arith)
+  row_written fine R = written_letter ds repetition 2 (sym (delimiter_own ds refl fine 2 (omega arith))) (omega arith)
+  row_written fine E = written_letter ds escape 3 (sym (delimiter_own ds refl fine 3 (omega arith))) (omega arith)
+  row_written fine T = written_letter ds subcomponent 4 (sym (delimiter_own ds refl fine 4 (omega arith))) (omega arith)
 
   -- ---- pairs of hex digits
 
@@ -66,7 +66,7 @@ module _ (field component repetition escape subcomponent : ℕ) where
   known_pairs : (l : List ℕ) → AreBytes l → all_hex l ≡ true → Pairs l (pairs_of l)
   unfolding all_hex pairs_of
   known_pairs [] small e = none
-  known_pairs (a ∷ []) small e = absurd (false-true e)
+  known_pairs (a ∷ []) small e = absurd (false_true e)
   known_pairs (a ∷ b ∷ r) small e =
       let c = and_both (ltb (hex_of a) 16 && ltb (hex_of b) 16) (all_hex r) e in
       let d = and_both (ltb (hex_of a) 16) (ltb (hex_of b) 16) c.0 in
@@ -78,18 +78,18 @@ module _ (field component repetition escape subcomponent : ℕ) where
 
   odd : (a : ℕ) → all_hex (a ∷ []) ≡ true → ⊥
   unfolding all_hex
-  odd a e = false-true e
+  odd a e = false_true e
 
   -- ---- a sequence
 
   pub escapes_known : {c t : List ℕ} → AreBytes c → Escapes field component repetition escape subcomponent c t → (known c ≡ true) × (meaning ds c ≡ t)
   unfolding known meaning
-  escapes_known small (letter r) = letter-known r
+  escapes_known small (letter r) = letter_known r
   escapes_known small (hex p) = let k = pairs_known (λ n. small (suc n)) p in (k.0, k.1)
 
   pub known_escapes : (c : List ℕ) → AreBytes c → known c ≡ true → Escapes field component repetition escape subcomponent c (meaning ds c)
   unfolding known meaning
-  known_escapes [] small e = absurd (false-true e)
+  known_escapes [] small e = absurd (false_true e)
   known_escapes (l ∷ []) small e =
       let h = ltb-true (find l letters) 5 e in
       letter (row_at (find l letters) l h (find_is l letters h))

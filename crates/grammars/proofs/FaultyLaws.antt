@@ -18,10 +18,10 @@ use Rattle.alphabet.specs.declared.answers.Check.{Check}
 use Rattle.alphabet.specs.declared.answers.Check.TheVariants.{Passes, Fails}
 use Rattle.alphabet.specs.declared.answers.Refusal.{Refusal}
 use Rattle.alphabet.specs.declared.answers.Refusal.TheVariants.{Length, Header, Delimiter, NotAllowed, NotEnded, SegmentName, SecondHeader, TooManySegments}
-use Rattle.alphabet.proofs.BoolLaws.{and_both, both_and, or_neither, false-true}
-use Rattle.alphabet.proofs.CheckLaws.{both_pass, fails_if_lem, passes_if, passes-not}
-use Rattle.alphabet.proofs.DelimiterLaws.{wrong-most, place-own}
-use Rattle.alphabet.proofs.ListLaws.{first_passes, first-before, find_is, first-least}
+use Rattle.alphabet.proofs.BoolLaws.{and_both, both_and, or_neither, false_true}
+use Rattle.alphabet.proofs.CheckLaws.{both_pass, fails_if_lem, passes_if, passes_not}
+use Rattle.alphabet.proofs.DelimiterLaws.{wrong_most, place_own}
+use Rattle.alphabet.proofs.ListLaws.{first_passes, first_before, find_is, first_least}
 use Rattle.reading.specs.Segments.{segments, delimiters_of, field_separator, named, is_header}
 use Rattle.reading.specs.Reading.{length_check, headed, header_check, delimiter_check, byte_check, opening, end_check, segment_check, segment_checks, segments_check, reading}
 use Rattle.reading.specs.Message.{ended}
@@ -102,8 +102,8 @@ stands m (suc (suc (suc zero))) h = refl
 stands m (suc (suc (suc (suc zero)))) h = refl
 stands m (suc (suc (suc (suc (suc i))))) h = absurd (omega arith)
 
-wrong-at : (m : List ℕ) (i : ℕ) → i < 5 → wrong (delimiters_of m) i ≡ true → Wrong m (3 + i)
-wrong-at m i h e = at (or_cases (not (permitted (get_or (delimiters_of m) i 0))) (ltb (find (get_or (delimiters_of m) i 0) (delimiters_of m)) i) e)
+wrong_at : (m : List ℕ) (i : ℕ) → i < 5 → wrong (delimiters_of m) i ≡ true → Wrong m (3 + i)
+wrong_at m i h e = at (or_cases (not (permitted (get_or (delimiters_of m) i 0))) (ltb (find (get_or (delimiters_of m) i 0) (delimiters_of m)) i) e)
   where
     q : ℕ
     q = find (get_or (delimiters_of m) i 0) (delimiters_of m)
@@ -114,33 +114,33 @@ wrong-at m i h e = at (or_cases (not (permitted (get_or (delimiters_of m) i 0)))
         let l = ltb-true q i z in
         again (3 + q) (omega arith) (omega arith) (sym (stands m q (omega arith)) ∙ find_is (get_or (delimiters_of m) i 0) (delimiters_of m) (omega arith) ∙ stands m i h)
 
-at-wrong : (m : List ℕ) (i : ℕ) → i < 5 → wrong (delimiters_of m) i ≡ false → Wrong m (3 + i) → ⊥
-at-wrong m i h e w = at w
+at_wrong : (m : List ℕ) (i : ℕ) → i < 5 → wrong (delimiters_of m) i ≡ false → Wrong m (3 + i) → ⊥
+at_wrong m i h e w = at w
   where
     b : (not (permitted (get_or (delimiters_of m) i 0)) ≡ false) × (ltb (find (get_or (delimiters_of m) i 0) (delimiters_of m)) i ≡ false)
     b = or_neither (not (permitted (get_or (delimiters_of m) i 0))) (ltb (find (get_or (delimiters_of m) i 0) (delimiters_of m)) i) e
 
     at : Wrong m (3 + i) → ⊥
-    at (unlisted z) = false-true (sym z ∙ ap permitted (sym (stands m i h)) ∙ not-false _ b.0)
+    at (unlisted z) = false_true (sym z ∙ ap permitted (sym (stands m i h)) ∙ not-false _ b.0)
     at (again q l k s) =
         let j : 3 + (q - 3) ≡ q = omega arith in
         let same : get_or (delimiters_of m) (q - 3) 0 ≡ get_or (delimiters_of m) i 0 = stands m (q - 3) (omega arith) ∙ ap (λ (x : ℕ). get_or m x 0) j ∙ s ∙ sym (stands m i h) in
-        let f = first-least (eqb (get_or (delimiters_of m) i 0)) (delimiters_of m) (q - 3) (omega arith) (eq-eqb (get_or (delimiters_of m) i 0) (get_or (delimiters_of m) (q - 3) 0) (sym same)) in
+        let f = first_least (eqb (get_or (delimiters_of m) i 0)) (delimiters_of m) (q - 3) (omega arith) (eq-eqb (get_or (delimiters_of m) i 0) (get_or (delimiters_of m) (q - 3) 0) (sym same)) in
         let n = ltb-false (find (get_or (delimiters_of m) i 0) (delimiters_of m)) i b.1 in
         omega arith
 
-wrong-here : (m : List ℕ) → first_wrong_delimiter (delimiters_of m) < 5 → Wrong m (3 + first_wrong_delimiter (delimiters_of m))
+wrong_here : (m : List ℕ) → first_wrong_delimiter (delimiters_of m) < 5 → Wrong m (3 + first_wrong_delimiter (delimiters_of m))
 unfolding first_wrong_delimiter
-wrong-here m h =
+wrong_here m h =
     let i = first (wrong (delimiters_of m)) places in
-    wrong-at m i h (ap (wrong (delimiters_of m)) (sym (place-own i h)) ∙ first_passes (wrong (delimiters_of m)) places h)
+    wrong_at m i h (ap (wrong (delimiters_of m)) (sym (place_own i h)) ∙ first_passes (wrong (delimiters_of m)) places h)
 
 right_before : (m : List ℕ) (q : ℕ) → 3 ≤ q → q < 3 + first_wrong_delimiter (delimiters_of m) → q < 8 → Wrong m q → ⊥
 unfolding first_wrong_delimiter
 right_before m q l h k w =
     let i = q - 3 in
     let j : q ≡ 3 + (q - 3) = omega arith in
-    at-wrong m i (omega arith) (ap (wrong (delimiters_of m)) (sym (place-own i (omega arith))) ∙ first-before (wrong (delimiters_of m)) places i (omega arith)) (subst (Wrong m) j w)
+    at_wrong m i (omega arith) (ap (wrong (delimiters_of m)) (sym (place_own i (omega arith))) ∙ first_before (wrong (delimiters_of m)) places i (omega arith)) (subst (Wrong m) j w)
 
 -- ---- 6, 7 and 8
 
@@ -165,25 +165,25 @@ segment_failed m k at kind place e = one (either (fails_if (eqb k segment_limit)
     two n (inl f) =
         let d = failed (not (named (field_separator m) s)) SegmentName kind at place f in
         (sym d.2, subst (BadSegment m k) d.1 (BadSegment.name (eqb-false k segment_limit n) (not-true _ d.0)))
-    two n (inr f) = last n (not-false _ (passes-not _ SegmentName at f.0)) (either (fails_if (ltb 0 k && is_header s) SecondHeader at) Passes kind place f.1)
+    two n (inr f) = last n (not-false _ (passes_not _ SegmentName at f.0)) (either (fails_if (ltb 0 k && is_header s) SecondHeader at) Passes kind place f.1)
 
     one : (fails_if (eqb k segment_limit) TooManySegments at ≡ Fails kind place) ⊎ ((fails_if (eqb k segment_limit) TooManySegments at ≡ Passes) × (in_order (fails_if (not (named (field_separator m) s)) SegmentName at ∷ fails_if (ltb 0 k && is_header s) SecondHeader at ∷ []) ≡ Fails kind place)) → (place ≡ at) × BadSegment m k kind
     one (inl f) =
         let d = failed (eqb k segment_limit) TooManySegments kind at place f in
         (sym d.2, subst (BadSegment m k) d.1 (one_too_many (eqb-true k segment_limit d.0)))
-    one (inr f) = two (passes-not _ TooManySegments at f.0) (either (fails_if (not (named (field_separator m) s)) SegmentName at) _ kind place f.1)
+    one (inr f) = two (passes_not _ TooManySegments at f.0) (either (fails_if (not (named (field_separator m) s)) SegmentName at) _ kind place f.1)
 
-segment-sound : (m : List ℕ) (k at : ℕ) → segment_check (field_separator m) k at (get_or (segments m) k []) ≡ Passes → (other : Refusal) → BadSegment m k other → ⊥
-segment-sound m k at e other bad =
+segment_sound : (m : List ℕ) (k at : ℕ) → segment_check (field_separator m) k at (get_or (segments m) k []) ≡ Passes → (other : Refusal) → BadSegment m k other → ⊥
+segment_sound m k at e other bad =
     let a = both_pass (fails_if (eqb k segment_limit) TooManySegments at) _ e in
     let b = both_pass (fails_if (not (named (field_separator m) (get_or (segments m) k []))) SegmentName at) _ a.1 in
     let c = both_pass (fails_if (ltb 0 k && is_header (get_or (segments m) k [])) SecondHeader at) Passes b.1 in
-    against (eqb-false k segment_limit (passes-not _ TooManySegments at a.0)) (not-false _ (passes-not _ SegmentName at b.0)) (passes-not _ SecondHeader at c.0) bad
+    against (eqb-false k segment_limit (passes_not _ TooManySegments at a.0)) (not-false _ (passes_not _ SegmentName at b.0)) (passes_not _ SecondHeader at c.0) bad
   where
     against : (k ≡ segment_limit → ⊥) → named (field_separator m) (get_or (segments m) k []) ≡ true → (ltb 0 k && is_header (get_or (segments m) k [])) ≡ false → {other : Refusal} → BadSegment m k other → ⊥
     against n g f (one_too_many z) = n z
-    against n g f (BadSegment.name z w) = false-true (sym w ∙ g)
-    against n g f (second z w l h) = false-true (sym f ∙ both_and (lt-ltb 0 k l) h)
+    against n g f (BadSegment.name z w) = false_true (sym w ∙ g)
+    against n g f (second z w l h) = false_true (sym f ∙ both_and (lt-ltb 0 k l) h)
 
 -- one segment on: its number, and where its first byte stands
 shift : (sep k at : ℕ) (s : List ℕ) (ss : List (List ℕ)) (j : ℕ) (c : Check)
@@ -212,10 +212,10 @@ pub record Failing (m : List ℕ) (ss : List (List ℕ)) (k at : ℕ) (kind : Re
   pub passed : (j : ℕ) → j < number → segment_check (field_separator m) (k + j) (at + length (ended (take j ss))) (get_or ss j []) ≡ Passes
   pub fails : segment_check (field_separator m) (k + number) (at + length (ended (take number ss))) (get_or ss number []) ≡ Fails kind place
 
-first-failing : (m : List ℕ) (ss : List (List ℕ)) (k at : ℕ) (kind : Refusal) (place : ℕ) → in_order (segment_checks (field_separator m) k at ss) ≡ Fails kind place → Failing m ss k at kind place
+first_failing : (m : List ℕ) (ss : List (List ℕ)) (k at : ℕ) (kind : Refusal) (place : ℕ) → in_order (segment_checks (field_separator m) k at ss) ≡ Fails kind place → Failing m ss k at kind place
 unfolding segment_checks ended
-first-failing m [] k at kind place e = absurd (none_fails kind place e)
-first-failing m (s ∷ ss) k at kind place e = by (either (segment_check (field_separator m) k at s) _ kind place e) (first-failing m ss (k + 1) (at + length s + 1) kind place)
+first_failing m [] k at kind place e = absurd (none_fails kind place e)
+first_failing m (s ∷ ss) k at kind place e = by (either (segment_check (field_separator m) k at s) _ kind place e) (first_failing m ss (k + 1) (at + length s + 1) kind place)
   where
     sep : ℕ
     sep = field_separator m
@@ -247,8 +247,8 @@ first-failing m (s ∷ ss) k at kind place e = by (either (segment_check (field_
 -- ---- the reader's refusal
 
 module _ (m : List ℕ) (kind : Refusal) (place : ℕ) where
-  sound-bytes : ltb (first not_allowed m) (length m) ≡ false → (q : ℕ) → q < length m → allowed (get_or m q 0) ≡ true
-  sound-bytes e q h = let n = ltb-false (first not_allowed m) (length m) e in not-false _ (first-before not_allowed m q (omega arith))
+  sound_bytes : ltb (first not_allowed m) (length m) ≡ false → (q : ℕ) → q < length m → allowed (get_or m q 0) ≡ true
+  sound_bytes e q h = let n = ltb-false (first not_allowed m) (length m) e in not-false _ (first_before not_allowed m q (omega arith))
 
   sound_delimiters : ltb (first_wrong_delimiter (delimiters_of m)) 5 ≡ false → (q : ℕ) → 3 ≤ q → q < 8 → Wrong m q → ⊥
   sound_delimiters e q l h = let n = ltb-false (first_wrong_delimiter (delimiters_of m)) 5 e in right_before m q l (omega arith) h
@@ -260,18 +260,18 @@ module _ (m : List ℕ) (kind : Refusal) (place : ℕ) where
     pub delimiters : (q : ℕ) → 3 ≤ q → q < 8 → Wrong m q → ⊥
     pub bytes : (q : ℕ) → q < length m → allowed (get_or m q 0) ≡ true
 
-  opening-sound : opening m ≡ Passes → Sound
+  opening_sound : opening m ≡ Passes → Sound
   unfolding opening
-  opening-sound e =
+  opening_sound e =
       let a = both_pass (length_check m) _ e in
       let b = both_pass (header_check m) _ a.1 in
       let c = both_pass (delimiter_check m) _ b.1 in
       let d = both_pass (byte_check m) Passes c.1 in
       record {
-        sized = is_sized m (passes-not _ Length 0 a.0);
-        header = headed_is m (not-false (headed m) (passes-not _ Header 0 b.0));
-        delimiters = sound_delimiters (passes-not _ Delimiter (3 + first_wrong_delimiter (delimiters_of m)) c.0);
-        bytes = sound-bytes (passes-not _ NotAllowed (first not_allowed m) d.0);
+        sized = is_sized m (passes_not _ Length 0 a.0);
+        header = headed_is m (not-false (headed m) (passes_not _ Header 0 b.0));
+        delimiters = sound_delimiters (passes_not _ Delimiter (3 + first_wrong_delimiter (delimiters_of m)) c.0);
+        bytes = sound_bytes (passes_not _ NotAllowed (first not_allowed m) d.0);
       }
 
   in_opening : opening m ≡ Fails kind place → Faulty m kind place
@@ -285,46 +285,46 @@ module _ (m : List ℕ) (kind : Refusal) (place : ℕ) where
       four s h g (inl f) =
           let d = failed (ltb (first not_allowed m) (length m)) NotAllowed kind (first not_allowed m) place f in
           let l = ltb-true (first not_allowed m) (length m) d.0 in
-          is d.1 d.2 (Faulty.byte s h (sound_delimiters g) (first not_allowed m) l (not-true _ (first_passes not_allowed m l)) (λ q k. not-false _ (first-before not_allowed m q k)))
+          is d.1 d.2 (Faulty.byte s h (sound_delimiters g) (first not_allowed m) l (not-true _ (first_passes not_allowed m l)) (λ q k. not-false _ (first_before not_allowed m q k)))
       four s h g (inr f) = absurd (none_fails kind place f.1)
 
       three : Sized m → Headed m → (delimiter_check m ≡ Fails kind place) ⊎ ((delimiter_check m ≡ Passes) × (in_order (byte_check m ∷ []) ≡ Fails kind place)) → Faulty m kind place
       three s h (inl f) =
           let d = failed (ltb (first_wrong_delimiter (delimiters_of m)) 5) Delimiter kind (3 + first_wrong_delimiter (delimiters_of m)) place f in
           let l = ltb-true (first_wrong_delimiter (delimiters_of m)) 5 d.0 in
-          is d.1 d.2 (Faulty.delimiter s h (3 + first_wrong_delimiter (delimiters_of m)) (omega arith) (omega arith) (wrong-here m l) (λ q k j. right_before m q k j (omega arith)))
-      three s h (inr f) = four s h (passes-not _ Delimiter (3 + first_wrong_delimiter (delimiters_of m)) f.0) (either (byte_check m) Passes kind place f.1)
+          is d.1 d.2 (Faulty.delimiter s h (3 + first_wrong_delimiter (delimiters_of m)) (omega arith) (omega arith) (wrong_here m l) (λ q k j. right_before m q k j (omega arith)))
+      three s h (inr f) = four s h (passes_not _ Delimiter (3 + first_wrong_delimiter (delimiters_of m)) f.0) (either (byte_check m) Passes kind place f.1)
 
       two : Sized m → (header_check m ≡ Fails kind place) ⊎ ((header_check m ≡ Passes) × (in_order (delimiter_check m ∷ byte_check m ∷ []) ≡ Fails kind place)) → Faulty m kind place
       two s (inl f) =
           let d = failed (not (headed m)) Header kind 0 place f in
-          is d.1 d.2 (Faulty.header s (λ h. false-true (sym (not-true (headed m) d.0) ∙ is_headed m h)))
-      two s (inr f) = three s (headed_is m (not-false (headed m) (passes-not _ Header 0 f.0))) (either (delimiter_check m) _ kind place f.1)
+          is d.1 d.2 (Faulty.header s (λ h. false_true (sym (not-true (headed m) d.0) ∙ is_headed m h)))
+      two s (inr f) = three s (headed_is m (not-false (headed m) (passes_not _ Header 0 f.0))) (either (delimiter_check m) _ kind place f.1)
 
       one : (length_check m ≡ Fails kind place) ⊎ ((length_check m ≡ Passes) × (in_order (header_check m ∷ delimiter_check m ∷ byte_check m ∷ []) ≡ Fails kind place)) → Faulty m kind place
       one (inl f) =
           let d = failed (eqb (length m) 0 || ltb message_limit (length m)) Length kind 0 place f in
           is d.1 d.2 (Faulty.size (not_sized m d.0))
-      one (inr f) = two (is_sized m (passes-not _ Length 0 f.0)) (either (header_check m) _ kind place f.1)
+      one (inr f) = two (is_sized m (passes_not _ Length 0 f.0)) (either (header_check m) _ kind place f.1)
 
-  in-segments : Sound → get_or m (length m - 1) 0 ≡ carriage_return → segments_check m ≡ Fails kind place → Faulty m kind place
+  in_segments : Sound → get_or m (length m - 1) 0 ≡ carriage_return → segments_check m ≡ Fails kind place → Faulty m kind place
   unfolding segments_check
-  in-segments s last e =
-      let f = first-failing m (segments m) 0 0 kind place e in
+  in_segments s last e =
+      let f = first_failing m (segments m) 0 0 kind place e in
       let b = segment_failed m f.number (0 + length (ended (take f.number (segments m)))) kind place (ap (λ (x : ℕ). segment_check (field_separator m) x (0 + length (ended (take f.number (segments m)))) (get_or (segments m) f.number [])) (sym (zero-add f.number)) ∙ f.fails) in
       subst (Faulty m kind) (sym (b.0 ∙ zero-add (length (ended (take f.number (segments m))))))
       (Faulty.segment s.sized s.header s.delimiters s.bytes last f.number f.inside b.1
-      (λ j h. segment-sound m j (0 + length (ended (take j (segments m)))) (ap (λ (x : ℕ). segment_check (field_separator m) x (0 + length (ended (take j (segments m)))) (get_or (segments m) j [])) (sym (zero-add j)) ∙ f.passed j h)))
+      (λ j h. segment_sound m j (0 + length (ended (take j (segments m)))) (ap (λ (x : ℕ). segment_check (field_separator m) x (0 + length (ended (take j (segments m)))) (get_or (segments m) j [])) (sym (zero-add j)) ∙ f.passed j h)))
 
-  pub refused-so : reading m ≡ Fails kind place → Faulty m kind place
+  pub refused_so : reading m ≡ Fails kind place → Faulty m kind place
   unfolding reading
-  refused-so e = one (either (opening m) _ kind place e)
+  refused_so e = one (either (opening m) _ kind place e)
     where
       is_last : end_check m ≡ Passes → get_or m (length m - 1) 0 ≡ carriage_return
-      is_last q = eqb-true _ carriage_return (not-false _ (passes-not _ NotEnded (length m - 1) q))
+      is_last q = eqb-true _ carriage_return (not-false _ (passes_not _ NotEnded (length m - 1) q))
 
       three : Sound → end_check m ≡ Passes → (segments_check m ≡ Fails kind place) ⊎ ((segments_check m ≡ Passes) × (Passes ≡ Fails kind place)) → Faulty m kind place
-      three s q (inl f) = in-segments s (is_last q) f
+      three s q (inl f) = in_segments s (is_last q) f
       three s q (inr f) = absurd (none_fails kind place f.1)
 
       two : Sound → (end_check m ≡ Fails kind place) ⊎ ((end_check m ≡ Passes) × (in_order (segments_check m ∷ []) ≡ Fails kind place)) → Faulty m kind place
@@ -336,7 +336,7 @@ module _ (m : List ℕ) (kind : Refusal) (place : ℕ) where
 
       one : (opening m ≡ Fails kind place) ⊎ ((opening m ≡ Passes) × (in_order (end_check m ∷ segments_check m ∷ []) ≡ Fails kind place)) → Faulty m kind place
       one (inl f) = in_opening f
-      one (inr f) = two (opening-sound f.0) (either (end_check m) _ kind place f.1)
+      one (inr f) = two (opening_sound f.0) (either (end_check m) _ kind place f.1)
 
 -- ---- and back: the first fault is what the reader refuses by
 
@@ -346,9 +346,9 @@ bad_once (one_too_many e) (BadSegment.name n w) = absurd (n e)
 bad_once (one_too_many e) (second n w l h) = absurd (n e)
 bad_once (BadSegment.name n w) (one_too_many f) = absurd (n f)
 bad_once (BadSegment.name n w) (BadSegment.name o x) = refl
-bad_once (BadSegment.name n w) (second o x l h) = absurd (false-true (sym w ∙ x))
+bad_once (BadSegment.name n w) (second o x l h) = absurd (false_true (sym w ∙ x))
 bad_once (second n w l h) (one_too_many f) = absurd (n f)
-bad_once (second n w l h) (BadSegment.name o x) = absurd (false-true (sym x ∙ w))
+bad_once (second n w l h) (BadSegment.name o x) = absurd (false_true (sym x ∙ w))
 bad_once (second n w l h) (second o x k j) = refl
 
 -- a test whose one answer cannot be
@@ -373,19 +373,19 @@ module _ (m : List ℕ) where
   sized_passes : Sized m → length_check m ≡ Passes
   sized_passes s = passes_if (is_false _ (λ e. not_sized m e s)) Length 0
 
-  headed-passes : Headed m → header_check m ≡ Passes
-  headed-passes h = passes_if (ap not (is_headed m h)) Header 0
+  headed_passes : Headed m → header_check m ≡ Passes
+  headed_passes h = passes_if (ap not (is_headed m h)) Header 0
 
   right_passes : ((q : ℕ) → 3 ≤ q → q < 8 → Wrong m q → ⊥) → delimiter_check m ≡ Passes
-  right_passes n = passes_if (is_false _ (λ e. let l = ltb-true (first_wrong_delimiter (delimiters_of m)) 5 e in n _ (omega arith) (omega arith) (wrong-here m l))) Delimiter _
+  right_passes n = passes_if (is_false _ (λ e. let l = ltb-true (first_wrong_delimiter (delimiters_of m)) 5 e in n _ (omega arith) (omega arith) (wrong_here m l))) Delimiter _
 
   clean_passes : ((q : ℕ) → q < length m → allowed (get_or m q 0) ≡ true) → byte_check m ≡ Passes
   clean_passes n =
-      passes_if (is_false _ (λ e. let l = ltb-true (first not_allowed m) (length m) e in false-true (sym (not-true _ (first_passes not_allowed m l)) ∙ n _ l))) NotAllowed _
+      passes_if (is_false _ (λ e. let l = ltb-true (first not_allowed m) (length m) e in false_true (sym (not-true _ (first_passes not_allowed m l)) ∙ n _ l))) NotAllowed _
 
   opened : Sized m → Headed m → ((q : ℕ) → 3 ≤ q → q < 8 → Wrong m q → ⊥) → ((q : ℕ) → q < length m → allowed (get_or m q 0) ≡ true) → opening m ≡ Passes
   unfolding opening
-  opened s h d b = rw (sized_passes s, headed-passes h, right_passes d, clean_passes b)
+  opened s h d b = rw (sized_passes s, headed_passes h, right_passes d, clean_passes b)
 
   abbrev start : ℕ → ℕ
   start j = 0 + length (ended (take j (segments m)))
@@ -399,31 +399,31 @@ module _ (m : List ℕ) where
       own j c q = ap (λ (x : ℕ). segment_check (field_separator m) x (start j) (get_or (segments m) j [])) (sym (zero-add j)) ∙ q
 
       at : (c : Check) → in_order (segment_checks (field_separator m) 0 0 (segments m)) ≡ c → c ≡ Fails kind (length (ended (take k (segments m))))
-      at Passes e = absurd (segment-sound m k (start k) (own k Passes (all_pass m (segments m) 0 0 e k inside)) kind bad)
+      at Passes e = absurd (segment_sound m k (start k) (own k Passes (all_pass m (segments m) 0 0 e k inside)) kind bad)
       at (Fails other place) e =
-          let f = first-failing m (segments m) 0 0 other place e in
+          let f = first_failing m (segments m) 0 0 other place e in
           let b = segment_failed m f.number (start f.number) other place (own f.number (Fails other place) f.fails) in
-          let same : f.number ≡ k = same_place f.number k (λ l. n f.number l other b.1) (λ l. segment-sound m k (start k) (own k Passes (f.passed k l)) kind bad) in
+          let same : f.number ≡ k = same_place f.number k (λ l. n f.number l other b.1) (λ l. segment_sound m k (start k) (own k Passes (f.passed k l)) kind bad) in
           let kinds = bad_once (subst (λ (x : ℕ). BadSegment m x other) same b.1) bad in
           let places = b.0 ∙ zero-add (length (ended (take f.number (segments m)))) ∙ ap (λ (x : ℕ). length (ended (take x (segments m)))) same in
           ap₂ Fails kinds places
 
-  pub faulty-so : {kind : Refusal} {place : ℕ} → Faulty m kind place → reading m ≡ Fails kind place
+  pub faulty_so : {kind : Refusal} {place : ℕ} → Faulty m kind place → reading m ≡ Fails kind place
   unfolding reading opening
-  faulty-so (Faulty.size n) = rw (fails_if_lem (is_true _ (λ e. n (is_sized m e))) Length 0)
-  faulty-so (Faulty.header s n) = rw (sized_passes s, fails_if_lem (ap not (is_false (headed m) (λ e. n (headed_is m e)))) Header 0)
-  faulty-so (Faulty.delimiter s h p l k w n) =
-      let most = wrong-most (delimiters_of m) in
-      let same : 3 + first_wrong_delimiter (delimiters_of m) ≡ p = same_place (3 + first_wrong_delimiter (delimiters_of m)) p (λ q. n _ (omega arith) q (wrong-here m (omega arith))) (λ q. right_before m p l q k w) in
+  faulty_so (Faulty.size n) = rw (fails_if_lem (is_true _ (λ e. n (is_sized m e))) Length 0)
+  faulty_so (Faulty.header s n) = rw (sized_passes s, fails_if_lem (ap not (is_false (headed m) (λ e. n (headed_is m e)))) Header 0)
+  faulty_so (Faulty.delimiter s h p l k w n) =
+      let most = wrong_most (delimiters_of m) in
+      let same : 3 + first_wrong_delimiter (delimiters_of m) ≡ p = same_place (3 + first_wrong_delimiter (delimiters_of m)) p (λ q. n _ (omega arith) q (wrong_here m (omega arith))) (λ q. right_before m p l q k w) in
       let d = fails_if_lem (lt-ltb (first_wrong_delimiter (delimiters_of m)) 5 (omega arith)) Delimiter (3 + first_wrong_delimiter (delimiters_of m)) in
-      rw (sized_passes s, headed-passes h, d, same)
-  faulty-so (Faulty.byte s h d p l f n) =
-      let same : first not_allowed m ≡ p = same_place (first not_allowed m) p (λ q. false-true (sym (not-true _ (first_passes not_allowed m (omega arith))) ∙ n _ q)) (λ q. false-true (sym f ∙ not-false _ (first-before not_allowed m p q))) in
+      rw (sized_passes s, headed_passes h, d, same)
+  faulty_so (Faulty.byte s h d p l f n) =
+      let same : first not_allowed m ≡ p = same_place (first not_allowed m) p (λ q. false_true (sym (not-true _ (first_passes not_allowed m (omega arith))) ∙ n _ q)) (λ q. false_true (sym f ∙ not-false _ (first_before not_allowed m p q))) in
       let b = fails_if_lem (lt-ltb (first not_allowed m) (length m) (omega arith)) NotAllowed (first not_allowed m) in
-      rw (sized_passes s, headed-passes h, right_passes d, b, same)
-  faulty-so (Faulty.unended s h d b n) =
+      rw (sized_passes s, headed_passes h, right_passes d, b, same)
+  faulty_so (Faulty.unended s h d b n) =
       let e = fails_if_lem (ap not (ne_eqb (get_or m (length m - 1) 0) carriage_return n)) NotEnded (length m - 1) in
-      rw (sized_passes s, headed-passes h, right_passes d, clean_passes b, e)
-  faulty-so (Faulty.segment s h d b last k inside bad n) =
+      rw (sized_passes s, headed_passes h, right_passes d, clean_passes b, e)
+  faulty_so (Faulty.segment s h d b last k inside bad n) =
       let e = passes_if (ap not (eq-eqb (get_or m (length m - 1) 0) carriage_return last)) NotEnded (length m - 1) in
-      rw (sized_passes s, headed-passes h, right_passes d, clean_passes b, e, segments_fail k inside bad n)
+      rw (sized_passes s, headed_passes h, right_passes d, clean_passes b, e, segments_fail k inside bad n)

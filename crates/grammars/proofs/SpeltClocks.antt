@@ -11,7 +11,7 @@ use lib.Seq.{take_all, take-add, take_at, drop_at, drop-drop}
 use borrow.Author.Tests.{leb-true, le-leb, eq-eqb}
 use Rattle.alphabet.specs.Bytes.{from_to}
 use Rattle.alphabet.specs.Digits.{all_digits, decimal}
-use Rattle.alphabet.proofs.BoolLaws.{false-true, and_both, both_and, from_to_lem}
+use Rattle.alphabet.proofs.BoolLaws.{false_true, and_both, both_and, from_to_lem}
 use Rattle.alphabet.proofs.DigitLaws.{digits_append}
 use Rattle.calendar.specs.Calendar.{valid_clock, valid_offset}
 use Rattle.calendar.specs.declared.figures.Figure.TheVariants.{NotSent, Sent}
@@ -19,11 +19,11 @@ use Rattle.calendar.specs.declared.figures.Sign.{Sign}
 use Rattle.calendar.specs.declared.figures.Clock.{Clock}
 use Rattle.calendar.specs.declared.figures.Offset.{Offset}
 use Rattle.forms.specs.Forms.{fraction_form, zone_form}
-use Rattle.forms.proofs.FormLaws.{fraction-none, fraction-some, zone_none, zone_some, zone_holds}
+use Rattle.forms.proofs.FormLaws.{fraction_none, fraction_some, zone_none, zone_some, zone_holds}
 use Rattle.times.specs.Times.{figure_at, fraction_of, clock_of, offset_of}
-use Rattle.times.proofs.FigureLaws.{figure_sent, figure_not, fraction-not, fraction-sent, offset_not, offset_plus, offset_minus}
+use Rattle.times.proofs.FigureLaws.{figure_sent, figure_not, fraction_not, fraction_sent, offset_not, offset_plus, offset_minus}
 use Rattle.grammars.specs.SpeltTimes.{Hour, Minute, Second, OffsetHour, OffsetMinute, SpeltMinutes, to_minute, to_second, to_fraction, SpeltClock, to_hour, SpeltOffset, nothing, plus, minus}
-use Rattle.grammars.proofs.SpeltLaws.{says-decimal, decimal-says}
+use Rattle.grammars.proofs.SpeltLaws.{says_decimal, decimal_says}
 use Rattle.grammars.proofs.SpeltDates.{within, figure_here, figure_alone, figure_past, piece_says}
 
 -- ---- a clock: digits, and from the point on what may stand behind six of them
@@ -53,9 +53,9 @@ record IsSeconds (l : List ℕ) (h m s : ℕ) : Type 0 where
 
 is_seconds : {hh mm ss : List ℕ} {h m s : ℕ} → Hour hh h → Minute mm m → Second ss s → IsSeconds (hh ++ (mm ++ ss)) h m s
 is_seconds {hh} {mm} {ss} hour minute second =
-    let a = says-decimal hour.0 in
-    let b = says-decimal minute.0 in
-    let c = says-decimal second.0 in
+    let a = says_decimal hour.0 in
+    let b = says_decimal minute.0 in
+    let c = says_decimal second.0 in
     let a1 = a.1 in
     let b1 = b.1 in
     let c1 = c.1 in
@@ -72,8 +72,8 @@ is_seconds {hh} {mm} {ss} hour minute second =
 pub is_minutes : {l : List ℕ} {c : Clock} → SpeltMinutes l c → IsClock 4 l c ⊎ IsClock 6 l c
 unfolding clock_of valid_clock
 is_minutes (to_minute {hh} {mm} hour minute) =
-    let a = says-decimal hour.0 in
-    let b = says-decimal minute.0 in
+    let a = says_decimal hour.0 in
+    let b = says_decimal minute.0 in
     let a1 = a.1 in
     let b1 = b.1 in
     let n = length-append hh mm in
@@ -84,13 +84,13 @@ is_minutes (to_minute {hh} {mm} hour minute) =
       digits = digits_append hh mm ∙ both_and a.0 b.0;
       long = omega arith;
       pointed = no_point;
-      formed = fraction-none false [] refl;
+      formed = fraction_none false [] refl;
       figures =
           λ i. record {
             hour = figure_here mm hour.0 i;
             minute = (figure_past hh mm 2 0 2 a1 ∙ figure_alone minute.0) i;
             second = figure_not (hh ++ mm) 4 2 (omega arith) i;
-            fraction = fraction-not [] refl i;
+            fraction = fraction_not [] refl i;
             digits = 0;
           };
       valid = both_and (within hour.1 hour.2) (both_and (within minute.1 minute.2) refl);
@@ -104,13 +104,13 @@ is_minutes (to_second {hh} {mm} {ss} hour minute second) =
       digits = f.digits;
       long = f.long;
       pointed = no_point;
-      formed = fraction-none true [] refl;
-      figures = λ i. record { hour = f.hour i; minute = f.minute i; second = f.second i; fraction = fraction-not [] refl i; digits = 0 };
+      formed = fraction_none true [] refl;
+      figures = λ i. record { hour = f.hour i; minute = f.minute i; second = f.second i; fraction = fraction_not [] refl i; digits = 0 };
       valid = both_and (within hour.1 hour.2) (both_and (within minute.1 minute.2) (within second.1 second.2));
     })
 is_minutes (to_fraction {hh} {mm} {ss} {behind} {count = count} hour minute second fraction least most) =
     let f = is_seconds hour minute second in
-    let d = says-decimal fraction in
+    let d = says_decimal fraction in
     let d1 = d.1 in
     let some : suc (length behind) ≡ 0 → ⊥ = λ z. omega arith in
     let k : suc (length behind) - 1 ≡ count = omega arith in
@@ -121,13 +121,13 @@ is_minutes (to_fraction {hh} {mm} {ss} {behind} {count = count} hour minute seco
       digits = f.digits;
       long = f.long;
       pointed = point d.0;
-      formed = fraction-some true (46 ∷ behind) some ∙ both_and (within {least = 2} {most = 5} {n = suc (length behind)} (omega arith) (omega arith)) d.0;
+      formed = fraction_some true (46 ∷ behind) some ∙ both_and (within {least = 2} {most = 5} {n = suc (length behind)} (omega arith) (omega arith)) d.0;
       figures =
           λ i. record {
             hour = f.hour i;
             minute = f.minute i;
             second = f.second i;
-            fraction = (fraction-sent (46 ∷ behind) some ∙ ap Sent d.2) i;
+            fraction = (fraction_sent (46 ∷ behind) some ∙ ap Sent d.2) i;
             digits = k i;
           };
       valid = both_and (within hour.1 hour.2) (both_and (within minute.1 minute.2) (within second.1 second.2));
@@ -136,7 +136,7 @@ is_minutes (to_fraction {hh} {mm} {ss} {behind} {count = count} hour minute seco
 pub is_hour : {hh : List ℕ} {h : ℕ} → Hour hh h → IsClock 2 hh (record { hour = Sent h; minute = NotSent; second = NotSent; fraction = NotSent; digits = 0 })
 unfolding clock_of valid_clock
 is_hour {hh} hour =
-    let a = says-decimal hour.0 in
+    let a = says_decimal hour.0 in
     let a1 = a.1 in
     record {
       front = hh;
@@ -145,13 +145,13 @@ is_hour {hh} hour =
       digits = a.0;
       long = a1;
       pointed = no_point;
-      formed = fraction-none false [] refl;
+      formed = fraction_none false [] refl;
       figures =
           λ i. record {
             hour = figure_alone hour.0 i;
             minute = figure_not hh 2 2 (omega arith) i;
             second = figure_not hh 4 2 (omega arith) i;
-            fraction = fraction-not [] refl i;
+            fraction = fraction_not [] refl i;
             digits = 0;
           };
       valid = both_and (within hour.1 hour.2) refl;
@@ -161,14 +161,14 @@ is_hour {hh} hour =
 
 -- no fraction stands behind hours or minutes
 pub no_fraction : (b : ℕ) (r : List ℕ) → fraction_form false (b ∷ r) ≡ true → ⊥
-no_fraction b r e = false-true (sym (fraction-some false (b ∷ r) (λ z. omega arith)) ∙ e)
+no_fraction b r e = false_true (sym (fraction_some false (b ∷ r) (λ z. omega arith)) ∙ e)
 
 pub hour_spells : (f t : List ℕ) → all_digits f ≡ true → length f ≡ 2 → fraction_form false t ≡ true → valid_clock (clock_of f 0 t) ≡ true → SpeltClock (f ++ t) (clock_of f 0 t)
 unfolding clock_of valid_clock
 hour_spells f [] e n k v =
     let h = decimal (take 2 f) in
     let q : clock_of f 0 [] ≡ record { hour = Sent h; minute = NotSent; second = NotSent; fraction = NotSent; digits = 0 } =
-    λ i. record { hour = figure_sent f 0 2 (omega arith) i; minute = figure_not f 2 2 (omega arith) i; second = figure_not f 4 2 (omega arith) i; fraction = fraction-not [] refl i; digits = 0 } in
+    λ i. record { hour = figure_sent f 0 2 (omega arith) i; minute = figure_not f 2 2 (omega arith) i; second = figure_not f 4 2 (omega arith) i; fraction = fraction_not [] refl i; digits = 0 } in
     let hour = from_to_lem 0 23 h (and_both (from_to 0 23 h) _ (ap valid_clock (sym q) ∙ v)).0 in
     subst (λ (x : List ℕ). SpeltClock x (clock_of f 0 [])) (take_all 2 f (omega arith) ∙ sym (append-nil f))
     (subst (SpeltClock _) (sym q) (to_hour (piece_says f 0 2 e (omega arith), hour.0, hour.1)))
@@ -180,7 +180,7 @@ minute_spells f [] e n k v =
     let h = decimal (take 2 f) in
     let m = decimal (take 2 (drop 2 f)) in
     let q : clock_of f 0 [] ≡ record { hour = Sent h; minute = Sent m; second = NotSent; fraction = NotSent; digits = 0 } =
-    λ i. record { hour = figure_sent f 0 2 (omega arith) i; minute = figure_sent f 2 2 (omega arith) i; second = figure_not f 4 2 (omega arith) i; fraction = fraction-not [] refl i; digits = 0 } in
+    λ i. record { hour = figure_sent f 0 2 (omega arith) i; minute = figure_sent f 2 2 (omega arith) i; second = figure_not f 4 2 (omega arith) i; fraction = fraction_not [] refl i; digits = 0 } in
     let w = and_both (from_to 0 23 h) _ (ap valid_clock (sym q) ∙ v) in
     let hour = from_to_lem 0 23 h w.0 in
     let minute = from_to_lem 0 59 m (and_both (from_to 0 59 m) _ w.1).0 in
@@ -226,21 +226,21 @@ second_spells f t e n k begins v = at t k begins (both (ap valid_clock (sym (clo
 
     at : (t : List ℕ) → fraction_form true t ≡ true → ((length t ≡ 0 → ⊥) → get_or t 0 0 ≡ 46) → Hour (take 2 f) h × Minute (take 2 (drop 2 f)) m × Second (take 2 (drop 4 f)) s → SpeltMinutes (f ++ t) (clock_of f 0 t)
     at [] k begins g =
-        let q = clock [] ∙ (λ i. record { hour = Sent h; minute = Sent m; second = Sent s; fraction = fraction-not [] refl i; digits = 0 }) in
+        let q = clock [] ∙ (λ i. record { hour = Sent h; minute = Sent m; second = Sent s; fraction = fraction_not [] refl i; digits = 0 }) in
         subst (λ (x : List ℕ). SpeltMinutes x (clock_of f 0 []))
         (ap (λ (x : List ℕ). take 2 f ++ (take 2 (drop 2 f) ++ x)) (sym (append-nil (take 2 (drop 4 f)))) ∙ six f [] n)
         (subst (SpeltMinutes _) (sym q) (to_second g.0 g.1 g.2))
     at (b ∷ r) k begins g =
         let some : suc (length r) ≡ 0 → ⊥ = λ z. omega arith in
         let p : b ≡ 46 = begins some in
-        let w = and_both (from_to 2 5 (suc (length r))) (all_digits r) (sym (fraction-some true (b ∷ r) some) ∙ k) in
+        let w = and_both (from_to 2 5 (suc (length r))) (all_digits r) (sym (fraction_some true (b ∷ r) some) ∙ k) in
         let u = from_to_lem 2 5 (suc (length r)) w.0 in
         let u0 = u.0 in
         let u1 = u.1 in
         let j : suc (length r) - 1 ≡ length r = omega arith in
-        let q = clock (b ∷ r) ∙ (λ i. record { hour = Sent h; minute = Sent m; second = Sent s; fraction = fraction-sent (b ∷ r) some i; digits = j i }) in
+        let q = clock (b ∷ r) ∙ (λ i. record { hour = Sent h; minute = Sent m; second = Sent s; fraction = fraction_sent (b ∷ r) some i; digits = j i }) in
         subst (λ (x : List ℕ). SpeltMinutes x (clock_of f 0 (b ∷ r))) (ap (λ (x : ℕ). take 2 f ++ (take 2 (drop 2 f) ++ (take 2 (drop 4 f) ++ (x ∷ r)))) (sym p) ∙ six f (b ∷ r) n)
-        (subst (SpeltMinutes _) (sym q) (to_fraction g.0 g.1 g.2 (decimal-says r w.1) (omega arith) (omega arith)))
+        (subst (SpeltMinutes _) (sym q) (to_fraction g.0 g.1 g.2 (decimal_says r w.1) (omega arith) (omega arith)))
 
 -- ---- an offset: nothing, or a sign and four digits
 
@@ -265,8 +265,8 @@ record IsFour (b : ℕ) (r : List ℕ) (h m : ℕ) : Type 0 where
 
 is_four : (b : ℕ) {hh mm : List ℕ} {h m : ℕ} → OffsetHour hh h → OffsetMinute mm m → IsFour b (hh ++ mm) h m
 is_four b {hh} {mm} {h} {m} hour minute =
-    let x = says-decimal hour.0 in
-    let y = says-decimal minute.0 in
+    let x = says_decimal hour.0 in
+    let y = says_decimal minute.0 in
     let x1 = x.1 in
     let y1 = y.1 in
     let n = length-append hh mm in

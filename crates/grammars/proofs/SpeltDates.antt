@@ -11,19 +11,19 @@ use lib.Seq.{take_all, take-add, take_at, drop-drop, drop-append-add, length-tak
 use borrow.Author.Tests.{leb-true, leb-false, le-leb, eqb-true, eq-eqb}
 use Rattle.alphabet.specs.Bytes.{from_to}
 use Rattle.alphabet.specs.Digits.{all_digits, decimal}
-use Rattle.alphabet.proofs.BoolLaws.{false-true, and_both, both_and, from_to_lem}
-use Rattle.alphabet.proofs.DigitLaws.{digits_append, digits-take, digits-drop}
+use Rattle.alphabet.proofs.BoolLaws.{false_true, and_both, both_and, from_to_lem}
+use Rattle.alphabet.proofs.DigitLaws.{digits_append, digits_take, digits_drop}
 use Rattle.calendar.specs.Calendar.{leap, days_in, valid_date, valid_clock, valid_offset, valid_time, no_clock, no_offset}
 use Rattle.calendar.specs.declared.figures.Figure.TheVariants.{NotSent, Sent}
 use Rattle.calendar.specs.declared.figures.Date.{Date}
 use Rattle.calendar.specs.declared.figures.Time.{Time}
 use Rattle.forms.specs.Forms.{dt_length, dt_form}
-use Rattle.forms.proofs.FormLaws.{dt-digits, dt-length}
+use Rattle.forms.proofs.FormLaws.{dt_digits, dt_length_lem}
 use Rattle.times.specs.Times.{figure_at, date_of, is_dt, dt_time}
 use Rattle.times.proofs.FigureLaws.{figure_sent, figure_not}
 use Rattle.grammars.specs.Spelt.{Says}
-use Rattle.grammars.specs.SpeltTimes.{Leap, LastDay, january, february, leap-february, march, april, may, june, july, august, september, october, november, december, SpeltDay, day, SpeltDate, to_year, to_month, to_day, Dt, dt}
-use Rattle.grammars.proofs.SpeltLaws.{says-decimal, decimal-says}
+use Rattle.grammars.specs.SpeltTimes.{Leap, LastDay, january, february, leap_february, march, april, may, june, july, august, september, october, november, december, SpeltDay, day, SpeltDate, to_year, to_month, to_day, Dt, dt}
+use Rattle.grammars.proofs.SpeltLaws.{says_decimal, decimal_says}
 use Rattle.laws.proofs.OneSpelling.{three}
 
 -- ---- the calendar
@@ -56,33 +56,33 @@ is_leap y e =
         (y / 400, omega arith)
 
 -- the table of months gives the days that `days_in` has
-last-day_is : {y m last : ℕ} → LastDay y m last → days_in y m ≡ last
-last-day_is january = refl
-last-day_is {y} (february no-leap) = at (leap y) refl
+last_day_is : {y m last : ℕ} → LastDay y m last → days_in y m ≡ last
+last_day_is january = refl
+last_day_is {y} (february no-leap) = at (leap y) refl
   where
     at : (t : Bool) → leap y ≡ t → days_in y 2 ≡ 28
     at true q = absurd (no-leap (is_leap y q))
     at false q = rw q
-last-day_is {y} (leap-february r) = rw (leap_is y r)
-last-day_is march = refl
-last-day_is april = refl
-last-day_is may = refl
-last-day_is june = refl
-last-day_is july = refl
-last-day_is august = refl
-last-day_is september = refl
-last-day_is october = refl
-last-day_is november = refl
-last-day_is december = refl
+last_day_is {y} (leap_february r) = rw (leap_is y r)
+last_day_is march = refl
+last_day_is april = refl
+last_day_is may = refl
+last_day_is june = refl
+last_day_is july = refl
+last_day_is august = refl
+last_day_is september = refl
+last_day_is october = refl
+last_day_is november = refl
+last_day_is december = refl
 
-is_last-day : (y m : ℕ) → 1 ≤ m → m ≤ 12 → LastDay y m (days_in y m)
-is_last-day y m least most =
+is_last_day : (y m : ℕ) → 1 ≤ m → m ≤ 12 → LastDay y m (days_in y m)
+is_last_day y m least most =
     to 11 december (to 10 november (to 9 october (to 8 september (to 7 august (to 6 july (to 5 june (to 4 may (to 3 april (to 2 march (to 1 (second (leap y) refl) (to 0 january (λ h. absurd (omega arith)))))))))))))
     most
   where
     second : (t : Bool) → leap y ≡ t → LastDay y 2 (days_in y 2)
-    second true q = rw q (leap-february (is_leap y q))
-    second false q = rw q (february (λ r. false-true (sym q ∙ leap_is y r)))
+    second true q = rw q (leap_february (is_leap y q))
+    second false q = rw q (february (λ r. false_true (sym q ∙ leap_is y r)))
 
     to : (k : ℕ) → LastDay y (suc k) (days_in y (suc k)) → (m ≤ k → LastDay y m (days_in y m)) → m ≤ suc k → LastDay y m (days_in y m)
     to k last before h = at (leb m k) refl
@@ -102,7 +102,7 @@ within {least} {most} {n} h k = both_and (le-leb least n h) (le-leb n most k)
 -- a figure at the front, and one behind so many bytes
 pub figure_here : {w n : ℕ} {l : List ℕ} (r : List ℕ) → Says w l n → figure_at (l ++ r) 0 w ≡ Sent n
 figure_here {w} {n} {l} r s =
-    let d = says-decimal s in
+    let d = says_decimal s in
     let k = d.1 in
     let a = length-append l r in
     figure_sent (l ++ r) 0 w (omega arith) ∙ ap (λ (x : List ℕ). Sent (decimal x)) (take_at l r w k) ∙ ap Sent d.2
@@ -129,7 +129,7 @@ pub piece_says : (l : List ℕ) (s w : ℕ) → all_digits l ≡ true → s + w 
 piece_says l s w e h =
     let d = length-drop s l in
     subst (λ (k : ℕ). Says k (take w (drop s l)) (decimal (take w (drop s l)))) (length-take-le w (drop s l) (omega arith))
-    (decimal-says (take w (drop s l)) (digits-take w (drop s l) (digits-drop s l e)))
+    (decimal_says (take w (drop s l)) (digits_take w (drop s l) (digits_drop s l e)))
 
 -- ---- a whole date, and what may stand behind it
 
@@ -142,9 +142,9 @@ pub record IsDay (l : List ℕ) (d : Date) : Type 0 where
 pub is_day : {l : List ℕ} {d : Date} → SpeltDay l d → IsDay l d
 unfolding date_of valid_date
 is_day (day {yyyy} {mm} {dd} {y} {m} {d} year month last days) =
-    let a = says-decimal year.0 in
-    let b = says-decimal month.0 in
-    let c = says-decimal days.0 in
+    let a = says_decimal year.0 in
+    let b = says_decimal month.0 in
+    let c = says_decimal days.0 in
     let a1 = a.1 in
     let b1 = b.1 in
     let c1 = c.1 in
@@ -162,7 +162,7 @@ is_day (day {yyyy} {mm} {dd} {y} {m} {d} year month last days) =
             month = (figure_past yyyy (mm ++ (dd ++ r)) 4 0 2 a1 ∙ figure_here (dd ++ r) month.0) i;
             day = (figure_past yyyy (mm ++ (dd ++ r)) 4 2 2 a1 ∙ figure_past mm (dd ++ r) 2 0 2 b1 ∙ figure_here r days.0) i;
           });
-      valid = both_and (within year.1 year.2) (both_and (within month.1 month.2) (within days.1 (subst (λ (x : ℕ). d ≤ x) (sym (last-day_is last)) days.2)));
+      valid = both_and (within year.1 year.2) (both_and (within month.1 month.2) (within days.1 (subst (λ (x : ℕ). d ≤ x) (sym (last_day_is last)) days.2)));
     }
 
 -- eight digits or more whose date is accepted begin with a whole date
@@ -184,7 +184,7 @@ day_spells l e h v =
     let month = from_to_lem 1 12 m w1.0 in
     let days = from_to_lem 1 (days_in y m) d w1.1 in
     let s = day (piece_says l 0 4 e (omega arith), year.0, year.1) (piece_says l 4 2 e (omega arith), month.0, month.1)
-    (is_last-day y m month.0 month.1) (piece_says l 6 2 e (omega arith), days.0, days.1) in
+    (is_last_day y m month.0 month.1) (piece_says l 6 2 e (omega arith), days.0, days.1) in
     subst (λ (x : List ℕ). SpeltDay x (date_of l)) (sym (front_of_day l)) (subst (SpeltDay _) (sym q) s)
 
 -- ---- a date, as far as it was sent
@@ -198,7 +198,7 @@ pub record IsDate (l : List ℕ) (d : Date) : Type 0 where
 pub is_date : {l : List ℕ} {d : Date} → SpeltDate l d → IsDate l d
 unfolding date_of valid_date
 is_date (to_year {yyyy} {y} year) =
-    let a = says-decimal year.0 in
+    let a = says_decimal year.0 in
     let a1 = a.1 in
     record {
       digits = a.0;
@@ -207,8 +207,8 @@ is_date (to_year {yyyy} {y} year) =
       valid = both_and (within year.1 year.2) refl;
     }
 is_date (to_month {yyyy} {mm} {y} {m} year month) =
-    let a = says-decimal year.0 in
-    let b = says-decimal month.0 in
+    let a = says_decimal year.0 in
+    let b = says_decimal month.0 in
     let a1 = a.1 in
     let b1 = b.1 in
     let n = length-append yyyy mm in
@@ -272,4 +272,4 @@ pub dt_spells : (l : List ℕ) → is_dt l ≡ true → Dt l (dt_time l)
 unfolding is_dt dt_time
 dt_spells l e =
     let a = and_both (dt_form l) (valid_time (dt_time l)) e in
-    dt (date_spells l (dt-digits l a.0) (dt-length l a.0) (and_both (valid_date (date_of l)) _ a.1).0)
+    dt (date_spells l (dt_digits l a.0) (dt_length_lem l a.0) (and_both (valid_date (date_of l)) _ a.1).0)

@@ -15,16 +15,16 @@ use Rattle.alphabet.specs.Bytes.{digit}
 use Rattle.alphabet.specs.Digits.{all_digits, decimal}
 use Rattle.alphabet.specs.Lists.{first, find}
 use Rattle.alphabet.specs.declared.answers.Refusal.TheVariants.{None, BreaksForm, ValueTooLong}
-use Rattle.alphabet.proofs.BoolLaws.{and_both, both_and, from_to_lem, or_neither, false-true}
+use Rattle.alphabet.proofs.BoolLaws.{and_both, both_and, from_to_lem, or_neither, false_true}
 use Rattle.alphabet.proofs.DigitLaws.{digits_append}
-use Rattle.alphabet.proofs.ListLaws.{find_is, first-le, drop-next}
+use Rattle.alphabet.proofs.ListLaws.{find_is, first_le, drop_next}
 use Rattle.numbers.specs.Numbers.{some_digits, is_sign, is_negative, unsigned, nm_form, nm_digits, nm_check, signed, nm_value, number_if, nm_read, is_si, si_read, has_point, most_digits}
 use Rattle.numbers.specs.Numbers.{before_point as whole_of, fraction as fraction_of}
 use Rattle.numbers.specs.declared.numerals.ReadNumber.{ReadNumber}
-use Rattle.numbers.proofs.NumberLaws.{unsigned-drop, unsigned-same, si-read, si-refused}
+use Rattle.numbers.proofs.NumberLaws.{unsigned_drop, unsigned_same, si_read_lem, si_refused}
 use Rattle.grammars.specs.Spelt.{Says}
 use Rattle.grammars.specs.SpeltNumbers.{Unsigned, unpointed, pointed, Nm, bare, plus, minus, NmSays, Si, few, SiSays}
-use Rattle.grammars.proofs.SpeltLaws.{says-decimal, decimal-says, append-none}
+use Rattle.grammars.proofs.SpeltLaws.{says_decimal, decimal_says, append_none}
 
 -- ---- a byte that is no digit, among digits
 
@@ -33,14 +33,14 @@ unfolding first all_digits
 digits_without b n [] e = refl
 digits_without b n (d ∷ r) e =
     let h = and_both (digit d) (all_digits r) e in
-    let unlike : eqb b d ≡ false = ne_eqb b d (λ q. false-true (sym n ∙ ap digit q ∙ h.0)) in
+    let unlike : eqb b d ≡ false = ne_eqb b d (λ q. false_true (sym n ∙ ap digit q ∙ h.0)) in
     rw unlike (ap suc (digits_without b n r h.1))
 
 -- a byte sought behind a part that is without it
-pub find-behind : (b : ℕ) (l r : List ℕ) → find b l ≡ length l → find b (l ++ r) ≡ length l + find b r
+pub find_behind : (b : ℕ) (l r : List ℕ) → find b l ≡ length l → find b (l ++ r) ≡ length l + find b r
 unfolding first
-find-behind b [] r e = omega arith
-find-behind b (x ∷ l) r e = at (eqb b x) (find-behind b l r) e
+find_behind b [] r e = omega arith
+find_behind b (x ∷ l) r e = at (eqb b x) (find_behind b l r) e
   where
     at : (t : Bool) → (find b l ≡ length l → find b (l ++ r) ≡ length l + find b r) → cond t 0 (suc (find b l)) ≡ suc (length l)
         → cond t 0 (suc (find b (l ++ r))) ≡ suc (length l) + find b r
@@ -66,7 +66,7 @@ apart_whole l e =
 apart_pointed : (w f : List ℕ) → all_digits w ≡ true → Apart (w ++ (46 ∷ f)) w f true
 unfolding first
 apart_pointed w f e =
-    let n = find-behind 46 w (46 ∷ f) (digits_without 46 refl w e) in
+    let n = find_behind 46 w (46 ∷ f) (digits_without 46 refl w e) in
     let m : find 46 (w ++ (46 ∷ f)) ≡ length w = omega arith in
     let l = length-append w (46 ∷ f) in
     record {
@@ -84,8 +84,8 @@ no_sign (d ∷ w) r e h =
     let t0 = t.0 in
     rw (ne_eqb d 43 (λ q. omega arith), ne_eqb d 45 (λ q. omega arith))
 
-some-digits : {k n : ℕ} {l : List ℕ} → Says (suc k) l n → some_digits l ≡ true
-some-digits {k} {n} {l} s = let d = says-decimal s in let n = d.1 in both_and (le-leb 1 (length l) (omega arith)) d.0
+some_digits_lem : {k n : ℕ} {l : List ℕ} → Says (suc k) l n → some_digits l ≡ true
+some_digits_lem {k} {n} {l} s = let d = says_decimal s in let n = d.1 in both_and (le-leb 1 (length l) (omega arith)) d.0
 
 -- what the grammar has of a number without its sign, in the reader's own words
 pub record Read (u : List ℕ) (n decimals digits : ℕ) : Type 0 where
@@ -94,58 +94,58 @@ pub record Read (u : List ℕ) (n decimals digits : ℕ) : Type 0 where
   pub number : decimal (whole_of u ++ fraction_of u) ≡ n
   pub places : length (fraction_of u) ≡ decimals
   pub count : length (whole_of u ++ fraction_of u) ≡ digits
-  pub unsigned-so : is_sign (get_or u 0 0) ≡ false
+  pub unsigned_so : is_sign (get_or u 0 0) ≡ false
 
-unsigned-read : {u : List ℕ} {n decimals digits : ℕ} → Unsigned u n decimals digits → Read u n decimals digits
-unsigned-read {u} (unpointed s) =
-    let d = says-decimal s in
+unsigned_read : {u : List ℕ} {n decimals digits : ℕ} → Unsigned u n decimals digits → Read u n decimals digits
+unsigned_read {u} (unpointed s) =
+    let d = says_decimal s in
     let many = d.1 in
     let a = apart_whole u d.0 in
-    let both = ap₂ ◌++◌ a.whole_is a.fraction_is ∙ append-none u in
+    let both = ap₂ ◌++◌ a.whole_is a.fraction_is ∙ append_none u in
     record {
-      before = ap some_digits a.whole_is ∙ some-digits s;
+      before = ap some_digits a.whole_is ∙ some_digits_lem s;
       behind = ap (λ (t : Bool). not t || some_digits (fraction_of u)) a.point_is;
       number = ap decimal both ∙ d.2;
       places = ap length a.fraction_is;
       count = ap length both ∙ d.1;
-      unsigned-so = ap (λ (l : List ℕ). is_sign (get_or l 0 0)) (sym (append-none u)) ∙ no_sign u [] d.0 (omega arith);
+      unsigned_so = ap (λ (l : List ℕ). is_sign (get_or l 0 0)) (sym (append_none u)) ∙ no_sign u [] d.0 (omega arith);
     }
-unsigned-read (pointed {w = w} {f = f} s t b) =
-    let d = says-decimal s in
+unsigned_read (pointed {w = w} {f = f} s t b) =
+    let d = says_decimal s in
     let many = d.1 in
-    let c = says-decimal t in
-    let g = says-decimal b in
+    let c = says_decimal t in
+    let g = says_decimal b in
     let a = apart_pointed w f d.0 in
     let both = ap₂ ◌++◌ a.whole_is a.fraction_is in
     record {
-      before = ap some_digits a.whole_is ∙ some-digits s;
-      behind = ap₂ (λ (p : Bool) (l : List ℕ). not p || some_digits l) a.point_is a.fraction_is ∙ some-digits t;
+      before = ap some_digits a.whole_is ∙ some_digits_lem s;
+      behind = ap₂ (λ (p : Bool) (l : List ℕ). not p || some_digits l) a.point_is a.fraction_is ∙ some_digits_lem t;
       number = ap decimal both ∙ g.2;
       places = ap length a.fraction_is ∙ c.1;
       count = ap length both ∙ g.1;
-      unsigned-so = no_sign w (46 ∷ f) d.0 (omega arith);
+      unsigned_so = no_sign w (46 ∷ f) d.0 (omega arith);
     }
 
 -- and back
-read-unsigned : (u : List ℕ) → some_digits (whole_of u) ≡ true → (not (has_point u) || some_digits (fraction_of u)) ≡ true
+read_unsigned : (u : List ℕ) → some_digits (whole_of u) ≡ true → (not (has_point u) || some_digits (fraction_of u)) ≡ true
     → Unsigned u (decimal (whole_of u ++ fraction_of u)) (length (fraction_of u)) (length (whole_of u ++ fraction_of u))
-read-unsigned u b c = at (has_point u) refl c
+read_unsigned u b c = at (has_point u) refl c
   where
     before : (1 ≤ length (whole_of u)) × (all_digits (whole_of u) ≡ true)
     before = let h = and_both (leb 1 (length (whole_of u))) (all_digits (whole_of u)) b in (leb-true 1 (length (whole_of u)) h.0, h.1)
 
     said : (l : List ℕ) → 1 ≤ length l → all_digits l ≡ true → Says (suc (length l - 1)) l (decimal l)
-    said l h e = let k : length l ≡ suc (length l - 1) = omega arith in subst (λ (j : ℕ). Says j l (decimal l)) k (decimal-says l e)
+    said l h e = let k : length l ≡ suc (length l - 1) = omega arith in subst (λ (j : ℕ). Says j l (decimal l)) k (decimal_says l e)
 
     at : (t : Bool) → has_point u ≡ t → (not t || some_digits (fraction_of u)) ≡ true
         → Unsigned u (decimal (whole_of u ++ fraction_of u)) (length (fraction_of u)) (length (whole_of u ++ fraction_of u))
     at false p c =
         let h = ltb-false (find 46 u) (length u) p in
-        let m = first-le (eqb 46) u in
+        let m = first_le (eqb 46) u in
         let k : length u ≤ find 46 u + 1 = omega arith in
         let f : fraction_of u ≡ [] = drop_of_length-le u k in
         let w : whole_of u ≡ u = take_all (find 46 u) u h in
-        let both : whole_of u ++ fraction_of u ≡ u = ap₂ ◌++◌ w f ∙ append-none u in
+        let both : whole_of u ++ fraction_of u ≡ u = ap₂ ◌++◌ w f ∙ append_none u in
         let n = ap length w in
         let l = before.0 in
         let j : suc (length u - 1) ≡ length u = omega arith in
@@ -163,8 +163,8 @@ read-unsigned u b c = at (has_point u) refl c
         let n = length-append w f in
         let i : suc (length w - 1) + suc (length f - 1) ≡ length (w ++ f) = omega arith in
         let j : suc (length f - 1) ≡ length f = omega arith in
-        let whole-bytes : w ++ (46 ∷ f) ≡ u = ap (λ (r : List ℕ). w ++ r) (sym (drop-next u (find 46 u) h ∙ ap (λ (x : ℕ). x ∷ f) (find_is 46 u h))) ∙ take-append-drop (find 46 u) u in
-        let s = pointed (said w least' before.1) (said f least e.1) (subst (λ (k : ℕ). Says k (w ++ f) (decimal (w ++ f))) (sym i) (decimal-says (w ++ f) both)) in
+        let whole-bytes : w ++ (46 ∷ f) ≡ u = ap (λ (r : List ℕ). w ++ r) (sym (drop_next u (find 46 u) h ∙ ap (λ (x : ℕ). x ∷ f) (find_is 46 u h))) ∙ take-append-drop (find 46 u) u in
+        let s = pointed (said w least' before.1) (said f least e.1) (subst (λ (k : ℕ). Says k (w ++ f) (decimal (w ++ f))) (sym i) (decimal_says (w ++ f) both)) in
         subst (λ (x : List ℕ). Unsigned x (decimal (w ++ f)) (length f) (length (w ++ f))) whole-bytes
         (subst (λ (x : ℕ). Unsigned (w ++ (46 ∷ f)) (decimal (w ++ f)) (length f) x) i
         (subst (λ (x : ℕ). Unsigned (w ++ (46 ∷ f)) (decimal (w ++ f)) x (suc (length w - 1) + suc (length f - 1))) j s))
@@ -190,10 +190,10 @@ reads_as l u n decimals digits negative e s r = record {
 pub nm_spelt : {l : List ℕ} {v : ℤ} {decimals digits : ℕ} → Nm l v decimals digits → ReadsAs l v decimals digits
 unfolding unsigned
 nm_spelt {l} (bare {n} {decimals} {digits} u) =
-    let r = unsigned-read u in
-    reads_as l l n decimals digits false (unsigned-same l r.unsigned-so) (or_neither (eqb (get_or l 0 0) 43) (eqb (get_or l 0 0) 45) r.unsigned-so).1 r
-nm_spelt (plus {n} {decimals} {digits} {l = r} u) = reads_as (43 ∷ r) r n decimals digits false refl refl (unsigned-read u)
-nm_spelt (minus {n} {decimals} {digits} {l = r} u) = reads_as (45 ∷ r) r n decimals digits true refl refl (unsigned-read u)
+    let r = unsigned_read u in
+    reads_as l l n decimals digits false (unsigned_same l r.unsigned_so) (or_neither (eqb (get_or l 0 0) 43) (eqb (get_or l 0 0) 45) r.unsigned_so).1 r
+nm_spelt (plus {n} {decimals} {digits} {l = r} u) = reads_as (43 ∷ r) r n decimals digits false refl refl (unsigned_read u)
+nm_spelt (minus {n} {decimals} {digits} {l = r} u) = reads_as (45 ∷ r) r n decimals digits true refl refl (unsigned_read u)
 
 pub nm_spells : (l : List ℕ) → nm_form l ≡ true → Nm l (nm_value l) (length (fraction_of (unsigned l))) (length (nm_digits l))
 unfolding nm_form nm_value
@@ -205,7 +205,7 @@ nm_spells l e = at (eqb (get_or l 0 0) 43) refl (eqb (get_or l 0 0) 45) refl
     parts : Unsigned (unsigned l) (decimal (nm_digits l)) (length (fraction_of (unsigned l))) (length (nm_digits l))
     parts =
         let b = and_both (some_digits (whole_of (unsigned l))) (not (has_point (unsigned l)) || some_digits (fraction_of (unsigned l))) e in
-        read-unsigned (unsigned l) b.0 b.1
+        read_unsigned (unsigned l) b.0 b.1
 
     begun : (l : List ℕ) (b : ℕ) → (b ≡ 0 → ⊥) → get_or l 0 0 ≡ b → b ∷ drop 1 l ≡ l
     begun [] b n q = absurd (n (sym q))
@@ -214,29 +214,29 @@ nm_spells l e = at (eqb (get_or l 0 0) 43) refl (eqb (get_or l 0 0) 45) refl
     at : (t : Bool) → eqb (get_or l 0 0) 43 ≡ t → (u : Bool) → eqb (get_or l 0 0) 45 ≡ u → Spelt (unsigned l) (is_negative l)
     at true p u q =
         let b = eqb-true (get_or l 0 0) 43 p in
-        let d = unsigned-drop l (rw p) in
+        let d = unsigned_drop l (rw p) in
         let not-minus : is_negative l ≡ false = ap (λ (x : ℕ). eqb x 45) b in
         let spelt = subst (λ (x : List ℕ). Unsigned x (decimal (nm_digits l)) (length (fraction_of (unsigned l))) (length (nm_digits l))) d parts in
         subst (Spelt (unsigned l)) (sym not-minus)
         (subst (λ (x : List ℕ). Nm x (pos (decimal (nm_digits l))) (length (fraction_of (unsigned l))) (length (nm_digits l))) (begun l 43 (λ z. omega arith) b) (plus spelt))
     at false p true q =
         let b = eqb-true (get_or l 0 0) 45 q in
-        let d = unsigned-drop l (rw (p, q)) in
+        let d = unsigned_drop l (rw (p, q)) in
         let spelt = subst (λ (x : List ℕ). Unsigned x (decimal (nm_digits l)) (length (fraction_of (unsigned l))) (length (nm_digits l))) d parts in
         subst (Spelt (unsigned l)) (sym q)
         (subst (λ (x : List ℕ). Nm x (neg_ℤ (pos (decimal (nm_digits l)))) (length (fraction_of (unsigned l))) (length (nm_digits l))) (begun l 45 (λ z. omega arith) b) (minus spelt))
     at false p false q =
-        let d = unsigned-same l (rw (p, q)) in
+        let d = unsigned_same l (rw (p, q)) in
         subst (Spelt (unsigned l)) (sym q) (bare (subst (λ (x : List ℕ). Unsigned x (decimal (nm_digits l)) (length (fraction_of (unsigned l))) (length (nm_digits l))) d parts))
 
 -- what spells no number has no form
 nm_formless : (l : List ℕ) → nm_form l ≡ false → (v : ℤ) (decimals digits : ℕ) → Nm l v decimals digits → ⊥
-nm_formless l e v decimals digits s = false-true (sym e ∙ (nm_spelt s).form)
+nm_formless l e v decimals digits s = false_true (sym e ∙ (nm_spelt s).form)
 
 -- the reader takes exactly what is spelled
-pub nm-said : (l : List ℕ) → NmSays l (nm_read l)
+pub nm_said : (l : List ℕ) → NmSays l (nm_read l)
 unfolding nm_read nm_check
-nm-said l = at (nm_form l) refl (ltb most_digits (length (nm_digits l))) refl
+nm_said l = at (nm_form l) refl (ltb most_digits (length (nm_digits l))) refl
   where
     at : (t : Bool) → nm_form l ≡ t → (u : Bool) → ltb most_digits (length (nm_digits l)) ≡ u
         → NmSays l (number_if (in_order (fails_if (not (nm_form l)) BreaksForm 0 ∷ fails_if (ltb most_digits (length (nm_digits l))) ValueTooLong 0 ∷ [])) (nm_value l) (length (fraction_of (unsigned l))))
@@ -245,25 +245,25 @@ nm-said l = at (nm_form l) refl (ltb most_digits (length (nm_digits l))) refl
     at false p u q = rw p (NmSays.breaks (nm_formless l p))
 
 -- and no second answer is said
-pub nm-once : {l : List ℕ} {r s : ReadNumber} → NmSays l r → NmSays l s → r ≡ s
-nm-once (NmSays.says a h) (NmSays.says b k) =
+pub nm_once : {l : List ℕ} {r s : ReadNumber} → NmSays l r → NmSays l s → r ≡ s
+nm_once (NmSays.says a h) (NmSays.says b k) =
     let p = nm_spelt a in
     let q = nm_spelt b in
     ap₂ (λ (v : ℤ) (decimals : ℕ). record { kind = None; value = v; decimals = decimals }) (sym p.value ∙ q.value) (sym p.places ∙ q.places)
-nm-once (NmSays.says a h) (NmSays.long b k) = absurd (let p = (nm_spelt a).count in let q = (nm_spelt b).count in omega arith)
-nm-once (NmSays.says a h) (NmSays.breaks n) = absurd (n _ _ _ a)
-nm-once (NmSays.long a h) (NmSays.says b k) = absurd (let p = (nm_spelt a).count in let q = (nm_spelt b).count in omega arith)
-nm-once (NmSays.long a h) (NmSays.long b k) = refl
-nm-once (NmSays.long a h) (NmSays.breaks n) = absurd (n _ _ _ a)
-nm-once (NmSays.breaks n) (NmSays.says b k) = absurd (n _ _ _ b)
-nm-once (NmSays.breaks n) (NmSays.long b k) = absurd (n _ _ _ b)
-nm-once (NmSays.breaks n) (NmSays.breaks m) = refl
+nm_once (NmSays.says a h) (NmSays.long b k) = absurd (let p = (nm_spelt a).count in let q = (nm_spelt b).count in omega arith)
+nm_once (NmSays.says a h) (NmSays.breaks n) = absurd (n _ _ _ a)
+nm_once (NmSays.long a h) (NmSays.says b k) = absurd (let p = (nm_spelt a).count in let q = (nm_spelt b).count in omega arith)
+nm_once (NmSays.long a h) (NmSays.long b k) = refl
+nm_once (NmSays.long a h) (NmSays.breaks n) = absurd (n _ _ _ a)
+nm_once (NmSays.breaks n) (NmSays.says b k) = absurd (n _ _ _ b)
+nm_once (NmSays.breaks n) (NmSays.long b k) = absurd (n _ _ _ b)
+nm_once (NmSays.breaks n) (NmSays.breaks m) = refl
 
 -- ---- SI
 
 pub si_spelt : {l : List ℕ} {n : ℕ} → Si l n → (is_si l ≡ true) × (decimal l ≡ n)
 unfolding is_si
-si_spelt {l} (few s h) = let d = says-decimal s in let k = d.1 in (both_and (some-digits s) (le-leb (length l) 4 (omega arith)), d.2)
+si_spelt {l} (few s h) = let d = says_decimal s in let k = d.1 in (both_and (some_digits_lem s) (le-leb (length l) 4 (omega arith)), d.2)
 
 pub si_spells : (l : List ℕ) → is_si l ≡ true → Si l (decimal l)
 unfolding is_si
@@ -273,17 +273,17 @@ si_spells l e =
     let least = leb-true 1 (length l) c.0 in
     let most = leb-true (length l) 4 b.1 in
     let k : length l ≡ suc (length l - 1) = omega arith in
-    few (subst (λ (j : ℕ). Says j l (decimal l)) k (decimal-says l c.1)) (omega arith)
+    few (subst (λ (j : ℕ). Says j l (decimal l)) k (decimal_says l c.1)) (omega arith)
 
-pub si-said : (l : List ℕ) → SiSays l (si_read l)
-si-said l = at (is_si l) refl
+pub si_said : (l : List ℕ) → SiSays l (si_read l)
+si_said l = at (is_si l) refl
   where
     at : (t : Bool) → is_si l ≡ t → SiSays l (si_read l)
-    at true e = subst (SiSays l) (sym (si-read l e)) (SiSays.says (si_spells l e))
-    at false e = subst (SiSays l) (sym (si-refused l e)) (SiSays.breaks (λ n s. false-true (sym e ∙ (si_spelt s).0)))
+    at true e = subst (SiSays l) (sym (si_read_lem l e)) (SiSays.says (si_spells l e))
+    at false e = subst (SiSays l) (sym (si_refused l e)) (SiSays.breaks (λ n s. false_true (sym e ∙ (si_spelt s).0)))
 
-pub si-once : {l : List ℕ} {r s : ReadNumber} → SiSays l r → SiSays l s → r ≡ s
-si-once (SiSays.says a) (SiSays.says b) = ap (λ (n : ℕ). record { kind = None; value = pos n; decimals = 0 }) (sym (si_spelt a).1 ∙ (si_spelt b).1)
-si-once (SiSays.says a) (SiSays.breaks n) = absurd (n _ a)
-si-once (SiSays.breaks n) (SiSays.says b) = absurd (n _ b)
-si-once (SiSays.breaks n) (SiSays.breaks m) = refl
+pub si_once : {l : List ℕ} {r s : ReadNumber} → SiSays l r → SiSays l s → r ≡ s
+si_once (SiSays.says a) (SiSays.says b) = ap (λ (n : ℕ). record { kind = None; value = pos n; decimals = 0 }) (sym (si_spelt a).1 ∙ (si_spelt b).1)
+si_once (SiSays.says a) (SiSays.breaks n) = absurd (n _ a)
+si_once (SiSays.breaks n) (SiSays.says b) = absurd (n _ b)
+si_once (SiSays.breaks n) (SiSays.breaks m) = refl

@@ -14,8 +14,8 @@ use Rattle.alphabet.specs.declared.answers.Refusal.TheVariants.{None}
 use Rattle.alphabet.specs.Bytes.{digit}
 use Rattle.alphabet.specs.Digits.{all_digits}
 use Rattle.alphabet.specs.Lists.{first, find}
-use Rattle.alphabet.proofs.BoolLaws.{false-true, and_both, both_and}
-use Rattle.alphabet.proofs.DigitLaws.{digits_append, digits-drop}
+use Rattle.alphabet.proofs.BoolLaws.{false_true, and_both, both_and}
+use Rattle.alphabet.proofs.DigitLaws.{digits_append, digits_drop}
 use Rattle.calendar.specs.Calendar.{valid_date, valid_clock, valid_offset, valid_time, no_date, no_clock}
 use Rattle.calendar.specs.declared.figures.Date.{Date}
 use Rattle.calendar.specs.declared.figures.Clock.{Clock}
@@ -24,11 +24,11 @@ use Rattle.calendar.specs.declared.figures.Time.{Time}
 use Rattle.times.specs.declared.moments.ReadTime.{ReadTime}
 use Rattle.forms.specs.declared.layouts.Form.{Form}
 use Rattle.forms.specs.Forms.{body_of, zone_of, front_of, tail_of, dt_length, layout_of, front_length, fraction_form, zone_form, parts_form, time_form}
-use Rattle.forms.proofs.FormLaws.{fraction-none, form_parts}
+use Rattle.forms.proofs.FormLaws.{fraction_none, form_parts}
 use Rattle.times.specs.Times.{is_dt, dt_time, date_of, fraction_of, clock_of, offset_of, parts_time, is_time, time_of, time_if, dt_read, time_read}
-use Rattle.times.proofs.FigureLaws.{figure_not, fraction-not}
-use Rattle.grammars.specs.SpeltTimes.{SpeltMinutes, SpeltClock, to_hour, beyond, SpeltOffset, Dt, Tm, tm, Ts, date_alone, date_and-clock, Answers, says, breaks, DtSays, TmSays, TsSays}
-use Rattle.laws.proofs.OneSpelling.{three, five, dt-front, begins, zone_head, dt-most}
+use Rattle.times.proofs.FigureLaws.{figure_not, fraction_not}
+use Rattle.grammars.specs.SpeltTimes.{SpeltMinutes, SpeltClock, to_hour, beyond, SpeltOffset, Dt, Tm, tm, Ts, date_alone, date_and_clock, Answers, says, breaks, DtSays, TmSays, TsSays}
+use Rattle.laws.proofs.OneSpelling.{three, five, dt_front, begins, zone_head, dt_most}
 use Rattle.grammars.proofs.SpeltDates.{figure_past, IsDay, is_day, day_spells, IsDate, is_date, date_spells, dt_spelt, dt_spells}
 use Rattle.grammars.proofs.SpeltClocks.{Tail, no_point, point, IsClock, is_minutes, is_hour, no_fraction, hour_spells, minute_spells, second_spells, Zone, no_sign, plus_sign, minus_sign, IsOffset, is_offset, offset_spells}
 
@@ -41,7 +41,7 @@ find_past x n [] r e = sym (zero-add (find x r))
 find_past x n (d ∷ l) r e =
     let b = and_both (digit d) (all_digits l) e in
     let z : suc (length l + find x r) ≡ suc (length l) + find x r = omega arith in
-    rw (ne_eqb x d (λ q. false-true (sym n ∙ ap digit q ∙ b.0))) (ap suc (find_past x n l r b.1) ∙ z)
+    rw (ne_eqb x d (λ q. false_true (sym n ∙ ap digit q ∙ b.0))) (ap suc (find_past x n l r b.1) ∙ z)
 
 -- and neither does a sign stand from the point on
 tail_past : (x : ℕ) → digit x ≡ false → (x ≡ 46 → ⊥) → {p : List ℕ} → Tail p → (r : List ℕ) → find x (p ++ r) ≡ length p + find x r
@@ -176,14 +176,14 @@ tm_spells l e =
 -- ---- TS
 
 -- behind a date of at most eight digits no clock was sent
-no-clock : (f : List ℕ) → length f ≤ 8 → clock_of f 8 [] ≡ no_clock
+no_clock_lem : (f : List ℕ) → length f ≤ 8 → clock_of f 8 [] ≡ no_clock
 unfolding clock_of
-no-clock f h =
+no_clock_lem f h =
     λ i. record {
       hour = figure_not f 8 2 (omega arith) i;
       minute = figure_not f 10 2 (omega arith) i;
       second = figure_not f 12 2 (omega arith) i;
-      fraction = fraction-not [] refl i;
+      fraction = fraction_not [] refl i;
       digits = 0;
     }
 
@@ -200,15 +200,15 @@ clock_past a f p n =
     }
 
 date_most : (l : List ℕ) → dt_length (length l) ≡ true → length l ≤ 8
-date_most l e = dt-most (length l) (three (length l) 4 6 8 e)
+date_most l e = dt_most (length l) (three (length l) 4 6 8 e)
 
 ts_date : {l z : List ℕ} {d : Date} {o : Offset} → IsDate l d → IsOffset z o → (is_time Form.Ts (l ++ z) ≡ true) × (time_of Form.Ts (l ++ z) ≡ record { date = d; clock = no_clock; offset = o })
 ts_date {l} {z} k s =
-    let c = no-clock l (date_most l k.long) in
+    let c = no_clock_lem l (date_most l k.long) in
     let m = made Form.Ts l [] z no_point s.signed (record {
       digits = k.digits;
-      long = dt-front (length l) k.long;
-      tailed = fraction-none (eqb (length l) 14) [] refl;
+      long = dt_front (length l) k.long;
+      tailed = fraction_none (eqb (length l) 14) [] refl;
       zoned = s.formed;
       date = ap valid_date k.figures ∙ k.valid;
       clock = ap valid_clock c ∙ nothing_valid;
@@ -220,9 +220,9 @@ ts_date {l} {z} k s =
     nothing_valid : valid_clock no_clock ≡ true
     nothing_valid = unfold valid_clock in refl
 
-ts-clock : (n : ℕ) {a l z : List ℕ} {d : Date} {c : Clock} {o : Offset} → front_length Form.Ts (8 + n) ≡ true → eqb (8 + n) 14 ≡ eqb n 6 → IsDay a d → IsClock n l c → IsOffset z o
+ts_clock : (n : ℕ) {a l z : List ℕ} {d : Date} {c : Clock} {o : Offset} → front_length Form.Ts (8 + n) ≡ true → eqb (8 + n) 14 ≡ eqb n 6 → IsDay a d → IsClock n l c → IsOffset z o
     → (is_time Form.Ts (a ++ (l ++ z)) ≡ true) × (time_of Form.Ts (a ++ (l ++ z)) ≡ record { date = d; clock = c; offset = o })
-ts-clock n {a} {l} {z} h g j k s =
+ts_clock n {a} {l} {z} h g j k s =
     let f = k.front in
     let p = k.tail in
     let b = length-append a f in
@@ -245,15 +245,15 @@ ts-clock n {a} {l} {z} h g j k s =
 
 pub ts_spelt : {l : List ℕ} {t : Time} → Ts l t → (is_time Form.Ts l ≡ true) × (time_of Form.Ts l ≡ t)
 ts_spelt (date_alone d s) = ts_date (is_date d) (is_offset s)
-ts_spelt (date_and-clock d m s) =
-    ⊎_elim (λ k. ts-clock 4 refl refl (is_day d) k (is_offset s)) (λ k. ts-clock 6 refl refl (is_day d) k (is_offset s)) (is_minutes m)
+ts_spelt (date_and_clock d m s) =
+    ⊎_elim (λ k. ts_clock 4 refl refl (is_day d) k (is_offset s)) (λ k. ts_clock 6 refl refl (is_day d) k (is_offset s)) (is_minutes m)
 
 -- a date alone: no fraction stands behind it
 date_alone_spells : (f p z : List ℕ) → dt_length (length f) ≡ true → Holds Form.Ts f p z → SpeltOffset z (offset_of z)
     → Ts ((f ++ p) ++ z) (record { date = date_of f; clock = clock_of f 8 p; offset = offset_of z })
 date_alone_spells f [] z n h s =
     subst (λ (x : List ℕ). Ts (x ++ z) (record { date = date_of f; clock = clock_of f 8 []; offset = offset_of z })) (sym (append-nil f))
-    (subst (λ (c : Clock). Ts (f ++ z) (record { date = date_of f; clock = c; offset = offset_of z })) (sym (no-clock f (date_most f n)))
+    (subst (λ (c : Clock). Ts (f ++ z) (record { date = date_of f; clock = c; offset = offset_of z })) (sym (no_clock_lem f (date_most f n)))
     (date_alone (date_spells f h.digits n h.date) s))
 date_alone_spells f (b ∷ p) z n h s =
     let m = date_most f n in
@@ -261,10 +261,10 @@ date_alone_spells f (b ∷ p) z n h s =
     absurd (no_fraction b p (ap (λ (t : Bool). fraction_form t (b ∷ p)) (sym q) ∙ h.tailed))
 
 -- a day and a clock behind it
-day-and-clock_spells : (f p z : List ℕ) → 8 ≤ length f → Holds Form.Ts f p z
+day_and_clock_spells : (f p z : List ℕ) → 8 ≤ length f → Holds Form.Ts f p z
     → (valid_clock (clock_of (drop 8 f) 0 p) ≡ true → SpeltMinutes (drop 8 f ++ p) (clock_of (drop 8 f) 0 p)) → SpeltOffset z (offset_of z)
     → Ts ((f ++ p) ++ z) (record { date = date_of f; clock = clock_of f 8 p; offset = offset_of z })
-day-and-clock_spells f p z n h minutes s =
+day_and_clock_spells f p z n h minutes s =
     let a = take 8 f in
     let g = drop 8 f in
     let e = take-append-drop 8 f in
@@ -272,7 +272,7 @@ day-and-clock_spells f p z n h minutes s =
     let w = sym (append_assoc a (g ++ p) z) ∙ ap (λ (x : List ℕ). x ++ z) (sym (append_assoc a g p) ∙ ap (λ (x : List ℕ). x ++ p) e) in
     subst (λ (x : List ℕ). Ts x (record { date = date_of f; clock = clock_of f 8 p; offset = offset_of z })) w
     (subst (λ (x : Clock). Ts (a ++ ((g ++ p) ++ z)) (record { date = date_of f; clock = x; offset = offset_of z })) (sym c)
-    (date_and-clock (day_spells f h.digits n h.date) (minutes (ap valid_clock (sym c) ∙ h.clock)) s))
+    (date_and_clock (day_spells f h.digits n h.date) (minutes (ap valid_clock (sym c) ∙ h.clock)) s))
 
 pub ts_spells : (l : List ℕ) → is_time Form.Ts l ≡ true → Ts l (time_of Form.Ts l)
 unfolding time_of
@@ -296,12 +296,12 @@ ts_spells l e = subst (λ (x : List ℕ). Ts x (time_of Form.Ts l)) (together l)
     clocked : (length f ≡ 12) ⊎ (length f ≡ 14) → Ts ((f ++ p) ++ z) (time_of Form.Ts l)
     clocked (inl n) =
         let m = length-drop 8 f in
-        day-and-clock_spells f p z (omega arith) h
-        (minute_spells (drop 8 f) p (digits-drop 8 f h.digits) (omega arith) (ap (λ (x : ℕ). fraction_form (eqb x 14) p) (sym n) ∙ h.tailed)) s
+        day_and_clock_spells f p z (omega arith) h
+        (minute_spells (drop 8 f) p (digits_drop 8 f h.digits) (omega arith) (ap (λ (x : ℕ). fraction_form (eqb x 14) p) (sym n) ∙ h.tailed)) s
     clocked (inr n) =
         let m = length-drop 8 f in
-        day-and-clock_spells f p z (omega arith) h
-        (second_spells (drop 8 f) p (digits-drop 8 f h.digits) (omega arith) (ap (λ (x : ℕ). fraction_form (eqb x 14) p) (sym n) ∙ h.tailed) (begins 46 (body_of l) (find 46 (body_of l)) refl)) s
+        day_and_clock_spells f p z (omega arith) h
+        (second_spells (drop 8 f) p (digits_drop 8 f h.digits) (omega arith) (ap (λ (x : ℕ). fraction_form (eqb x 14) p) (sym n) ∙ h.tailed) (begins 46 (body_of l) (find 46 (body_of l)) refl)) s
 
     at : (dt_length (length f) ≡ true) ⊎ ((length f ≡ 12) ⊎ (length f ≡ 14)) → Ts ((f ++ p) ++ z) (time_of Form.Ts l)
     at (inl n) = date_alone_spells f p z n h s
@@ -316,7 +316,7 @@ module _ (Spelt : List ℕ → Time → Type 0) (l : List ℕ) (test : Bool) (ti
     where
       at : (t : Bool) → test ≡ t → Answers Spelt l (time_if t time)
       at true e = says (spells e)
-      at false e = breaks (λ t s. false-true (sym e ∙ (spelt t s).0))
+      at false e = breaks (λ t s. false_true (sym e ∙ (spelt t s).0))
 
   once : {r s : ReadTime} → Answers Spelt l r → Answers Spelt l s → r ≡ s
   once (says {t} a) (says {t = u} b) = λ i. record { kind = None; time = (sym (spelt t a).1 ∙ (spelt u b).1) i }
@@ -324,23 +324,23 @@ module _ (Spelt : List ℕ → Time → Type 0) (l : List ℕ) (test : Bool) (ti
   once (breaks a) (says {t} b) = absurd (a t b)
   once (breaks a) (breaks b) = refl
 
-pub dt-said : (l : List ℕ) → DtSays l (dt_read l)
+pub dt_said : (l : List ℕ) → DtSays l (dt_read l)
 unfolding dt_read
-dt-said l = said Dt l (is_dt l) (dt_time l) (λ t s. dt_spelt s) (dt_spells l)
+dt_said l = said Dt l (is_dt l) (dt_time l) (λ t s. dt_spelt s) (dt_spells l)
 
-pub dt-once : {l : List ℕ} {r s : ReadTime} → DtSays l r → DtSays l s → r ≡ s
-dt-once {l} a b = once Dt l (is_dt l) (dt_time l) (λ t s. dt_spelt s) a b
+pub dt_once : {l : List ℕ} {r s : ReadTime} → DtSays l r → DtSays l s → r ≡ s
+dt_once {l} a b = once Dt l (is_dt l) (dt_time l) (λ t s. dt_spelt s) a b
 
-pub tm-said : (l : List ℕ) → TmSays l (time_read Form.Tm l)
+pub tm_said : (l : List ℕ) → TmSays l (time_read Form.Tm l)
 unfolding time_read
-tm-said l = said Tm l (is_time Form.Tm l) (time_of Form.Tm l) (λ t s. tm_spelt s) (tm_spells l)
+tm_said l = said Tm l (is_time Form.Tm l) (time_of Form.Tm l) (λ t s. tm_spelt s) (tm_spells l)
 
-pub tm-once : {l : List ℕ} {r s : ReadTime} → TmSays l r → TmSays l s → r ≡ s
-tm-once {l} a b = once Tm l (is_time Form.Tm l) (time_of Form.Tm l) (λ t s. tm_spelt s) a b
+pub tm_once : {l : List ℕ} {r s : ReadTime} → TmSays l r → TmSays l s → r ≡ s
+tm_once {l} a b = once Tm l (is_time Form.Tm l) (time_of Form.Tm l) (λ t s. tm_spelt s) a b
 
-pub ts-said : (l : List ℕ) → TsSays l (time_read Form.Ts l)
+pub ts_said : (l : List ℕ) → TsSays l (time_read Form.Ts l)
 unfolding time_read
-ts-said l = said Ts l (is_time Form.Ts l) (time_of Form.Ts l) (λ t s. ts_spelt s) (ts_spells l)
+ts_said l = said Ts l (is_time Form.Ts l) (time_of Form.Ts l) (λ t s. ts_spelt s) (ts_spells l)
 
-pub ts-once : {l : List ℕ} {r s : ReadTime} → TsSays l r → TsSays l s → r ≡ s
-ts-once {l} a b = once Ts l (is_time Form.Ts l) (time_of Form.Ts l) (λ t s. ts_spelt s) a b
+pub ts_once : {l : List ℕ} {r s : ReadTime} → TsSays l r → TsSays l s → r ≡ s
+ts_once {l} a b = once Ts l (is_time Form.Ts l) (time_of Form.Ts l) (λ t s. ts_spelt s) a b

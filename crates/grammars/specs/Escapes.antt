@@ -35,8 +35,8 @@ own_hex escape b = escape ∷ byte_of "X" ∷ get_or hex_digits (b / 16) 0 ∷ g
 -- "Escaping writes the five delimiters by letter, every byte that isn't allowed and CR as its own `\Xhh\` with capital
 -- digits, the rest plainly.": a byte and what it is written as
 pub data WritesByte (field component repetition escape subcomponent : ℕ) : ℕ → List ℕ → Type 0 where
-  by-letter : {l b : ℕ} → Letter field component repetition escape subcomponent l b → WritesByte field component repetition escape subcomponent b (escape ∷ l ∷ escape ∷ [])
-  not-allowed : (b : ℕ) → NoDelimiter field component repetition escape subcomponent b → marked allowed_bytes b ≡ false
+  by_letter : {l b : ℕ} → Letter field component repetition escape subcomponent l b → WritesByte field component repetition escape subcomponent b (escape ∷ l ∷ escape ∷ [])
+  not_allowed : (b : ℕ) → NoDelimiter field component repetition escape subcomponent b → marked allowed_bytes b ≡ false
       → WritesByte field component repetition escape subcomponent b (own_hex escape b)
   return : NoDelimiter field component repetition escape subcomponent carriage_return → WritesByte field component repetition escape subcomponent carriage_return (own_hex escape carriage_return)
   plainly : (b : ℕ) → NoDelimiter field component repetition escape subcomponent b → marked allowed_bytes b ≡ true → (b ≡ carriage_return → ⊥)

@@ -62,7 +62,7 @@ pub record Leap (year : ℕ) : Type 0 where
 pub data LastDay (year : ℕ) : ℕ → ℕ → Type 0 where
   january : LastDay year 1 31
   february : (Leap year → ⊥) → LastDay year 2 28
-  leap-february : Leap year → LastDay year 2 29
+  leap_february : Leap year → LastDay year 2 29
   march : LastDay year 3 31
   april : LastDay year 4 30
   may : LastDay year 5 31
@@ -134,7 +134,7 @@ pub data Tm : List ℕ → Time → Type 0 where
 -- "TS: YYYY[MM[DD[HHMM[SS[.S to .SSSS]]]]][+/-ZZZZ]." Hours stand behind a day alone, and never without minutes
 pub data Ts : List ℕ → Time → Type 0 where
   date_alone : {l z : List ℕ} {d : Date} {o : Offset} → SpeltDate l d → SpeltOffset z o → Ts (l ++ z) (record { date = d; clock = clock_not_sent; offset = o })
-  date_and-clock : {l k z : List ℕ} {d : Date} {c : Clock} {o : Offset} → SpeltDay l d → SpeltMinutes k c → SpeltOffset z o
+  date_and_clock : {l k z : List ℕ} {d : Date} {c : Clock} {o : Offset} → SpeltDay l d → SpeltMinutes k c → SpeltOffset z o
       → Ts (l ++ (k ++ z)) (record { date = d; clock = c; offset = o })
 
 -- ---- what a reader has to answer: the time that the bytes spell, or that they break their type's form, where they spell none

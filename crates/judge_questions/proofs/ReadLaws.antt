@@ -18,28 +18,28 @@ asked_two (v ∷ []) h = absurd (omega arith)
 asked_two (v ∷ m ∷ []) h = refl
 asked_two (v ∷ m ∷ w ∷ ws) h = absurd (omega arith)
 
-asked-other : (ws : List (List ℕ)) → (length ws ≡ 2 → ⊥) → read_asked ws ≡ nothing
+asked_other : (ws : List (List ℕ)) → (length ws ≡ 2 → ⊥) → read_asked ws ≡ nothing
 unfolding read_asked
-asked-other [] h = refl
-asked-other (v ∷ []) h = refl
-asked-other (v ∷ m ∷ []) h = absurd (h refl)
-asked-other (v ∷ m ∷ w ∷ ws) h = refl
+asked_other [] h = refl
+asked_other (v ∷ []) h = refl
+asked_other (v ∷ m ∷ []) h = absurd (h refl)
+asked_other (v ∷ m ∷ w ∷ ws) h = refl
 
 module _ {answer : List ℕ} where
   unasked : answer ≡ no_question → ReadAnswer nothing answer
   unasked q = subst (λ (l : List ℕ). ReadAnswer nothing l) (sym q) unknown
 
-  pub answer-other : (ws : List (List ℕ)) (room : ℕ) → (length ws ≡ 2 → ⊥) → answer ≡ no_question → ReadAnswer (fitting room (read_asked ws)) answer
+  pub answer_other : (ws : List (List ℕ)) (room : ℕ) → (length ws ≡ 2 → ⊥) → answer ≡ no_question → ReadAnswer (fitting room (read_asked ws)) answer
   unfolding fitting
-  answer-other ws room h q = rw (asked-other ws h) (unasked q)
+  answer_other ws room h q = rw (asked_other ws h) (unasked q)
 
-  pub answer-refused : {asked s : Said} {r : Decoded} {d : List ℕ} → asked ≡ s → Told s r d → r ≡ Refused → answer ≡ no_question → ReadAnswer asked answer
-  answer-refused s (front t) e q = absurd (let z : ◌≡◌ {A = ℕ} 0 1 = cc in omega arith)
-  answer-refused s refused e q = rw s (unasked q)
+  pub answer_refused : {asked s : Said} {r : Decoded} {d : List ℕ} → asked ≡ s → Told s r d → r ≡ Refused → answer ≡ no_question → ReadAnswer asked answer
+  answer_refused s (front t) e q = absurd (let z : ◌≡◌ {A = ℕ} 0 1 = cc in omega arith)
+  answer_refused s refused e q = rw s (unasked q)
 
-  pub answer-said : {asked s : Said} {r : Decoded} {d : List ℕ} {n : ℕ} → asked ≡ s → Told s r d → r ≡ Length n → TwoNumbers answer → ReadAnswer asked answer
-  answer-said s (front t) e q = rw s (numbers q)
-  answer-said s refused e q = absurd (let z : ◌≡◌ {A = ℕ} 0 1 = cc in omega arith)
+  pub answer_said : {asked s : Said} {r : Decoded} {d : List ℕ} {n : ℕ} → asked ≡ s → Told s r d → r ≡ Length n → TwoNumbers answer → ReadAnswer asked answer
+  answer_said s (front t) e q = rw s (numbers q)
+  answer_said s refused e q = absurd (let z : ◌≡◌ {A = ℕ} 0 1 = cc in omega arith)
 
 -- one number put at the front, and one behind it
 pub two_put : {before between after : List ℕ} {next end number place : ℕ} → NumberPut before 0 between next number 32 → NumberPut between next after end place 10 → TwoNumbers (take end after)

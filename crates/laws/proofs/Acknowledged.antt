@@ -14,7 +14,7 @@ use lib.Seq.{get_or-take, take-take, length-take-le}
 use borrow.Author.Tests.{lt-ltb, le-leb, lt-leb, leb-true}
 use Rattle.alphabet.specs.Bytes.{carriage_return, allowed, ascii}
 use Rattle.alphabet.specs.Delimiters.{first_wrong_delimiter}
-use Rattle.alphabet.proofs.BoolLaws.{and_both, false-true}
+use Rattle.alphabet.proofs.BoolLaws.{and_both, false_true}
 use Rattle.alphabet.proofs.ListLaws.{same_is}
 use Rattle.alphabet.specs.Limits.{message_limit, id_limit}
 use Rattle.alphabet.specs.Lists.{find, same}
@@ -30,7 +30,7 @@ use Rattle.reading.proofs.Accepted.{accepted as accepted-message}
 use Rattle.reading.proofs.SegmentLaws.{segments_walk}
 use Rattle.element.specs.Finding.{raw_bytes}
 use Rattle.element.specs.declared.address.Address.{Address}
-use Rattle.laws.proofs.HeaderLaws.{first-segment as begins}
+use Rattle.laws.proofs.HeaderLaws.{first_segment as begins}
 use Rattle.element.proofs.RawLaws.{raw_header, raw_component}
 use Rattle.times.specs.Times.{is_ts}
 use Rattle.escaping.specs.Escape.{escape}
@@ -41,9 +41,9 @@ use Rattle.laws.proofs.RoundTrip.{AreBytes, round_trip}
 use Rattle.element.specs.States.{state_of, is_present}
 use Rattle.element.specs.declared.states.State.{State}
 use Rattle.element.specs.declared.states.State.TheVariants.{Present}
-use Rattle.laws.proofs.PresentLaws.{is_present_lem, not-present}
+use Rattle.laws.proofs.PresentLaws.{is_present_lem, not_present}
 use Rattle.field_table.specs.Table.{rows}
-use Rattle.laws.proofs.FaultNumbers.{none-sound}
+use Rattle.laws.proofs.FaultNumbers.{none_sound}
 use Rattle.laws.proofs.ControlId.{control_id}
 use Rattle.structure.specs.SegmentNames.{segment_names}
 use Rattle.structure.specs.Structures.{ack, chosen, structure_for, built_in, acknowledgement as ackListed}
@@ -56,71 +56,71 @@ use Rattle.acknowledgement.specs.Acknowledgement.Acknowledges.{not_written, writ
 use Rattle.error_segment.specs.Errors.{error_parts, error_line, error_lines}
 use Rattle.fault.specs.declared.FaultRecord.{FaultRecord}
 use Rattle.alphabet.specs.Answers.{number_of}
-use Rattle.alphabet.proofs.CheckLaws.{number-none}
+use Rattle.alphabet.proofs.CheckLaws.{number_none}
 use Rattle.laws.specs.Told.{TellsCode, TellsPlace}
 use Rattle.acknowledgement_code.specs.Codes.{code_of, letters_of}
 use Rattle.acknowledgement_code.specs.declared.Code.{Code}
-use Rattle.acknowledgement.proofs.HeaderLaws.{nothing_against, return-inside, header-find, header-ends, sound-header}
-use Rattle.laws.proofs.SenderLaws.{segments-header}
+use Rattle.acknowledgement.proofs.HeaderLaws.{nothing_against, return_inside, header_find, header_ends, sound_header}
+use Rattle.laws.proofs.SenderLaws.{segments_header}
 use Rattle.laws.specs.Rejected.{Rejects, Rejected}
 use Rattle.laws.proofs.CodeLaws.{letters_accept, letters_reject, letters_error}
 use Rattle.laws.proofs.WrittenLaws as W
 use Rattle.laws.proofs.ErrorLines as E
-use Rattle.laws.proofs.ErrorTold.{told_as, place-tells, code-tells}
-use Rattle.acknowledgement.proofs.AnswerLaws.{Writes, zero-writes, nine_unacknowledgeable}
+use Rattle.laws.proofs.ErrorTold.{told_as, place_tells, code_tells}
+use Rattle.acknowledgement.proofs.AnswerLaws.{Writes, zero_writes, nine_unacknowledgeable}
 
 -- ---- the header's fields are the message's
 
 module _ (m : List ℕ) (inside : find carriage_return m < length m) (opened : Opened (header m)) where
   ends : find carriage_return (header m) + 1 ≡ length (header m)
-  ends = header-ends m inside
+  ends = header_ends m inside
 
-  first-segment : get_or (segments m) 0 [] ≡ take (find carriage_return m) m
+  first_segment : get_or (segments m) 0 [] ≡ take (find carriage_return m) m
   unfolding segments
-  first-segment = ap (λ (ss : List (List ℕ)). get_or ss 0 []) (segments_walk m 0 (find carriage_return m) (sym (zero-add (find carriage_return m))) inside) ∙ ap (λ (n : ℕ). take n m) (sub-zero (find carriage_return m))
+  first_segment = ap (λ (ss : List (List ℕ)). get_or ss 0 []) (segments_walk m 0 (find carriage_return m) (sym (zero-add (find carriage_return m))) inside) ∙ ap (λ (n : ℕ). take n m) (sub-zero (find carriage_return m))
 
   same_byte : (i : ℕ) → i < 9 → get_or (header m) i 0 ≡ get_or m i 0
-  same_byte i l = get_or-take (find carriage_return m + 1) m i 0 (let n = opened.nine-bytes in let e = ends in let f = header-find m inside in omega arith)
+  same_byte i l = get_or-take (find carriage_return m + 1) m i 0 (let n = opened.nine_bytes in let e = ends in let f = header_find m inside in omega arith)
 
   pub same_delimiters : delimiters_of (header m) ≡ delimiters_of m
   same_delimiters =
       λ i. same_byte 3 (omega arith) i ∷ same_byte 4 (omega arith) i ∷ same_byte 5 (omega arith) i ∷ same_byte 6 (omega arith) i ∷ same_byte 7 (omega arith) i ∷ []
 
   long : 9 ≤ length m
-  long = let n = opened.nine-bytes in let e = ends in let f = header-find m inside in omega (arith, inside)
+  long = let n = opened.nine_bytes in let e = ends in let f = header_find m inside in omega (arith, inside)
 
   lines : take (find carriage_return (header m)) (header m) ≡ take (find carriage_return m) m
   lines =
-      ap (λ (n : ℕ). take n (header m)) (header-find m inside)
+      ap (λ (n : ℕ). take n (header m)) (header_find m inside)
       ∙ take-take (find carriage_return m) (find carriage_return m + 1) m (omega arith)
 
   -- a field looked up in the header is the same looked up in the message
-  pub sent-whole : (f : ℕ) → (f ≡ 1 → ⊥) → sent (header m) f ≡ sent m f
-  sent-whole f n =
-      raw_header (header m) (let q = opened.nine-bytes in omega arith) f n
+  pub sent_whole : (f : ℕ) → (f ≡ 1 → ⊥) → sent (header m) f ≡ sent m f
+  sent_whole f n =
+      raw_header (header m) (let q = opened.nine_bytes in omega arith) f n
       ∙ ap₂ (λ (sep : ℕ) (l : List ℕ). get_or (split sep l) (f - 1) []) (same_byte 3 (omega arith))
-      (ap (λ (ss : List (List ℕ)). get_or ss 0 []) (segments-header (header m) opened ends) ∙ lines ∙ sym first-segment)
+      (ap (λ (ss : List (List ℕ)). get_or ss 0 []) (segments_header (header m) opened ends) ∙ lines ∙ sym first_segment)
       ∙ sym (raw_header m (let q = long in omega arith) f n)
 
   -- so is a component of the type
-  pub type-whole : (k : ℕ) → 1 ≤ k → type_part (header m) k ≡ type_part m k
-  type-whole k least =
-      raw_component (header m) (let q = opened.nine-bytes in omega arith) 9 k (omega arith) least
-      ∙ ap₂ (λ (ds l : List ℕ). get_or (split (get_or ds 1 0) (get_or (split (get_or ds 2 0) l) 0 [])) (k - 1) []) same_delimiters (sent-whole 9 (λ e. omega arith))
+  pub type_whole : (k : ℕ) → 1 ≤ k → type_part (header m) k ≡ type_part m k
+  type_whole k least =
+      raw_component (header m) (let q = opened.nine_bytes in omega arith) 9 k (omega arith) least
+      ∙ ap₂ (λ (ds l : List ℕ). get_or (split (get_or ds 1 0) (get_or (split (get_or ds 2 0) l) 0 [])) (k - 1) []) same_delimiters (sent_whole 9 (λ e. omega arith))
       ∙ sym (raw_component m (let q = long in omega arith) 9 k (omega arith) least)
 
   -- and the type that is sent back
-  pub type-sent : type_sent (header m) ≡ type_sent m
+  pub type_sent_lem : type_sent (header m) ≡ type_sent m
   unfolding type_sent
-  type-sent =
-      ap₂ (λ (ds event : List ℕ). ascii "ACK" ++ cond (is_present (state_of ds event)) (get_or ds 1 0 ∷ event) []) same_delimiters (type-whole 2 (omega arith))
+  type_sent_lem =
+      ap₂ (λ (ds event : List ℕ). ascii "ACK" ++ cond (is_present (state_of ds event)) (get_or ds 1 0 ∷ event) []) same_delimiters (type_whole 2 (omega arith))
 
 -- ---- what is written
 
-length-told : (m time id lent : List ℕ) {r : Answer} {x : List ℕ} → Acknowledges m time id lent r x → r.kind ≡ None → (length x ≡ length lent) × (r.length ≤ length lent)
+length_told : (m time id lent : List ℕ) {r : Answer} {x : List ℕ} → Acknowledges m time id lent r x → r.kind ≡ None → (length x ≡ length lent) × (r.length ≤ length lent)
 unfolding answer filled roomy
-length-told m time id lent (not_written n) zero = absurd (n zero)
-length-told m time id lent (written e found v) zero = at (leb (length w) (length lent)) (leb (length w) message_limit) refl zero
+length_told m time id lent (not_written n) zero = absurd (n zero)
+length_told m time id lent (written e found v) zero = at (leb (length w) (length lent)) (leb (length w) message_limit) refl zero
   where
     w : List ℕ
     w = answer_to m time id found
@@ -137,12 +137,12 @@ length-told m time id lent (written e found v) zero = at (leb (length w) (length
     at false t f z = absurd (let q : ◌≡◌ {A = ℕ} 0 1 = cc in omega arith)
 
 -- over another buffer: the same answer where that has room for what was written, else 10
-pub room-exactly : (m time id lent other : List ℕ) {r s : Answer} {x y : List ℕ} → Acknowledges m time id lent r x → r.kind ≡ None → Acknowledges m time id other s y
+pub room_exactly : (m time id lent other : List ℕ) {r s : Answer} {x y : List ℕ} → Acknowledges m time id lent r x → r.kind ≡ None → Acknowledges m time id other s y
     → (r.length ≤ length other → s ≡ r) × (length other < r.length → s.kind ≡ AcknowledgementTooLong)
 unfolding answer filled roomy
-room-exactly m time id lent other (not_written n) zero b = absurd (n zero)
-room-exactly m time id lent other (written e found v) zero (not_written n) = absurd (n e)
-room-exactly m time id lent other (written e found v) zero (written f again u) =
+room_exactly m time id lent other (not_written n) zero b = absurd (n zero)
+room_exactly m time id lent other (written e found v) zero (not_written n) = absurd (n e)
+room_exactly m time id lent other (written e found v) zero (written f again u) =
     at (leb (length w) (length lent)) (leb (length w) message_limit) refl zero (ap (λ (z : FaultRecord). answer (roomy (length other) (answer_to m time id z))) (one_verdict m u v))
   where
     w : List ℕ
@@ -174,7 +174,7 @@ module _ (m time id lent : List ℕ) (small : AreBytes id) {r : Answer} {x : Lis
   w = take r.length x
 
   pub writes : Writes m time id lent r x
-  writes = zero-writes m time id lent a done
+  writes = zero_writes m time id lent a done
 
   abbrev h : List ℕ
   h = header m
@@ -187,20 +187,20 @@ module _ (m time id lent : List ℕ) (small : AreBytes id) {r : Answer} {x : Lis
   against = nothing_against m time id writes.nothing_against
 
   sound : Opened h × (find carriage_return h + 1 ≡ length h)
-  sound = (sound-header m against.2, header-ends m (return-inside m against.2))
+  sound = (sound_header m against.2, header_ends m (return_inside m against.2))
 
   -- the lines behind MSA, by the verdict
   abbrev es : List (List ℕ)
   es = error_lines m writes.found
 
   alike : delimiters_of h ≡ delimiters_of m
-  alike = same_delimiters m (return-inside m against.2) sound.0
+  alike = same_delimiters m (return_inside m against.2) sound.0
 
   behind : W.Behind (field_separator h) es
-  behind = E.lines-behind h sound.0 sound.1 m alike writes.verdict
+  behind = E.lines_behind h sound.0 sound.1 m alike writes.verdict
 
   of_message : (f : ℕ) → (f ≡ 1 → ⊥) → sent h f ≡ sent m f
-  of_message = sent-whole m (return-inside m against.2) sound.0
+  of_message = sent_whole m (return_inside m against.2) sound.0
 
   -- the sender has a control ID, of a length that is allowed
   pub identified_sender : (state_of (delimiters_of m) (sent m 10) ≡ Present) × (length (sent m 10) ≤ id_limit)
@@ -212,14 +212,14 @@ module _ (m time id lent : List ℕ) (small : AreBytes id) {r : Answer} {x : Lis
       let d = and_both (present h (sent h 10)) (leb (length (sent h 10)) id_limit) c.1 in
       let same_id = of_message 10 (λ e. omega arith) in (
         is_present_lem (state_of (delimiters_of m) (sent m 10))
-            (ap₂ (λ (ds l : List ℕ). is_present (state_of ds l)) (sym (same_delimiters m (return-inside m against.2) sound.0)) (sym same_id) ∙ d.0),
+            (ap₂ (λ (ds l : List ℕ). is_present (state_of ds l)) (sym (same_delimiters m (return_inside m against.2) sound.0)) (sym same_id) ∙ d.0),
         (let n = leb-true (length (sent h 10)) id_limit d.1 in let e = ap length same_id in omega arith),
       )
 
   -- the length that is told is that of what was written, and the buffer keeps its own length and what stands behind
   pub told : (length x ≡ length lent) × (r.length ≤ length lent) × (drop r.length x ≡ drop r.length lent)
   told =
-      let t = length-told m time id lent a done in
+      let t = length_told m time id lent a done in
       (t.0, t.1, writes.behind)
 
   -- "reads back through our reader"
@@ -227,8 +227,8 @@ module _ (m time id lent : List ℕ) (small : AreBytes id) {r : Answer} {x : Lis
   reads_back = ap reading writes.bytes ∙ W.reads_back h sound.0 sound.1 time id against.0 small code es behind writes.most
 
   -- "fits the ACK structure": the structure judge accepts it
-  pub fits-ack : Answers w (plain None 0)
-  fits-ack = subst (λ (b : List ℕ). Answers b (plain None 0)) (sym writes.bytes) (W.judged-written h sound.0 sound.1 time id against.0 small code es behind writes.most)
+  pub fits_ack : Answers w (plain None 0)
+  fits_ack = subst (λ (b : List ℕ). Answers b (plain None 0)) (sym writes.bytes) (W.judged_written h sound.0 sound.1 time id against.0 small code es behind writes.most)
 
   -- "carries the sender's own control ID": MSA-2, the whole field, is byte for byte the sender's MSH-10, the whole field
   pub carries_id : raw_bytes w (answer_address 2) ≡ raw_bytes m (field_address 10)
@@ -250,23 +250,23 @@ module _ (m time id lent : List ℕ) (small : AreBytes id) {r : Answer} {x : Lis
   pub own_delimiters : delimiters_of w ≡ delimiters_of m
   own_delimiters =
       ap delimiters_of writes.bytes ∙ W.same_delimiters h sound.0 sound.1 time id against.0 small code es behind
-      ∙ same_delimiters m (return-inside m against.2) sound.0
+      ∙ same_delimiters m (return_inside m against.2) sound.0
 
   -- its type is ACK's, and its first segments are MSH and MSA, in so many parts
   pub of_type : structure_for built_in w ≡ chosen ackListed
-  of_type = ap (structure_for built_in) writes.bytes ∙ W.structure-written h sound.0 sound.1 time id against.0 small code es behind
+  of_type = ap (structure_for built_in) writes.bytes ∙ W.structure_written h sound.0 sound.1 time id against.0 small code es behind
 
-  named-so : segment_names w ≡ name "MSH" ∷ name "MSA" ∷ map name_of es
-  named-so = ap segment_names writes.bytes ∙ W.names-written h sound.0 sound.1 time id against.0 small code es behind
+  named_so : segment_names w ≡ name "MSH" ∷ name "MSA" ∷ map name_of es
+  named_so = ap segment_names writes.bytes ∙ W.names_written h sound.0 sound.1 time id against.0 small code es behind
 
-  pub yields-ack : Judged ack (segment_names w) (plain None 0)
-  yields-ack =
+  pub yields_ack : Judged ack (segment_names w) (plain None 0)
+  yields_ack =
       subst (λ (b : List ℕ). Judged ack (segment_names b) (plain None 0)) (sym writes.bytes)
-      (W.fits-ack h sound.0 sound.1 time id against.0 small code es behind)
+      (W.fits_ack h sound.0 sound.1 time id against.0 small code es behind)
 
   pub counted : (length (split (field_separator w) (get_or (segments w) 0 [])) ≡ 12) × (length (split (field_separator w) (get_or (segments w) 1 [])) ≡ 3)
   counted =
-      let c = W.parts-counted h sound.0 sound.1 time id against.0 small code es behind in (
+      let c = W.parts_counted h sound.0 sound.1 time id against.0 small code es behind in (
         ap (λ (b : List ℕ). length (split (field_separator b) (get_or (segments b) 0 []))) writes.bytes ∙ c.0,
         ap (λ (b : List ℕ). length (split (field_separator b) (get_or (segments b) 1 []))) writes.bytes ∙ c.1,
       )
@@ -281,7 +281,7 @@ module _ (m time id lent : List ℕ) (small : AreBytes id) {r : Answer} {x : Lis
       let c = W.stamped h sound.0 sound.1 time id against.0 small code es behind in (
         written_field 7 time c.0,
         written_field 8 [] c.1,
-        written_field 9 (type_sent m) (c.2 ∙ type-sent m (return-inside m against.2) sound.0),
+        written_field 9 (type_sent m) (c.2 ∙ type_sent_lem m (return_inside m against.2) sound.0),
         written_field 11 (raw_bytes m (field_address 11)) (c.3 ∙ of_message 11 (λ e. omega arith)),
         written_field 12 (ascii "2.4") c.4,
       )
@@ -293,7 +293,7 @@ module _ (m time id lent : List ℕ) (small : AreBytes id) {r : Answer} {x : Lis
 
   pub without_event : (state_of (delimiters_of m) (type_part m 2) ≡ Present → ⊥) → raw_bytes w (field_address 9) ≡ ascii "ACK"
   unfolding type_sent
-  without_event none = stamped.2 ∙ ap (λ (t : Bool). ascii "ACK" ++ cond t (get_or (delimiters_of m) 1 0 ∷ type_part m 2) []) (not-present (state_of (delimiters_of m) (type_part m 2)) none)
+  without_event none = stamped.2 ∙ ap (λ (t : Bool). ascii "ACK" ++ cond t (get_or (delimiters_of m) 1 0 ∷ type_part m 2) []) (not_present (state_of (delimiters_of m) (type_part m 2)) none)
 
   -- its MSH-10 is the caller's ID, escaped
   pub own_id : raw_bytes w (field_address 10) ≡ escape (delimiters_of m) id
@@ -312,33 +312,33 @@ module _ (m time id lent : List ℕ) (small : AreBytes id) {r : Answer} {x : Lis
       ∙ rw (le-leb (length id) room l)
 
   -- MSA-1 is the code
-  code-told : raw_bytes w (answer_address 1) ≡ letters_of code
-  code-told = ap (λ (b : List ℕ). raw_bytes b (answer_address 1)) writes.bytes ∙ W.carries_code h sound.0 sound.1 time id against.0 small code es behind
+  code_told : raw_bytes w (answer_address 1) ≡ letters_of code
+  code_told = ap (λ (b : List ℕ). raw_bytes b (answer_address 1)) writes.bytes ∙ W.carries_code h sound.0 sound.1 time id against.0 small code es behind
 
   -- "Code AA exactly when reading, structure and fields all accept"
   pub accepts_exactly : (raw_bytes w (answer_address 1) ≡ ascii "AA") ↔ Accepts m
   accepts_exactly =
       let v = verdict-accepts m writes.verdict in
       let l = letters_accept writes.found in
-      (λ q. v.0 (l.0 (sym code-told ∙ q)), λ q. code-told ∙ l.1 (v.1 q))
+      (λ q. v.0 (l.0 (sym code_told ∙ q)), λ q. code_told ∙ l.1 (v.1 q))
 
   -- the record that the letters go by is the first fault, and there is no second
-  own-fault : Rejected m → Rejects writes.found
-  own-fault j = subst Rejects (one_verdict m j.first writes.verdict) j.rejects
+  own_fault : Rejected m → Rejects writes.found
+  own_fault j = subst Rejects (one_verdict m j.first writes.verdict) j.rejects
 
   -- "an unsupported type (20), or MSH-11 or MSH-12 outside its list (33), is AR"
-  pub rejects-exactly : (raw_bytes w (answer_address 1) ≡ ascii "AR") ↔ Rejected m
-  rejects-exactly =
+  pub rejects_exactly : (raw_bytes w (answer_address 1) ≡ ascii "AR") ↔ Rejected m
+  rejects_exactly =
       let l = letters_reject writes.found in
-      (λ q. record { fault = writes.found; first = writes.verdict; rejects = l.0 (sym code-told ∙ q) }, λ j. code-told ∙ l.1 (own-fault j))
+      (λ q. record { fault = writes.found; first = writes.verdict; rejects = l.0 (sym code_told ∙ q) }, λ j. code_told ∙ l.1 (own_fault j))
 
   -- "the rest stays AE"
   pub errors_exactly : (raw_bytes w (answer_address 1) ≡ ascii "AE") ↔ ((Accepts m → ⊥) × (Rejected m → ⊥))
   errors_exactly =
       let v = verdict-accepts m writes.verdict in
       let l = letters_error writes.found in (
-        λ q. let n = l.0 (sym code-told ∙ q) in (λ a. n.0 (v.1 a), λ j. n.1 (own-fault j)),
-        λ n. code-told ∙ l.1 (λ e. n.0 (v.0 e), λ j. n.1 (record { fault = writes.found; first = writes.verdict; rejects = j })),
+        λ q. let n = l.0 (sym code_told ∙ q) in (λ a. n.0 (v.1 a), λ j. n.1 (own_fault j)),
+        λ n. code_told ∙ l.1 (λ e. n.0 (v.0 e), λ j. n.1 (record { fault = writes.found; first = writes.verdict; rejects = j })),
       )
 
   -- ---- ERR
@@ -346,36 +346,36 @@ module _ (m time id lent : List ℕ) (small : AreBytes id) {r : Answer} {x : Lis
   -- "an ERR segment after MSA when we answer AE or AR": where the letters are AA there is none
   pub two_segments : raw_bytes w (answer_address 1) ≡ ascii "AA" → segment_names w ≡ name "MSH" ∷ name "MSA" ∷ []
   two_segments aa =
-      let none = (letters_accept writes.found).0 (sym code-told ∙ aa) in
-      named-so ∙ ap (λ (l : List (List ℕ)). name "MSH" ∷ name "MSA" ∷ map name_of l) (E.lines_none m writes.found none)
+      let none = (letters_accept writes.found).0 (sym code_told ∙ aa) in
+      named_so ∙ ap (λ (l : List (List ℕ)). name "MSH" ∷ name "MSA" ∷ map name_of l) (E.lines_none m writes.found none)
 
   module _ (other : raw_bytes w (answer_address 1) ≡ ascii "AA" → ⊥) where
     -- the record tells a fault
     faulted : number_of writes.found.kind ≡ 0 → ⊥
-    faulted e = other (code-told ∙ (letters_accept writes.found).1 (number-none writes.found.kind e))
+    faulted e = other (code_told ∙ (letters_accept writes.found).1 (number_none writes.found.kind e))
 
     -- one line stands behind MSA
     one_line : es ≡ error_line m writes.found ∷ []
     one_line = E.lines_one m writes.found faulted
 
-    pub three-segments : segment_names w ≡ name "MSH" ∷ name "MSA" ∷ name "ERR" ∷ []
-    three-segments =
-        named-so ∙ ap (λ (l : List (List ℕ)). name "MSH" ∷ name "MSA" ∷ map name_of l) one_line
-        ∙ ap (λ (n : ℕ). name "MSH" ∷ name "MSA" ∷ n ∷ []) (E.line-name h sound.0 sound.1 m alike writes.verdict)
+    pub three_segments : segment_names w ≡ name "MSH" ∷ name "MSA" ∷ name "ERR" ∷ []
+    three_segments =
+        named_so ∙ ap (λ (l : List (List ℕ)). name "MSH" ∷ name "MSA" ∷ map name_of l) one_line
+        ∙ ap (λ (n : ℕ). name "MSH" ∷ name "MSA" ∷ n ∷ []) (E.line_name h sound.0 sound.1 m alike writes.verdict)
 
     -- ERR-1, whole
     field_told : raw_bytes w (error_address 0 0) ≡ E.told h sound.0 sound.1 m alike writes.verdict
     field_told =
         ap (λ (b : List ℕ). raw_bytes b (error_address 0 0)) writes.bytes ∙ W.error_field h sound.0 sound.1 time id against.0 small code es behind
         ∙ ap (λ (l : List (List ℕ)). get_or (split (field_separator h) (get_or l 0 [])) 1 []) one_line
-        ∙ ap (λ (ps : List (List ℕ)). get_or ps 1 []) (E.line-parts h sound.0 sound.1 m alike writes.verdict)
+        ∙ ap (λ (ps : List (List ℕ)). get_or ps 1 []) (E.line_parts h sound.0 sound.1 m alike writes.verdict)
 
     -- component c of ERR-1 is the part of that number
-    component-told : (c : ℕ) → 1 ≤ c → raw_bytes w (error_address 1 c) ≡ get_or (error_parts m writes.found) (c - 1) []
-    component-told c l =
+    component_told : (c : ℕ) → 1 ≤ c → raw_bytes w (error_address 1 c) ≡ get_or (error_parts m writes.found) (c - 1) []
+    component_told c l =
         ap (λ (b : List ℕ). raw_bytes b (error_address 1 c)) writes.bytes ∙ W.error_component h sound.0 sound.1 time id against.0 small code es behind c l
         ∙ ap (λ (ls : List (List ℕ)). get_or (split (get_or (delimiters_of h) 1 0) (get_or (split (get_or (delimiters_of h) 2 0) (get_or (split (field_separator h) (get_or ls 0 [])) 1 [])) 0 [])) (c - 1) []) one_line
-        ∙ E.told-component h sound.0 sound.1 m alike writes.verdict c
+        ∙ E.told_component h sound.0 sound.1 m alike writes.verdict c
 
     -- one field, of one repetition and four components, of which the last has one subcomponent
     pub error_counted : (length (split (field_separator w) (get_or (segments w) 2 [])) ≡ 2)
@@ -386,20 +386,20 @@ module _ (m time id lent : List ℕ) (small : AreBytes id) {r : Answer} {x : Lis
         let d = own_delimiters ∙ sym alike in
         let third =
         ap (λ (b : List ℕ). get_or (segments b) 2 []) writes.bytes
-        ∙ ap (λ (ss : List (List ℕ)). get_or ss 2 []) (W.segments-written h sound.0 sound.1 time id against.0 small code es behind) ∙ ap (λ (ls : List (List ℕ)). get_or ls 0 []) one_line in (
-          ap₂ (λ (x l : List ℕ). length (split (get_or x 0 0) l)) d third ∙ ap length (E.line-parts h sound.0 sound.1 m alike writes.verdict),
-          ap₂ (λ (x l : List ℕ). length (split (get_or x 2 0) l)) d field_told ∙ ap length (E.told-once h sound.0 sound.1 m alike writes.verdict),
-          ap₂ (λ (x l : List ℕ). length (split (get_or x 1 0) l)) d field_told ∙ ap length (E.told-parts h sound.0 sound.1 m alike writes.verdict) ∙ E.four m writes.found,
-          ap₂ (λ (x l : List ℕ). length (split (get_or x 4 0) l)) d (component-told 4 (omega arith)) ∙ ap length (E.part_alone h sound.0 sound.1 m alike writes.verdict 3),
+        ∙ ap (λ (ss : List (List ℕ)). get_or ss 2 []) (W.segments_written h sound.0 sound.1 time id against.0 small code es behind) ∙ ap (λ (ls : List (List ℕ)). get_or ls 0 []) one_line in (
+          ap₂ (λ (x l : List ℕ). length (split (get_or x 0 0) l)) d third ∙ ap length (E.line_parts h sound.0 sound.1 m alike writes.verdict),
+          ap₂ (λ (x l : List ℕ). length (split (get_or x 2 0) l)) d field_told ∙ ap length (E.told_once h sound.0 sound.1 m alike writes.verdict),
+          ap₂ (λ (x l : List ℕ). length (split (get_or x 1 0) l)) d field_told ∙ ap length (E.told_parts h sound.0 sound.1 m alike writes.verdict) ∙ E.four m writes.found,
+          ap₂ (λ (x l : List ℕ). length (split (get_or x 4 0) l)) d (component_told 4 (omega arith)) ∙ ap length (E.part_alone h sound.0 sound.1 m alike writes.verdict 3),
         )
 
     -- what the parts tell of the message, by its verdict
     pub tells : TellsPlace m writes.found (raw_bytes w (error_address 1 1)) (raw_bytes w (error_address 1 2)) (raw_bytes w (error_address 1 3)) × TellsCode writes.found (raw_bytes w (error_address 1 4))
     tells =
         let found = writes.found in
-        let at : (c : ℕ) → 1 ≤ c → get_or (error_parts m found) (c - 1) [] ≡ raw_bytes w (error_address 1 c) = λ c l. sym (component-told c l) in (
-          told_as (λ (x y z : List ℕ). TellsPlace m found x y z) (at 1 (omega arith)) (at 2 (omega arith)) (at 3 (omega arith)) (place-tells m writes.verdict faulted),
-          subst (TellsCode found) (at 4 (omega arith)) (code-tells m writes.verdict faulted),
+        let at : (c : ℕ) → 1 ≤ c → get_or (error_parts m found) (c - 1) [] ≡ raw_bytes w (error_address 1 c) = λ c l. sym (component_told c l) in (
+          told_as (λ (x y z : List ℕ). TellsPlace m found x y z) (at 1 (omega arith)) (at 2 (omega arith)) (at 3 (omega arith)) (place_tells m writes.verdict faulted),
+          subst (TellsCode found) (at 4 (omega arith)) (code_tells m writes.verdict faulted),
         )
 
 -- ---- 9 for an accepted message
@@ -411,56 +411,56 @@ module _ (m : List ℕ) (accepts : Accepts m) where
   o : Opened m
   o = message.opened
 
-  return-there : find carriage_return m < length m
-  return-there = (begins m message).2
+  return_there : find carriage_return m < length m
+  return_there = (begins m message).2
 
   late : 8 ≤ find carriage_return m
   late = (begins m message).1
 
   size : length (header m) ≡ find carriage_return m + 1
-  size = length-take-le (find carriage_return m + 1) m (omega (arith, return-there))
+  size = length-take-le (find carriage_return m + 1) m (omega (arith, return_there))
 
-  own-byte : (i : ℕ) → i < length (header m) → get_or (header m) i 0 ≡ get_or m i 0
-  own-byte i l = let n = size in get_or-take (find carriage_return m + 1) m i 0 (omega arith)
+  own_byte : (i : ℕ) → i < length (header m) → get_or (header m) i 0 ≡ get_or m i 0
+  own_byte i l = let n = size in get_or-take (find carriage_return m + 1) m i 0 (omega arith)
 
   near : (i : ℕ) → i < 9 → get_or (header m) i 0 ≡ get_or m i 0
-  near i l = let n = size in let q = late in own-byte i (omega arith)
+  near i l = let n = size in let q = late in own_byte i (omega arith)
 
   -- its header is sound by itself
-  header-sound : Opened (header m)
-  header-sound =
+  header_sound : Opened (header m)
+  header_sound =
       let n = size in
       let q = late in
-      let t = return-there in
+      let t = return_there in
       let most = o.most_bytes in
       record {
         some_bytes = omega arith;
         most_bytes = omega arith;
-        nine-bytes = omega arith;
+        nine_bytes = omega arith;
         header = (λ i. eqb (near 0 (omega arith) i) 77 && (eqb (near 1 (omega arith) i) 83 && eqb (near 2 (omega arith) i) 72)) ∙ o.header;
-        byte-eight = (λ i. eqb (near 8 (omega arith) i) (near 3 (omega arith) i) || eqb (near 8 (omega arith) i) carriage_return) ∙ o.byte-eight;
+        byte_eight = (λ i. eqb (near 8 (omega arith) i) (near 3 (omega arith) i) || eqb (near 8 (omega arith) i) carriage_return) ∙ o.byte_eight;
         delimiters_right =
             (λ i. first_wrong_delimiter (near 3 (omega arith) i ∷ near 4 (omega arith) i ∷ near 5 (omega arith) i ∷ near 6 (omega arith) i ∷ near 7 (omega arith) i ∷ [])) ∙ o.delimiters_right;
-        all-allowed = λ i l. ap allowed (own-byte i l) ∙ o.all-allowed i (omega arith);
+        all_allowed = λ i l. ap allowed (own_byte i l) ∙ o.all_allowed i (omega arith);
       }
 
   identified : (state_of (delimiters_of m) (sent m 10) ≡ Present) × (length (sent m 10) ≤ id_limit)
-  identified = at (segments m) refl message.some-segments
+  identified = at (segments m) refl message.some_segments
     where
       at : (ss : List (List ℕ)) → segments m ≡ ss → 1 ≤ length (segments m) → (state_of (delimiters_of m) (sent m 10) ≡ Present) × (length (sent m 10) ≤ id_limit)
       at [] e l = absurd (let n = ap length e in omega arith)
-      at (s ∷ rest) e l = control_id m s rest e (none-sound m rows accepts.sound) (let n = o.nine-bytes in omega arith)
+      at (s ∷ rest) e l = control_id m s rest e (none_sound m rows accepts.sound) (let n = o.nine_bytes in omega arith)
 
   -- it can be acknowledged, if it is no acknowledgement itself
   acknowledged : same (type_part m 1) (ascii "ACK") ≡ false → acknowledgeable m ≡ true
   unfolding acknowledgeable
   acknowledged unlike =
-      let ds = same_delimiters m return-there header-sound in
-      let id = sent-whole m return-there header-sound 10 (λ e. omega arith) in
+      let ds = same_delimiters m return_there header_sound in
+      let id = sent_whole m return_there header_sound 10 (λ e. omega arith) in
       rw (
-        lt-ltb (find carriage_return m) (length m) return-there,
-        opening_if (header m) header-sound,
-        type-whole m return-there header-sound 1 (omega arith),
+        lt-ltb (find carriage_return m) (length m) return_there,
+        opening_if (header m) header_sound,
+        type_whole m return_there header_sound 1 (omega arith),
         unlike,
         ds,
         id,
@@ -473,4 +473,4 @@ nine_for_type m time id lent a nine accepts = at (same (type_part m 1) (ascii "A
   where
     at : (t : Bool) → same (type_part m 1) (ascii "ACK") ≡ t → type_part m 1 ≡ ascii "ACK"
     at true e = same_is (type_part m 1) (ascii "ACK") e
-    at false e = absurd (false-true (sym (nine_unacknowledgeable m time id lent a nine) ∙ acknowledged m accepts e))
+    at false e = absurd (false_true (sym (nine_unacknowledgeable m time id lent a nine) ∙ acknowledged m accepts e))

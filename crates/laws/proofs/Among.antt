@@ -18,8 +18,8 @@ abbrev pub has : List ℕ → ℕ → Bool
 has [] n = false
 has (k ∷ ks) n = eqb n k || has ks n
 
-first-or : (k : ℕ) (ks : List ℕ) (n : ℕ) → (eqb n k ≡ false → In n ks) → In n (k ∷ ks)
-first-or k ks n later = at (eqb n k) refl
+first_or : (k : ℕ) (ks : List ℕ) (n : ℕ) → (eqb n k ≡ false → In n ks) → In n (k ∷ ks)
+first_or k ks n later = at (eqb n k) refl
   where
     at : (t : Bool) → eqb n k ≡ t → In n (k ∷ ks)
     at true e = subst (λ (x : ℕ). In n (x ∷ ks)) (eqb-true n k e) here
@@ -27,7 +27,7 @@ first-or k ks n later = at (eqb n k) refl
 
 pub among : (l : List ℕ) (n : ℕ) → has l n ≡ true → In n l
 among [] n e = absurd (let z : ◌≡◌ {A = ℕ} 0 1 = cc in omega arith)
-among (k ∷ ks) n e = first-or k ks n (λ q. among ks n (at (eqb n k) q e))
+among (k ∷ ks) n e = first_or k ks n (λ q. among ks n (at (eqb n k) q e))
   where
     at : (t : Bool) → t ≡ false → (t || has ks n) ≡ true → has ks n ≡ true
     at false q e = e
@@ -43,10 +43,10 @@ abbrev pub from : ℕ → ℕ → List ℕ
 from k zero = []
 from k (suc count) = k ∷ from (k + 1) count
 
-pub in-range : (k count n : ℕ) → k ≤ n → n < k + count → In n (from k count)
-in-range k zero n h l = absurd (omega arith)
-in-range k (suc count) n h l =
-    first-or k (from (k + 1) count) n (λ e. let d = eqb-false n k e in in-range (k + 1) count n (less k n h d) (omega arith))
+pub in_range_lem : (k count n : ℕ) → k ≤ n → n < k + count → In n (from k count)
+in_range_lem k zero n h l = absurd (omega arith)
+in_range_lem k (suc count) n h l =
+    first_or k (from (k + 1) count) n (λ e. let d = eqb-false n k e in in_range_lem (k + 1) count n (less k n h d) (omega arith))
   where
     less : (k n : ℕ) → k ≤ n → (n ≡ k → ⊥) → k + 1 ≤ n
     less k n h d = omega arith
@@ -57,9 +57,9 @@ in-range k (suc count) n h l =
 abbrev pub Given : List ℕ → Check → Type 0
 Given l c = In (number_of (answered c).kind) l
 
-pub given-or : (l : List ℕ) (c d : Check) → Given l c → Given l d → Given l (or_else c d)
-given-or l Passes d p q = q
-given-or l (Fails kind place) d p q = p
+pub given_or : (l : List ℕ) (c d : Check) → Given l c → Given l d → Given l (or_else c d)
+given_or l Passes d p q = q
+given_or l (Fails kind place) d p q = p
 
 pub given_if : (l : List ℕ) (t : Bool) (kind : Refusal) (place : ℕ) → In 0 l → In (number_of kind) l → Given l (fails_if t kind place)
 given_if l true kind place z n = n

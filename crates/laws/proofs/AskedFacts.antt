@@ -12,19 +12,19 @@ use Rattle.value.specs.Asked.{number_from, time_from}
 use Rattle.element.specs.States.{is_present}
 use Rattle.value.specs.declared.asked.NumberFound.{NumberFound}
 use Rattle.value.specs.declared.asked.TimeFound.{TimeFound}
-use Rattle.laws.proofs.PresentLaws.{not-present}
-use Rattle.value.proofs.AskedLaws.{number-present, number-other, time_present, time_other}
+use Rattle.laws.proofs.PresentLaws.{not_present}
+use Rattle.value.proofs.AskedLaws.{number_present, number_other, time_present, time_other}
 
 module _ (f : Found) where
-  pub number-said : (r : ReadNumber) → f.element.state ≡ Present
+  pub number_said_lem : (r : ReadNumber) → f.element.state ≡ Present
       → number_from f r ≡ record { answer = record { kind = r.kind; place = 0; length = 0 }; state = Present; value = r.value; decimals = r.decimals }
-  number-said r e =
-      sym (number-present f r r.value (ap (λ (s : State). is_present s) e) refl)
+  number_said_lem r e =
+      sym (number_present f r r.value (ap (λ (s : State). is_present s) e) refl)
       ∙ ap (λ (s : State). record { answer = record { kind = r.kind; place = 0; length = 0 }; state = s; value = r.value; decimals = r.decimals }) e
 
   pub number_alone : (r : ReadNumber) → (f.element.state ≡ Present → ⊥)
       → number_from f r ≡ record { answer = f.answer; state = f.element.state; value = pos 0; decimals = 0 }
-  number_alone r n = sym (number-other f r (not-present f.element.state n))
+  number_alone r n = sym (number_other f r (not_present f.element.state n))
 
   pub time_said_lem : (r : ReadTime) → f.element.state ≡ Present → time_from f r ≡ record { answer = record { kind = r.kind; place = 0; length = 0 }; state = Present; time = r.time }
   time_said_lem r e =
@@ -32,15 +32,15 @@ module _ (f : Found) where
       ∙ ap (λ (s : State). record { answer = record { kind = r.kind; place = 0; length = 0 }; state = s; time = r.time }) e
 
   pub time_alone : (r : ReadTime) → (f.element.state ≡ Present → ⊥) → time_from f r ≡ record { answer = f.answer; state = f.element.state; time = no_time }
-  time_alone r n = sym (time_other f r no_time (not-present f.element.state n) refl)
+  time_alone r n = sym (time_other f r no_time (not_present f.element.state n) refl)
 
   -- the state is the element's own
-  pub number-state : (r : ReadNumber) → (number_from f r).state ≡ f.element.state
-  number-state r = at (is_present f.element.state) refl
+  pub number_state : (r : ReadNumber) → (number_from f r).state ≡ f.element.state
+  number_state r = at (is_present f.element.state) refl
     where
       at : (t : Bool) → is_present f.element.state ≡ t → (number_from f r).state ≡ f.element.state
-      at true e = ap (λ (x : NumberFound). x.state) (sym (number-present f r r.value e refl))
-      at false e = ap (λ (x : NumberFound). x.state) (sym (number-other f r e))
+      at true e = ap (λ (x : NumberFound). x.state) (sym (number_present f r r.value e refl))
+      at false e = ap (λ (x : NumberFound). x.state) (sym (number_other f r e))
 
   pub time_state : (r : ReadTime) → (time_from f r).state ≡ f.element.state
   time_state r = at (is_present f.element.state) refl

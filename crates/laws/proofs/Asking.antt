@@ -15,48 +15,48 @@ use Rattle.alphabet.specs.declared.answers.Check.TheVariants.{Passes, Fails}
 use Rattle.alphabet.specs.declared.answers.Refusal.TheVariants.{None, Address as BadAddress}
 use Rattle.alphabet.specs.declared.parts.Part.{Part}
 use Rattle.alphabet.specs.declared.parts.Part.TheVariants.{At, Absent}
-use Rattle.alphabet.proofs.BoolLaws.{false-true, and_both}
+use Rattle.alphabet.proofs.BoolLaws.{false_true, and_both}
 use Rattle.alphabet.proofs.CheckLaws.{Numbered}
-use Rattle.alphabet.proofs.PartLaws.{standing-absent}
+use Rattle.alphabet.proofs.PartLaws.{standing_absent}
 use Rattle.reading.specs.Reading.{reading}
 use Rattle.reading.specs.Segments.{segments, segment_at}
-use Rattle.reading.proofs.Honest.{reading-numbered}
-use Rattle.reading.proofs.SegmentLaws.{segment-bytes, segment_past}
+use Rattle.reading.proofs.Honest.{reading_numbered}
+use Rattle.reading.proofs.SegmentLaws.{segment_bytes, segment_past}
 use Rattle.element.specs.Addresses.{well_formed}
 use Rattle.element.specs.Finding.{is_absent, lookup_check, found}
 use Rattle.element.specs.declared.address.Address.{Address}
-use Rattle.laws.specs.Elements.{address, Asks, whole_field, whole-repetition, whole-component, subcomponent}
+use Rattle.laws.specs.Elements.{address, Asks, whole_field, whole_repetition, whole_component, subcomponent}
 
 -- ---- addresses
 
 -- after a 0 a 0
-after-zero : (k n : ℕ) → (leb 1 k || eqb n 0) ≡ true → k ≡ 0 → n ≡ 0
-after-zero k n e z = eqb-true n 0 (subst (λ (x : ℕ). (leb 1 x || eqb n 0) ≡ true) z e)
+after_zero : (k n : ℕ) → (leb 1 k || eqb n 0) ≡ true → k ≡ 0 → n ≡ 0
+after_zero k n e z = eqb-true n 0 (subst (λ (x : ℕ). (leb 1 x || eqb n 0) ≡ true) z e)
 
 well_formed_asks : (a : Address) → well_formed a ≡ true → Asks a
 well_formed_asks a e =
     let x = and_both (leb 1 a.field) _ e in
     let y = and_both (leb 1 a.repetition || eqb a.component 0) (leb 1 a.component || eqb a.subcomponent 0) x.1 in
     at a.repetition a.component a.subcomponent (leb-true 1 a.field x.0)
-    (after-zero a.repetition a.component y.0) (after-zero a.component a.subcomponent y.1)
+    (after_zero a.repetition a.component y.0) (after_zero a.component a.subcomponent y.1)
   where
     at : (r c u : ℕ) → 1 ≤ a.field → (r ≡ 0 → c ≡ 0) → (c ≡ 0 → u ≡ 0) → Asks (address a.segment a.field r c u)
     at zero zero zero h p q = whole_field a.segment a.field h
     at zero zero (suc u) h p q = absurd (let z = q refl in omega arith)
     at zero (suc c) u h p q = absurd (let z = p refl in omega arith)
-    at (suc r) zero zero h p q = whole-repetition a.segment a.field (suc r) h (omega arith)
+    at (suc r) zero zero h p q = whole_repetition a.segment a.field (suc r) h (omega arith)
     at (suc r) zero (suc u) h p q = absurd (let z = q refl in omega arith)
-    at (suc r) (suc c) zero h p q = whole-component a.segment a.field (suc r) (suc c) h (omega arith) (omega arith)
+    at (suc r) (suc c) zero h p q = whole_component a.segment a.field (suc r) (suc c) h (omega arith) (omega arith)
     at (suc r) (suc c) (suc u) h p q = subcomponent a.segment a.field (suc r) (suc c) (suc u) h (omega arith) (omega arith) (omega arith)
 
 asks_well_formed : {a : Address} → Asks a → well_formed a ≡ true
 asks_well_formed (whole_field s f h) = rw (le-leb 1 f h)
-asks_well_formed (whole-repetition s f r h k) = rw (le-leb 1 f h, le-leb 1 r k)
-asks_well_formed (whole-component s f r c h k l) = rw (le-leb 1 f h, le-leb 1 r k, le-leb 1 c l)
+asks_well_formed (whole_repetition s f r h k) = rw (le-leb 1 f h, le-leb 1 r k)
+asks_well_formed (whole_component s f r c h k l) = rw (le-leb 1 f h, le-leb 1 r k, le-leb 1 c l)
 asks_well_formed (subcomponent s f r c u h k l n) = rw (le-leb 1 f h, le-leb 1 r k, le-leb 1 c l)
 
-pub asks-exactly : (a : Address) → (well_formed a ≡ true) ↔ Asks a
-asks-exactly a = (well_formed_asks a, asks_well_formed)
+pub asks_exactly : (a : Address) → (well_formed a ≡ true) ↔ Asks a
+asks_exactly a = (well_formed_asks a, asks_well_formed)
 
 -- ---- lookups
 
@@ -73,45 +73,45 @@ module _ (m : List ℕ) (a : Address) where
   unfolding found
   given e f g = ap (λ (x : Check). (answered x).kind) (lookup_checks m a) ∙ rw (e, f, g)
 
-  no-segment : length (segments m) ≤ a.segment → segment_at m a.segment ≡ Absent
+  no_segment : length (segments m) ≤ a.segment → segment_at m a.segment ≡ Absent
   unfolding segment_at
-  no-segment h = standing-absent 0 (segments m) a.segment h
+  no_segment h = standing_absent 0 (segments m) a.segment h
 
   abbrev Nothing : Type 0
   Nothing = (Asks a → ⊥) ⊎ (length (segments m) ≤ a.segment)
 
   -- 19, "bad address, or no such segment"
-  pub refused-exactly : (number_of (found m a).answer.kind ≡ 19) ↔ ((reading m ≡ Passes) × ((Asks a → ⊥) ⊎ (length (segments m) ≤ a.segment)))
-  refused-exactly = (at (reading m) refl (well_formed a) refl (segment_at m a.segment) refl, λ h. back h.0 h.1 (well_formed a) refl)
+  pub refused_exactly : (number_of (found m a).answer.kind ≡ 19) ↔ ((reading m ≡ Passes) × ((Asks a → ⊥) ⊎ (length (segments m) ≤ a.segment)))
+  refused_exactly = (at (reading m) refl (well_formed a) refl (segment_at m a.segment) refl, λ h. back h.0 h.1 (well_formed a) refl)
     where
       at : (c : Check) → reading m ≡ c → (w : Bool) → well_formed a ≡ w → (p : Part) → segment_at m a.segment ≡ p → number_of (found m a).answer.kind ≡ 19 → (reading m ≡ Passes) × Nothing
       at (Fails kind place) e w f p g q =
-          let n = subst (Numbered 1 8) e (reading-numbered m) in
+          let n = subst (Numbered 1 8) e (reading_numbered m) in
           let l = n.1 in
           let z = ap number_of (sym (given e f g)) ∙ q in
           absurd (omega arith)
-      at Passes e false f p g q = (e, inl (λ asks. false-true (sym f ∙ asks_well_formed asks)))
+      at Passes e false f p g q = (e, inl (λ asks. false_true (sym f ∙ asks_well_formed asks)))
       at Passes e true f Absent g q = (e, inr (segment_past m a.segment g))
       at Passes e true f (At s t) g q = absurd (let z = ap number_of (sym (given e f g)) ∙ q in omega arith)
 
       back : reading m ≡ Passes → Nothing → (w : Bool) → well_formed a ≡ w → number_of (found m a).answer.kind ≡ 19
       back e h false f = ap number_of (given e f refl)
-      back e h true f = ⊎_elim (λ n. absurd (n (well_formed_asks a f))) (λ l. ap number_of (given e f (no-segment l))) h
+      back e h true f = ⊎_elim (λ n. absurd (n (well_formed_asks a f))) (λ l. ap number_of (given e f (no_segment l))) h
 
   -- nothing is refused where the message was read, the address asks for something and the segment is there
-  pub answered-exactly : ((found m a).answer.kind ≡ None) ↔ ((reading m ≡ Passes) × Asks a × (a.segment < length (segments m)))
-  answered-exactly = (at (reading m) refl (well_formed a) refl (segment_at m a.segment) refl, λ h. back h (segment_at m a.segment) refl)
+  pub answered_exactly : ((found m a).answer.kind ≡ None) ↔ ((reading m ≡ Passes) × Asks a × (a.segment < length (segments m)))
+  answered_exactly = (at (reading m) refl (well_formed a) refl (segment_at m a.segment) refl, λ h. back h (segment_at m a.segment) refl)
     where
       at : (c : Check) → reading m ≡ c → (w : Bool) → well_formed a ≡ w → (p : Part) → segment_at m a.segment ≡ p → (found m a).answer.kind ≡ None
           → (reading m ≡ Passes) × Asks a × (a.segment < length (segments m))
       at (Fails kind place) e w f p g q =
-          let n = subst (Numbered 1 8) e (reading-numbered m) in
+          let n = subst (Numbered 1 8) e (reading_numbered m) in
           let l = n.0 in
           let z = ap number_of (sym (given e f g) ∙ q) in
           absurd (omega arith)
       at Passes e false f p g q = absurd (let z = ap number_of (sym (given e f g) ∙ q) in omega arith)
       at Passes e true f Absent g q = absurd (let z = ap number_of (sym (given e f g) ∙ q) in omega arith)
-      at Passes e true f (At s t) g q = (e, well_formed_asks a f, (segment-bytes m a.segment s t g).0)
+      at Passes e true f (At s t) g q = (e, well_formed_asks a f, (segment_bytes m a.segment s t g).0)
 
       back : (reading m ≡ Passes) × Asks a × (a.segment < length (segments m)) → (p : Part) → segment_at m a.segment ≡ p → (found m a).answer.kind ≡ None
       back h Absent g = absurd (let l = segment_past m a.segment g in let k = h.2 in omega arith)
@@ -119,7 +119,7 @@ module _ (m : List ℕ) (a : Address) where
 
   -- such a lookup passes all its checks
   pub lookup_passes : (found m a).answer.kind ≡ None → lookup_check m a ≡ Passes
-  lookup_passes done = at (answered-exactly.0 done) (segment_at m a.segment) refl
+  lookup_passes done = at (answered_exactly.0 done) (segment_at m a.segment) refl
     where
       at : (reading m ≡ Passes) × Asks a × (a.segment < length (segments m)) → (p : Part) → segment_at m a.segment ≡ p → lookup_check m a ≡ Passes
       at h Absent g = absurd (let l = segment_past m a.segment g in let k = h.2 in omega arith)

@@ -11,7 +11,7 @@ use Rattle.alphabet.specs.declared.answers.Check.TheVariants.{Passes, Fails}
 use Rattle.alphabet.specs.declared.answers.Refusal.{Refusal}
 use Rattle.alphabet.specs.declared.answers.Refusal.TheVariants.{NoStructure}
 use Rattle.alphabet.proofs.BoolLaws.{and_both}
-use Rattle.alphabet.proofs.ListLaws.{same_is, same-own}
+use Rattle.alphabet.proofs.ListLaws.{same_is, same_own}
 use Rattle.reading.specs.Reading.{reading}
 use Rattle.element.specs.Finding.{found, nowhere, lookup_check, raw_bytes}
 use Rattle.element.specs.declared.address.Address.{Address}
@@ -20,7 +20,7 @@ use Rattle.laws.specs.Types.{ListedAs, oru, acknowledged, merged, admitted, tran
 use Rattle.element.specs.Addresses.{type_address}
 use Rattle.structure.specs.Structures.{ListedStructure, Choice, chosen, unlisted, meets, choose, structure_for, Lists, built_in, observation_report, acknowledgement, merge, admission, transfer, cancel}
 use Rattle.fault.specs.Faults.{plain}
-use Rattle.structure.specs.Judged.{AnswersBy, unread, read, no-structure, by}
+use Rattle.structure.specs.Judged.{AnswersBy, unread, read, no_structure, by}
 use Rattle.fault.specs.declared.FaultRecord.{FaultRecord}
 
 -- ---- the type chooses the structure that is listed for it, and no other
@@ -35,7 +35,7 @@ module _ (type event : List ℕ) where
   unfolding choose built_in
   chosen_as x =
       row observation_report _ (λ m. let b = and_both _ _ m in told (ascii "ORU") (ascii "R01") b.0 b.1 oru)
-      (row acknowledgement _ (λ m. let b = and_both _ _ m in told (ascii "ACK") event b.0 (same-own event) (acknowledged event))
+      (row acknowledgement _ (λ m. let b = and_both _ _ m in told (ascii "ACK") event b.0 (same_own event) (acknowledged event))
       (row merge _ (λ m. let b = and_both _ _ m in told (ascii "ADT") (ascii "A40") b.0 b.1 merged)
       (row admission _ (λ m. let b = and_both _ _ m in told (ascii "ADT") (ascii "A01") b.0 b.1 admitted)
       (row transfer _ (λ m. let b = and_both _ _ m in told (ascii "ADT") (ascii "A02") b.0 b.1 transferred)
@@ -59,19 +59,19 @@ is_chosen admitted = (admission, refl, refl)
 is_chosen transferred = (transfer, refl, refl)
 is_chosen cancelled = (cancel, refl, refl)
 
-pub listed-exactly : (m : List ℕ) (s : Shape) → Lists built_in m s ↔ ListedAs (raw_bytes m (type_address 1)) (raw_bytes m (type_address 2)) s
+pub listed_exactly : (m : List ℕ) (s : Shape) → Lists built_in m s ↔ ListedAs (raw_bytes m (type_address 1)) (raw_bytes m (type_address 2)) s
 unfolding structure_for
-listed-exactly m s = (
+listed_exactly m s = (
   λ l. subst (ListedAs _ _) l.2 (chosen_as (raw_bytes m (type_address 1)) (raw_bytes m (type_address 2)) l.0 l.1),
   is_chosen,
 )
 
 -- ---- a message that was not read, and one whose type is not listed
 
-pub find-unread : (m : List ℕ) (a : Address) (kind : Refusal) (place : ℕ) → reading m ≡ Fails kind place
+pub find_unread : (m : List ℕ) (a : Address) (kind : Refusal) (place : ℕ) → reading m ≡ Fails kind place
     → found m a ≡ record { answer = record { kind = kind; place = place; length = 0 }; element = nowhere }
 unfolding found lookup_check
-find-unread m a kind place e = rw e
+find_unread m a kind place e = rw e
 
 pub judge_unread : (book : List ListedStructure) (m : List ℕ) (kind : Refusal) (place : ℕ) {j : FaultRecord} → reading m ≡ Fails kind place → AnswersBy book m j
     → j ≡ plain kind place
@@ -84,5 +84,5 @@ judge_unread book m kind place e (read f s) = absurd (let z : ◌≡◌ {A = ℕ
 
 pub judge_unlisted : (book : List ListedStructure) (m : List ℕ) {j : FaultRecord} → reading m ≡ Passes → structure_for book m ≡ unlisted → AnswersBy book m j → j ≡ plain NoStructure 0
 judge_unlisted book m e g (unread k p f) = absurd (let z : ◌≡◌ {A = ℕ} 0 1 = cc in omega arith)
-judge_unlisted book m e g (read f (no-structure h)) = refl
+judge_unlisted book m e g (read f (no_structure h)) = refl
 judge_unlisted book m e g (read f (by s h k)) = absurd (let z : ◌≡◌ {A = ℕ} 0 1 = cc in omega arith)

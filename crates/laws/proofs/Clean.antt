@@ -10,7 +10,7 @@ use lib.ListN.{length, get_or, take, drop}
 use lib.Seq.{take-append_seam}
 use borrow.Author.Tests.{le-leb, le-ltb, ltb-true, ltb-false}
 use Rattle.alphabet.proofs.BoolLaws.{and_both, from_to_lem}
-use Rattle.alphabet.proofs.DelimiterLaws.{delimiter-permitted}
+use Rattle.alphabet.proofs.DelimiterLaws.{delimiter_permitted}
 use Rattle.laws.proofs.EachLaws.{Each, each_append, each_at}
 use Rattle.alphabet.specs.Lists.{find}
 use Rattle.alphabet.specs.Bytes.{from_to, printable, hex_digit, is_null}
@@ -21,9 +21,9 @@ use Rattle.escaping.specs.Outcomes.{Outcome, text}
 use Rattle.alphabet.specs.Filling.{over}
 use Rattle.escaping.specs.Outcomes.{fitting, escaping, answer, filled}
 use Rattle.text.specs.Unescape.{unescaping}
-use Rattle.escaping.proofs.PieceLaws.{written-letter, written-plain, written-hex}
-use Rattle.escaping.proofs.OutcomeLaws.{escape-null, escape-other}
-use Rattle.laws.proofs.EscapeTable.{letter_back, digit_back, letter-printable, digit-printable}
+use Rattle.escaping.proofs.PieceLaws.{written_letter, written_plain, written_hex}
+use Rattle.escaping.proofs.OutcomeLaws.{escape_null, escape_other}
+use Rattle.laws.proofs.EscapeTable.{letter_back, digit_back, letter_printable, digit_printable}
 use Rattle.laws.proofs.RoundTrip.{AreBytes, absent, round_trip}
 
 -- ---- a delimiter is printable
@@ -33,8 +33,8 @@ within lo hi b l h e =
     let p = from_to_lem lo hi b e in
     rw (le-leb 32 b (omega arith)) (rw (le-leb b 126 (omega arith)))
 
-pub permitted-printable : (b : ℕ) → permitted b ≡ true → printable b ≡ true
-permitted-printable b e =
+pub permitted_printable : (b : ℕ) → permitted b ≡ true → printable b ≡ true
+permitted_printable b e =
     at (from_to 33 47 b) refl (from_to 58 64 b) refl (from_to 91 96 b) refl (and_both (punctuation b) (not (never_delimiter b)) e).0
   where
     at : (t : Bool) → from_to 33 47 b ≡ t → (u : Bool) → from_to 58 64 b ≡ u → (v : Bool) → from_to 91 96 b ≡ v
@@ -49,14 +49,14 @@ abbrev pub MayStand : List ℕ → ℕ → Type 0
 MayStand ds b = (printable b ≡ true) × (find b ds < 5 → b ≡ escape_of ds)
 
 module _ (ds : List ℕ) (five : length ds ≡ 5) (fine : first_wrong_delimiter ds ≡ 5) where
-  escape-stands : MayStand ds (escape_of ds)
-  escape-stands = (permitted-printable (escape_of ds) (delimiter-permitted ds five fine 3 (omega arith)), λ h. refl)
+  escape_stands : MayStand ds (escape_of ds)
+  escape_stands = (permitted_printable (escape_of ds) (delimiter_permitted ds five fine 3 (omega arith)), λ h. refl)
 
-  other-stands : (x : ℕ) → printable x ≡ true → 5 ≤ find x ds → MayStand ds x
-  other-stands x p f = (p, λ h. absurd (omega arith))
+  other_stands : (x : ℕ) → printable x ≡ true → 5 ≤ find x ds → MayStand ds x
+  other_stands x p f = (p, λ h. absurd (omega arith))
 
   sign_stands : (x : ℕ) → printable x ≡ true → permitted x ≡ false → MayStand ds x
-  sign_stands x p f = other-stands x p (absent ds five fine x f)
+  sign_stands x p f = other_stands x p (absent ds five fine x f)
 
   byte_clean : (b : ℕ) → b < 256 → Each (MayStand ds) (escape_byte ds b)
   unfolding Each
@@ -65,18 +65,18 @@ module _ (ds : List ℕ) (five : length ds ≡ 5) (fine : first_wrong_delimiter 
       by : (t : Bool) → ltb (find b ds) 5 ≡ t → (u : Bool) → printable b ≡ u → Each (MayStand ds) (escape_byte ds b)
       by true p u q =
           let h = ltb-true (find b ds) 5 p in
-          let L = sign_stands (get_or letters (find b ds) 0) (letter-printable (find b ds) h) (letter_back (find b ds) h).0 in
-          subst⁻¹ (Each (MayStand ds)) (written-letter ds b (find b ds) refl h) (escape-stands, (L, (escape-stands, tt)))
+          let L = sign_stands (get_or letters (find b ds) 0) (letter_printable (find b ds) h) (letter_back (find b ds) h).0 in
+          subst⁻¹ (Each (MayStand ds)) (written_letter ds b (find b ds) refl h) (escape_stands, (L, (escape_stands, tt)))
       by false p true q =
           let h = ltb-false (find b ds) 5 p in
-          subst⁻¹ (Each (MayStand ds)) (written-plain ds b h q) (other-stands b q h, tt)
+          subst⁻¹ (Each (MayStand ds)) (written_plain ds b h q) (other_stands b q h, tt)
       by false p false q =
           let h = ltb-false (find b ds) 5 p in
           let x : b / 16 < 16 = omega arith in
           let y : b % 16 < 16 = omega arith in
-          let X = sign_stands (hex_digit (b / 16)) (digit-printable (b / 16) x) (digit_back (b / 16) x).0 in
-          let Y = sign_stands (hex_digit (b % 16)) (digit-printable (b % 16) y) (digit_back (b % 16) y).0 in
-          subst⁻¹ (Each (MayStand ds)) (written-hex ds b h q) (escape-stands, (sign_stands 88 refl refl, (X, (Y, (escape-stands, tt)))))
+          let X = sign_stands (hex_digit (b / 16)) (digit_printable (b / 16) x) (digit_back (b / 16) x).0 in
+          let Y = sign_stands (hex_digit (b % 16)) (digit_printable (b % 16) y) (digit_back (b % 16) y).0 in
+          subst⁻¹ (Each (MayStand ds)) (written_hex ds b h q) (escape_stands, (sign_stands 88 refl refl, (X, (Y, (escape_stands, tt)))))
 
   bytes_clean : (t : List ℕ) → AreBytes t → Each (MayStand ds) (escape_bytes ds t)
   unfolding Each escape_bytes
@@ -88,23 +88,23 @@ module _ (ds : List ℕ) (five : length ds ≡ 5) (fine : first_wrong_delimiter 
   unfolding Each
   quotes_clean =
       let two = sign_stands 50 refl refl in
-      (escape-stands, (sign_stands 88 refl refl, (two, (two, (two, (two, (escape-stands, tt)))))))
+      (escape_stands, (sign_stands 88 refl refl, (two, (two, (two, (two, (escape_stands, tt)))))))
 
   -- what is written holds no separator and no byte that is not allowed
   pub never_separator : (t : List ℕ) → AreBytes t → (i : ℕ) → i < length (escape ds t) → MayStand ds (get_or (escape ds t) i 0)
   never_separator t small = each_at (MayStand ds) (escape ds t) (by (is_null t) refl)
     where
       by : (u : Bool) → is_null t ≡ u → Each (MayStand ds) (escape ds t)
-      by true e = subst⁻¹ (Each (MayStand ds)) (escape-null ds t e) quotes_clean
-      by false e = subst⁻¹ (Each (MayStand ds)) (escape-other ds t e) (bytes_clean t small)
+      by true e = subst⁻¹ (Each (MayStand ds)) (escape_null ds t e) quotes_clean
+      by false e = subst⁻¹ (Each (MayStand ds)) (escape_other ds t e) (bytes_clean t small)
 
   fits : (t : List ℕ) (room : ℕ) → length t ≤ room → fitting room (text t) ≡ text t
   unfolding fitting
   fits t room h = rw (le-leb (length t) room h)
 
-  escaping-fits : (t : List ℕ) (room : ℕ) → length (escape ds t) ≤ room → escaping ds t room ≡ text (escape ds t)
+  escaping_fits : (t : List ℕ) (room : ℕ) → length (escape ds t) ≤ room → escaping ds t room ≡ text (escape ds t)
   unfolding escaping
-  escaping-fits t room h =
+  escaping_fits t room h =
       let b : 5 ≤ first_wrong_delimiter ds = omega arith in
       rw (le-ltb (first_wrong_delimiter ds) 5 b) (fits (escape ds t) room h)
 
@@ -120,7 +120,7 @@ module _ (ds : List ℕ) (five : length ds ≡ 5) (fine : first_wrong_delimiter 
   both_ways t d e small h k =
       let w = escape ds t in
       let front : written t d ≡ w =
-      ap (λ (o : Outcome ℕ). take (answer o).length (filled o d)) (escaping-fits t (length d) h) ∙ take-append_seam w (drop (length w) d) in
+      ap (λ (o : Outcome ℕ). take (answer o).length (filled o d)) (escaping_fits t (length d) h) ∙ take-append_seam w (drop (length w) d) in
       let back : unescaping ds (written t d) (length e) ≡ text t =
       ap (λ (s : List ℕ). unescaping ds s (length e)) front ∙ round_trip ds five fine t (length e) small ∙ fits t (length e) k in
       (ap answer back, ap (λ (o : Outcome ℕ). filled o e) back)

@@ -11,8 +11,8 @@ use lib.ListN.{get_or}
 use borrow.Author.Tests.{eqb-true, eqb-false}
 use Rattle.alphabet.specs.Answers.{number_of}
 use Rattle.alphabet.specs.Bytes.{ascii}
-use Rattle.alphabet.proofs.BoolLaws.{and_both, false-true}
-use Rattle.alphabet.proofs.CheckLaws.{number-none}
+use Rattle.alphabet.proofs.BoolLaws.{and_both, false_true}
+use Rattle.alphabet.proofs.CheckLaws.{number_none}
 use Rattle.alphabet.specs.declared.answers.Refusal.TheVariants.{None}
 use Rattle.fault.specs.declared.FaultRecord.{FaultRecord}
 use Rattle.acknowledgement_code.specs.Codes.{rejects, code_of, letters_of}
@@ -52,9 +52,9 @@ module _ (r : FaultRecord) where
   says = at (eqb number 0) (rejects number r.place r.field) refl refl
     where
       at : (s t : Bool) → eqb number 0 ≡ s → rejects number r.place r.field ≡ t → Says (cond s Accept (cond t Reject Error))
-      at true t e f = accepts (number-none r.kind (eqb-true number 0 e))
+      at true t e f = accepts (number_none r.kind (eqb-true number 0 e))
       at false true e f = turns_away (λ q. eqb-false number 0 e (ap number_of q)) (by_number (eqb number 20) refl f)
-      at false false e f = refuses (λ q. eqb-false number 0 e (ap number_of q)) (λ j. false-true (sym f ∙ tested j))
+      at false false e f = refuses (λ q. eqb-false number 0 e (ap number_of q)) (λ j. false_true (sym f ∙ tested j))
 
   -- two codes are not written alike: the second letters differ
   unlike : {A : Type 0} (a b : ℕ) (v w : List ℕ) → get_or v 1 0 ≡ a → get_or w 1 0 ≡ b → (a ≡ b → ⊥) → v ≡ w → A

@@ -44,26 +44,26 @@ module _ (P : ℕ → Type 0) where
   each_take (suc n) (b ∷ s) h = (h.0, each_take n s h.1)
 
   -- of each part of a list
-  each-grown : (b : ℕ) (ps : List (List ℕ)) → P b → Every (Each P) ps → Every (Each P) (grown b ps)
+  each_grown : (b : ℕ) (ps : List (List ℕ)) → P b → Every (Each P) ps → Every (Each P) (grown b ps)
   unfolding Each Every
-  each-grown b [] h k = ((h, tt), tt)
-  each-grown b (p ∷ ps) h k = ((h, k.0), k.1)
+  each_grown b [] h k = ((h, tt), tt)
+  each_grown b (p ∷ ps) h k = ((h, k.0), k.1)
 
-  pub each-split : (sep : ℕ) (l : List ℕ) → Each P l → Every (Each P) (split sep l)
+  pub each_split : (sep : ℕ) (l : List ℕ) → Each P l → Every (Each P) (split sep l)
   unfolding Each Every split
-  each-split sep [] h = (tt, tt)
-  each-split sep (b ∷ l) h = at (eqb sep b) (each-split sep l h.1)
+  each_split sep [] h = (tt, tt)
+  each_split sep (b ∷ l) h = at (eqb sep b) (each_split sep l h.1)
     where
       at : (t : Bool) → Every (Each P) (split sep l) → Every (Each P) (cond t ([] ∷ split sep l) (grown b (split sep l)))
       at true k = (tt, k)
-      at false k = each-grown b (split sep l) h.0 k
+      at false k = each_grown b (split sep l) h.0 k
 
   -- of parts joined
-  pub each-join : (sep : ℕ) (ps : List (List ℕ)) → P sep → Every (Each P) ps → Each P (join sep ps)
+  pub each_join : (sep : ℕ) (ps : List (List ℕ)) → P sep → Every (Each P) ps → Each P (join sep ps)
   unfolding Each Every join
-  each-join sep [] s h = tt
-  each-join sep (p ∷ []) s h = h.0
-  each-join sep (p ∷ q ∷ ps) s h = each_append p (sep ∷ join sep (q ∷ ps)) h.0 (s, each-join sep (q ∷ ps) s h.1)
+  each_join sep [] s h = tt
+  each_join sep (p ∷ []) s h = h.0
+  each_join sep (p ∷ q ∷ ps) s h = each_append p (sep ∷ join sep (q ∷ ps)) h.0 (s, each_join sep (q ∷ ps) s h.1)
 
 pub each_weaken : (P R : ℕ → Type 0) → ((b : ℕ) → P b → R b) → (s : List ℕ) → Each P s → Each R s
 unfolding Each
@@ -81,11 +81,11 @@ every_weaken Q R f [] h = tt
 every_weaken Q R f (p ∷ ps) h = (f p h.0, every_weaken Q R f ps h.1)
 
 -- the part at a place, or none past the last
-pub every-at : (Q : List ℕ → Type 0) (ps : List (List ℕ)) → Q [] → Every Q ps → (k : ℕ) → Q (get_or ps k [])
+pub every_at : (Q : List ℕ → Type 0) (ps : List (List ℕ)) → Q [] → Every Q ps → (k : ℕ) → Q (get_or ps k [])
 unfolding Every
-every-at Q [] n h k = n
-every-at Q (p ∷ ps) n h zero = h.0
-every-at Q (p ∷ ps) n h (suc k) = every-at Q ps n h.1 k
+every_at Q [] n h k = n
+every_at Q (p ∷ ps) n h zero = h.0
+every_at Q (p ∷ ps) n h (suc k) = every_at Q ps n h.1 k
 
 -- ---- a byte that stands nowhere in a list
 
@@ -94,21 +94,21 @@ unfolding Each first
 each_free x [] h = refl
 each_free x (b ∷ l) h = rw (ne_eqb x b (λ e. h.0 (sym e))) (ap suc (each_free x l h.1))
 
-pub free-each : (x : ℕ) (l : List ℕ) → find x l ≡ length l → Each (λ (b : ℕ). b ≡ x → ⊥) l
+pub free_each : (x : ℕ) (l : List ℕ) → find x l ≡ length l → Each (λ (b : ℕ). b ≡ x → ⊥) l
 unfolding Each first
-free-each x [] e = tt
-free-each x (b ∷ l) e = at (eqb x b) refl e (free-each x l)
+free_each x [] e = tt
+free_each x (b ∷ l) e = at (eqb x b) refl e (free_each x l)
   where
     at : (t : Bool) → eqb x b ≡ t → cond t 0 (suc (find x l)) ≡ suc (length l) → (find x l ≡ length l → Each (λ (b : ℕ). b ≡ x → ⊥) l) → (b ≡ x → ⊥) × Each (λ (b : ℕ). b ≡ x → ⊥) l
     at true q e r = absurd (omega arith)
     at false q e r = (λ h. eqb-false x b q (sym h), r (omega arith))
 
 -- no part at a separator holds it
-pub split-each : (sep : ℕ) (l : List ℕ) → Every (Each (λ (b : ℕ). b ≡ sep → ⊥)) (split sep l)
+pub split_each : (sep : ℕ) (l : List ℕ) → Every (Each (λ (b : ℕ). b ≡ sep → ⊥)) (split sep l)
 unfolding Each Every split
-split-each sep [] = (tt, tt)
-split-each sep (b ∷ l) = at (eqb sep b) refl (split-each sep l)
+split_each sep [] = (tt, tt)
+split_each sep (b ∷ l) = at (eqb sep b) refl (split_each sep l)
   where
     at : (t : Bool) → eqb sep b ≡ t → Every (Each (λ (b : ℕ). b ≡ sep → ⊥)) (split sep l) → Every (Each (λ (b : ℕ). b ≡ sep → ⊥)) (cond t ([] ∷ split sep l) (grown b (split sep l)))
     at true e k = (tt, k)
-    at false e k = each-grown (λ (b : ℕ). b ≡ sep → ⊥) b (split sep l) (λ h. eqb-false sep b e (sym h)) k
+    at false e k = each_grown (λ (b : ℕ). b ≡ sep → ⊥) b (split sep l) (λ h. eqb-false sep b e (sym h)) k

@@ -20,7 +20,7 @@ use Rattle.alphabet.specs.declared.answers.Refusal.TheVariants.{None, Address as
 use Rattle.alphabet.proofs.CheckLaws.{NumberFromTo, Numbered}
 use Rattle.reading.specs.Reading.{reading}
 use Rattle.reading.specs.Segments.{segment_at}
-use Rattle.reading.proofs.Honest.{reading-numbered}
+use Rattle.reading.proofs.Honest.{reading_numbered}
 use Rattle.element.specs.Addresses.{address_check, well_formed}
 use Rattle.element.specs.Finding.{is_absent, lookup_check, found, element_bytes}
 use Rattle.element.specs.declared.Found.{Found}
@@ -37,14 +37,14 @@ use Rattle.numbers.specs.declared.numerals.ReadNumber.{ReadNumber}
 use Rattle.times.specs.declared.moments.ReadTime.{ReadTime}
 use Rattle.value.specs.declared.asked.NumberFound.{NumberFound}
 use Rattle.value.specs.declared.asked.TimeFound.{TimeFound}
-use Rattle.value.proofs.AskedLaws.{number-present, number-other, time_present, time_other}
+use Rattle.value.proofs.AskedLaws.{number_present, number_other, time_present, time_other}
 use Rattle.escaping.specs.Outcomes.{Outcome, text, fault}
 use Rattle.escaping.specs.Outcomes.{escaping, answer, filled}
 use Rattle.text.specs.Unescape.{unescaping}
 use Rattle.formatting.specs.Formatting.{formatting}
 use Rattle.structure.specs.Listed.{In, here, there}
 use Rattle.structure.specs.SegmentNames.{segment_names}
-use Rattle.structure.specs.Judged.{accepted, refused, Structured, no-structure, by, Answers, unread, read}
+use Rattle.structure.specs.Judged.{accepted, refused, Structured, no_structure, by, Answers, unread, read}
 use Rattle.fault.specs.declared.FaultRecord.{FaultRecord}
 use Rattle.field_table.specs.Table.{rows}
 use Rattle.fields.specs.Judging.{fault_answer, judging}
@@ -54,34 +54,34 @@ use Rattle.acknowledgement.specs.Acknowledgement.{bad_id, acknowledgeable, refus
 use Rattle.acknowledgement.specs.Acknowledgement.Acknowledges.{not_written, written}
 use Rattle.laws.proofs.FaultNumbers.{fields_number}
 use Rattle.laws.specs.Entries.{of_reading, of_finding, of_nm, of_form, of_escaping, of_unescaping, of_formatting, of_structure, of_verdict, of_acknowledging}
-use Rattle.laws.proofs.Among.{among, from, in-range, Given, given-or, given_if}
-use Rattle.laws.proofs.TextNumbers.{escaping-numbers, unescaping-numbers, formatting-numbers}
+use Rattle.laws.proofs.Among.{among, from, in_range_lem, Given, given_or, given_if}
+use Rattle.laws.proofs.TextNumbers.{escaping_numbers, unescaping_numbers, formatting_numbers}
 
 -- ---- reading
 
-reading-given : (c : Check) → Numbered 1 8 c → Given of_reading c
-reading-given Passes n = here
-reading-given (Fails kind place) n = let n1 = n.1 in there (in-range 1 8 (number_of kind) n.0 (omega arith))
+reading_given : (c : Check) → Numbered 1 8 c → Given of_reading c
+reading_given Passes n = here
+reading_given (Fails kind place) n = let n1 = n.1 in there (in_range_lem 1 8 (number_of kind) n.0 (omega arith))
 
-pub read-numbers : (m : List ℕ) → In (number_of (answered (reading m)).kind) of_reading
-read-numbers m = reading-given (reading m) (reading-numbered m)
+pub read_numbers : (m : List ℕ) → In (number_of (answered (reading m)).kind) of_reading
+read_numbers m = reading_given (reading m) (reading_numbered m)
 
 -- ---- finding, and the values of elements
 
-pub find-numbers : (m : List ℕ) (a : Address) → In (number_of (found m a).answer.kind) of_finding
+pub find_numbers : (m : List ℕ) (a : Address) → In (number_of (found m a).answer.kind) of_finding
 unfolding found lookup_check
-find-numbers m a =
-    given-or of_finding (reading m) _ (there (read-numbers m))
-    (given-or of_finding (address_check a) _ (given_if of_finding (not (well_formed a)) BadAddress 0 (among of_finding 0 refl) here)
-    (given-or of_finding (fails_if (is_absent (segment_at m a.segment)) BadAddress 0) Passes (given_if of_finding (is_absent (segment_at m a.segment)) BadAddress 0 (among of_finding 0 refl) here) (among of_finding 0 refl)))
+find_numbers m a =
+    given_or of_finding (reading m) _ (there (read_numbers m))
+    (given_or of_finding (address_check a) _ (given_if of_finding (not (well_formed a)) BadAddress 0 (among of_finding 0 refl) here)
+    (given_or of_finding (fails_if (is_absent (segment_at m a.segment)) BadAddress 0) Passes (given_if of_finding (is_absent (segment_at m a.segment)) BadAddress 0 (among of_finding 0 refl) here) (among of_finding 0 refl)))
 
 -- what is asked of an element answers what its bytes say, or what finding it says
-number-given : (l : List ℕ) (f : Found) (r : ReadNumber) → In (number_of r.kind) l → In (number_of f.answer.kind) l → In (number_of (number_from f r).answer.kind) l
-number-given l f r p q = at (is_present f.element.state) refl
+number_given : (l : List ℕ) (f : Found) (r : ReadNumber) → In (number_of r.kind) l → In (number_of f.answer.kind) l → In (number_of (number_from f r).answer.kind) l
+number_given l f r p q = at (is_present f.element.state) refl
   where
     at : (t : Bool) → is_present f.element.state ≡ t → In (number_of (number_from f r).answer.kind) l
-    at true e = subst (λ (x : NumberFound). In (number_of x.answer.kind) l) (number-present f r r.value e refl) p
-    at false e = subst (λ (x : NumberFound). In (number_of x.answer.kind) l) (number-other f r e) q
+    at true e = subst (λ (x : NumberFound). In (number_of x.answer.kind) l) (number_present f r r.value e refl) p
+    at false e = subst (λ (x : NumberFound). In (number_of x.answer.kind) l) (number_other f r e) q
 
 time_given : (l : List ℕ) (f : Found) (r : ReadTime) → In (number_of r.kind) l → In (number_of f.answer.kind) l → In (number_of (time_from f r).answer.kind) l
 time_given l f r p q = at (is_present f.element.state) refl
@@ -90,83 +90,83 @@ time_given l f r p q = at (is_present f.element.state) refl
     at true e = subst (λ (x : TimeFound). In (number_of x.answer.kind) l) (time_present f r e) p
     at false e = subst (λ (x : TimeFound). In (number_of x.answer.kind) l) (time_other f r no_time e refl) q
 
-if-given : (l : List ℕ) (c : Check) (v : ℤ) (n : ℕ) → Given l c → In (number_of (number_if c v n).kind) l
-if-given l Passes v n g = g
-if-given l (Fails kind place) v n g = g
+if_given : (l : List ℕ) (c : Check) (v : ℤ) (n : ℕ) → Given l c → In (number_of (number_if c v n).kind) l
+if_given l Passes v n g = g
+if_given l (Fails kind place) v n g = g
 
-nm-read : (l : List ℕ) → In (number_of (nm_read l).kind) of_nm
+nm_read_lem : (l : List ℕ) → In (number_of (nm_read l).kind) of_nm
 unfolding nm_read nm_check
-nm-read l =
-    if-given of_nm (nm_check l) (nm_value l) (length (fraction (unsigned l)))
-    (given-or of_nm (fails_if (not (nm_form l)) BreaksForm 0) _ (given_if of_nm (not (nm_form l)) BreaksForm 0 (among of_nm 0 refl) here)
-    (given-or of_nm (fails_if (ltb most_digits (length (nm_digits l))) ValueTooLong 0) Passes (given_if of_nm (ltb most_digits (length (nm_digits l))) ValueTooLong 0 (among of_nm 0 refl) (there here)) (among of_nm 0 refl)))
+nm_read_lem l =
+    if_given of_nm (nm_check l) (nm_value l) (length (fraction (unsigned l)))
+    (given_or of_nm (fails_if (not (nm_form l)) BreaksForm 0) _ (given_if of_nm (not (nm_form l)) BreaksForm 0 (among of_nm 0 refl) here)
+    (given_or of_nm (fails_if (ltb most_digits (length (nm_digits l))) ValueTooLong 0) Passes (given_if of_nm (ltb most_digits (length (nm_digits l))) ValueTooLong 0 (among of_nm 0 refl) (there here)) (among of_nm 0 refl)))
 
-pub nm-numbers : (m : List ℕ) (a : Address) → In (number_of (nm_found m a).answer.kind) of_nm
-nm-numbers m a = number-given of_nm (found m a) (nm_read (element_bytes m a)) (nm-read (element_bytes m a)) (there (there (find-numbers m a)))
+pub nm_numbers : (m : List ℕ) (a : Address) → In (number_of (nm_found m a).answer.kind) of_nm
+nm_numbers m a = number_given of_nm (found m a) (nm_read (element_bytes m a)) (nm_read_lem (element_bytes m a)) (there (there (find_numbers m a)))
 
-si-read : (l : List ℕ) → In (number_of (si_read l).kind) of_form
+si_read_lem : (l : List ℕ) → In (number_of (si_read l).kind) of_form
 unfolding si_read
-si-read l = if-given of_form (fails_if (not (is_si l)) BreaksForm 0) (pos (decimal l)) 0 (given_if of_form (not (is_si l)) BreaksForm 0 (among of_form 0 refl) here)
+si_read_lem l = if_given of_form (fails_if (not (is_si l)) BreaksForm 0) (pos (decimal l)) 0 (given_if of_form (not (is_si l)) BreaksForm 0 (among of_form 0 refl) here)
 
-pub si-numbers : (m : List ℕ) (a : Address) → In (number_of (si_found m a).answer.kind) of_form
-si-numbers m a = number-given of_form (found m a) (si_read (element_bytes m a)) (si-read (element_bytes m a)) (there (find-numbers m a))
+pub si_numbers : (m : List ℕ) (a : Address) → In (number_of (si_found m a).answer.kind) of_form
+si_numbers m a = number_given of_form (found m a) (si_read (element_bytes m a)) (si_read_lem (element_bytes m a)) (there (find_numbers m a))
 
 timed : (t : Bool) (time : Time) → In (number_of (time_if t time).kind) of_form
 timed true time = among of_form 0 refl
 timed false time = here
 
-dt-read : (l : List ℕ) → In (number_of (dt_read l).kind) of_form
+dt_read_lem : (l : List ℕ) → In (number_of (dt_read l).kind) of_form
 unfolding dt_read
-dt-read l = timed (is_dt l) (dt_time l)
+dt_read_lem l = timed (is_dt l) (dt_time l)
 
-pub dt-numbers : (m : List ℕ) (a : Address) → In (number_of (dt_found m a).answer.kind) of_form
-dt-numbers m a = time_given of_form (found m a) (dt_read (element_bytes m a)) (dt-read (element_bytes m a)) (there (find-numbers m a))
+pub dt_numbers : (m : List ℕ) (a : Address) → In (number_of (dt_found m a).answer.kind) of_form
+dt_numbers m a = time_given of_form (found m a) (dt_read (element_bytes m a)) (dt_read_lem (element_bytes m a)) (there (find_numbers m a))
 
 time_read_lem : (form : Form) (l : List ℕ) → In (number_of (time_read form l).kind) of_form
 unfolding time_read
 time_read_lem form l = timed (is_time form l) (time_of form l)
 
-pub tm-numbers : (m : List ℕ) (a : Address) → In (number_of (tm_found m a).answer.kind) of_form
-tm-numbers m a = time_given of_form (found m a) (time_read Tm (element_bytes m a)) (time_read_lem Tm (element_bytes m a)) (there (find-numbers m a))
+pub tm_numbers : (m : List ℕ) (a : Address) → In (number_of (tm_found m a).answer.kind) of_form
+tm_numbers m a = time_given of_form (found m a) (time_read Tm (element_bytes m a)) (time_read_lem Tm (element_bytes m a)) (there (find_numbers m a))
 
-pub ts-numbers : (m : List ℕ) (a : Address) → In (number_of (ts_found m a).answer.kind) of_form
-ts-numbers m a = time_given of_form (found m a) (time_read Ts (element_bytes m a)) (time_read_lem Ts (element_bytes m a)) (there (find-numbers m a))
+pub ts_numbers : (m : List ℕ) (a : Address) → In (number_of (ts_found m a).answer.kind) of_form
+ts_numbers m a = time_given of_form (found m a) (time_read Ts (element_bytes m a)) (time_read_lem Ts (element_bytes m a)) (there (find_numbers m a))
 
 -- ---- text
 
-pub escape-numbers : (ds t : List ℕ) (room : ℕ) → In (number_of (answer (escaping ds t room)).kind) of_escaping
-escape-numbers = escaping-numbers
+pub escape_numbers : (ds t : List ℕ) (room : ℕ) → In (number_of (answer (escaping ds t room)).kind) of_escaping
+escape_numbers = escaping_numbers
 
-pub unescape-numbers : (ds s : List ℕ) (room : ℕ) → In (number_of (answer (unescaping ds s room)).kind) of_unescaping
-unescape-numbers = unescaping-numbers
+pub unescape_numbers : (ds s : List ℕ) (room : ℕ) → In (number_of (answer (unescaping ds s room)).kind) of_unescaping
+unescape_numbers = unescaping_numbers
 
-pub format-numbers : (ds s : List ℕ) (room : ℕ) → In (number_of (answer (formatting ds s room)).kind) of_formatting
-format-numbers = formatting-numbers
+pub format_numbers : (ds s : List ℕ) (room : ℕ) → In (number_of (answer (formatting ds s room)).kind) of_formatting
+format_numbers = formatting_numbers
 
 -- ---- the judges
 
-judged-numbers : {m : List ℕ} {j : FaultRecord} → Structured m j → In (number_of j.kind) of_structure
-judged-numbers (no-structure g) = here
-judged-numbers (by s g (accepted y)) = among of_structure 0 refl
-judged-numbers {m} (by s g (refused place ends list r)) = at (ltb place (length (segment_names m)))
+judged_numbers : {m : List ℕ} {j : FaultRecord} → Structured m j → In (number_of j.kind) of_structure
+judged_numbers (no_structure g) = here
+judged_numbers (by s g (accepted y)) = among of_structure 0 refl
+judged_numbers {m} (by s g (refused place ends list r)) = at (ltb place (length (segment_names m)))
   where
     at : (t : Bool) → In (number_of (cond t SegmentMisplaced EndedEarly)) of_structure
     at true = there here
     at false = there (there here)
 
-pub structure-numbers : (m : List ℕ) {j : FaultRecord} → Answers m j → In (number_of j.kind) of_structure
-structure-numbers m (unread kind place e) = there (there (there (subst (λ (c : Check). In (number_of (answered c).kind) of_reading) e (read-numbers m))))
-structure-numbers m (read e s) = judged-numbers s
+pub structure_numbers : (m : List ℕ) {j : FaultRecord} → Answers m j → In (number_of j.kind) of_structure
+structure_numbers m (unread kind place e) = there (there (there (subst (λ (c : Check). In (number_of (answered c).kind) of_reading) e (read_numbers m))))
+structure_numbers m (read e s) = judged_numbers s
 
-pub verdict-numbers : (m : List ℕ) {r : FaultRecord} → Verdicts m r → In (number_of r.kind) of_verdict
-verdict-numbers m (by-structure j a n) = there (there (there (there (there (there (there (structure-numbers m a)))))))
-verdict-numbers m (by-fields j a n) = at (fields_number m rows)
+pub verdict_numbers : (m : List ℕ) {r : FaultRecord} → Verdicts m r → In (number_of r.kind) of_verdict
+verdict_numbers m (by-structure j a n) = there (there (there (there (there (there (there (structure_numbers m a)))))))
+verdict_numbers m (by-fields j a n) = at (fields_number m rows)
   where
     kind : Refusal
     kind = (fault_answer (judging rows m)).kind
 
     fault : NumberFromTo 31 37 kind → In (number_of kind) (from 31 7)
-    fault n = let n1 = n.1 in in-range 31 7 (number_of kind) n.0 (omega arith)
+    fault n = let n1 = n.1 in in_range_lem 31 7 (number_of kind) n.0 (omega arith)
 
     later : (l : List ℕ) → In (number_of kind) l → In (number_of kind) (l ++ of_structure)
     later (k ∷ ks) here = here
@@ -178,9 +178,9 @@ verdict-numbers m (by-fields j a n) = at (fields_number m rows)
 
 -- ---- acknowledging
 
-refusing-numbers : (m time id : List ℕ) → In (number_of (refusing m time id)) of_acknowledging
+refusing_numbers : (m time id : List ℕ) → In (number_of (refusing m time id)) of_acknowledging
 unfolding refusing
-refusing-numbers m time id = at (not (is_ts time)) (bad_id id) (not (acknowledgeable m))
+refusing_numbers m time id = at (not (is_ts time)) (bad_id id) (not (acknowledgeable m))
   where
     at : (t u v : Bool) → In (number_of (cond t CallersTime (cond u CallersId (cond v NotAcknowledgeable None)))) of_acknowledging
     at true u v = among of_acknowledging 16 refl
@@ -190,7 +190,7 @@ refusing-numbers m time id = at (not (is_ts time)) (bad_id id) (not (acknowledge
 
 pub acknowledge_numbers : (m time id lent : List ℕ) {r : Answer} {x : List ℕ} → Acknowledges m time id lent r x → In (number_of r.kind) of_acknowledging
 unfolding answer roomy
-acknowledge_numbers m time id lent (not_written n) = refusing-numbers m time id
+acknowledge_numbers m time id lent (not_written n) = refusing_numbers m time id
 acknowledge_numbers m time id lent (written e found v) = at (leb (length w) (length lent) && leb (length w) message_limit)
   where
     w : List ℕ

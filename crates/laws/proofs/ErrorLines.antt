@@ -16,18 +16,18 @@ use Rattle.alphabet.specs.Lists.{find}
 use Rattle.alphabet.specs.Parts.{split, join}
 use Rattle.alphabet.specs.declared.answers.Check.TheVariants.{Passes}
 use Rattle.alphabet.specs.declared.answers.Refusal.TheVariants.{None, SegmentMisplaced, EndedEarly}
-use Rattle.alphabet.proofs.BoolLaws.{from_to_lem, and_both, false-true}
+use Rattle.alphabet.proofs.BoolLaws.{from_to_lem, and_both, false_true}
 use Rattle.alphabet.proofs.CheckLaws.{numbered_fails}
-use Rattle.alphabet.proofs.PartLaws.{split-last}
+use Rattle.alphabet.proofs.PartLaws.{split_last}
 use Rattle.reading.specs.Message.{Opened}
 use Rattle.reading.specs.Reading.{reading}
 use Rattle.reading.specs.Segments.{segments, delimiters_of, field_separator, named, is_header, name, name_of, capital_or_digit}
 use Rattle.reading.proofs.Accepted.{accepted as accepted-message}
-use Rattle.reading.proofs.Honest.{reading-numbered}
+use Rattle.reading.proofs.Honest.{reading_numbered}
 use Rattle.structure.specs.SegmentNames.{segment_names}
 use Rattle.structure.specs.Structures.{built_in}
 use Rattle.structure.specs.Shapes.{Shape}
-use Rattle.structure.specs.Judged.{Judged, accepted, refused, no-structure, by, unread, read, Answers}
+use Rattle.structure.specs.Judged.{Judged, accepted, refused, no_structure, by, unread, read, Answers}
 use Rattle.fault.specs.declared.FaultRecord.{FaultRecord}
 use Rattle.field_table.specs.Table.{rows}
 use Rattle.fields.specs.Judging.{Fault, Sound, Faulty, judging, fault_answer}
@@ -36,13 +36,13 @@ use Rattle.verdict.specs.Verdicts.VerdictsBy.{refused as by-structure, judged as
 use Rattle.verdict.proofs.VerdictLaws.{shaped}
 use Rattle.error_segment.specs.Numerals.{numeral}
 use Rattle.error_segment.specs.Errors.{faulty, field_position, nowhere, error_parts, error_line, error_lines}
-use Rattle.error_segment.proofs.ErrorLaws.{parts-nowhere, parts-there}
-use Rattle.laws.proofs.EachLaws.{Each, Every, each_weaken, each-join, each_free, every-at, every_weaken}
-use Rattle.laws.proofs.FaultNumbers.{FaultNumbered, judging-numbered}
+use Rattle.error_segment.proofs.ErrorLaws.{parts_nowhere, parts_there}
+use Rattle.laws.proofs.EachLaws.{Each, Every, each_weaken, each_join, each_free, every_at, every_weaken}
+use Rattle.laws.proofs.FaultNumbers.{FaultNumbered, judging_numbered}
 use Rattle.laws.proofs.NumeralReads.{numeral_reads}
-use Rattle.laws.proofs.LineLaws.{or-true, Printable, Not, Clean, joined_printable, joined_parts}
-use Rattle.laws.proofs.SenderLaws.{delimiter-printable, delimiters_apart, no-delimiter, sign_clean}
-use Rattle.laws.proofs.ValueBytes.{digit-none}
+use Rattle.laws.proofs.LineLaws.{or_true, Printable, Not, Clean, joined_printable, joined_parts}
+use Rattle.laws.proofs.SenderLaws.{delimiter_printable, delimiters_apart, no_delimiter, sign_clean}
+use Rattle.laws.proofs.ValueBytes.{digit_none}
 use Rattle.laws.proofs.WrittenLaws.{Behind}
 
 -- ---- signs
@@ -58,8 +58,8 @@ sign_either b e = at (capital b) refl e
     at true c q = inl c
     at false c q = inr q
 
-capital-none : (b : ℕ) → capital b ≡ true → permitted b ≡ false
-capital-none b e =
+capital_none : (b : ℕ) → capital b ≡ true → permitted b ≡ false
+capital_none b e =
     let d = from_to_lem 65 90 b e in
     rw (le-leb 33 b (omega arith), lt-leb b 47 (omega arith)) (rw (le-leb 58 b (omega arith), lt-leb b 64 (omega arith)) (rw (lt-leb 91 b (omega arith), lt-leb 123 b (omega arith))))
 
@@ -67,8 +67,8 @@ sign_none : (b : ℕ) → Sign b → permitted b ≡ false
 sign_none b e = at (sign_either b e)
   where
     at : (capital b ≡ true) ⊎ (digit b ≡ true) → permitted b ≡ false
-    at (inl c) = capital-none b c
-    at (inr d) = digit-none b d
+    at (inl c) = capital_none b c
+    at (inr d) = digit_none b d
 
 sign_printable : (b : ℕ) → Sign b → Printable b
 sign_printable b e = at (sign_either b e)
@@ -113,9 +113,9 @@ named_signs sep s e =
     ((capital_sign (get_or s 0 0) b.0, c.0, c.1), long s c.1)
   where
     long : (l : List ℕ) → Sign (get_or l 2 0) → 3 ≤ length l
-    long [] q = absurd (false-true q)
-    long (x ∷ []) q = absurd (false-true q)
-    long (x ∷ y ∷ []) q = absurd (false-true q)
+    long [] q = absurd (false_true q)
+    long (x ∷ []) q = absurd (false_true q)
+    long (x ∷ y ∷ []) q = absurd (false_true q)
     long (x ∷ y ∷ z ∷ r) q = omega arith
 
 front_signs : (sep : ℕ) (s : List ℕ) → named sep s ≡ true → Each Sign (take 3 s)
@@ -132,7 +132,7 @@ front_signs sep s e = at s (named_signs sep s e).0
 
 -- a number up to 8, and 22, points nowhere
 low_nowhere : (n : ℕ) → n ≤ 8 → nowhere n ≡ true
-low_nowhere n h = ap (λ (t : Bool). eqb n 22 || t) (le-leb n 8 h) ∙ or-true (eqb n 22)
+low_nowhere n h = ap (λ (t : Bool). eqb n 22 || t) (le-leb n 8 h) ∙ or_true (eqb n 22)
 
 -- where it points somewhere, the message was read, and the record's place is that of a segment; that of a 20 is 0
 module _ (m : List ℕ) where
@@ -141,26 +141,26 @@ module _ (m : List ℕ) where
 
   judged_points : (s : Shape) {r : FaultRecord} → reading m ≡ Passes → Judged s (segment_names m) r → Points r
   unfolding segment_names
-  judged_points s p (accepted y) q = absurd (false-true (sym q))
+  judged_points s p (accepted y) q = absurd (false_true (sym q))
   judged_points s p (refused place ends list f) q = at (ltb place (length (segment_names m))) refl q
     where
       at : (t : Bool) → ltb place (length (segment_names m)) ≡ t → nowhere (number_of (cond t SegmentMisplaced EndedEarly)) ≡ false
           → (reading m ≡ Passes) × (place < length (segments m)) × (number_of (cond t SegmentMisplaced EndedEarly) ≡ 20 → place ≡ 0)
       at true e n = let l = ltb-true place (length (segment_names m)) e in let k = length-map (segments m) name_of in (p, omega arith, λ q. absurd (omega arith))
-      at false e n = absurd (false-true (sym n))
+      at false e n = absurd (false_true (sym n))
 
   answers_points : {r : FaultRecord} → Answers m r → Points r
-  answers_points (unread kind place f) q = absurd (false-true (sym q ∙ low_nowhere (number_of kind) (numbered_fails 1 8 (reading m) kind place (reading-numbered m) f).1))
-  answers_points (read p (no-structure g)) q = (p, let n = (accepted-message m p).some-segments in omega arith, λ e. refl)
+  answers_points (unread kind place f) q = absurd (false_true (sym q ∙ low_nowhere (number_of kind) (numbered_fails 1 8 (reading m) kind place (reading_numbered m) f).1))
+  answers_points (read p (no_structure g)) q = (p, let n = (accepted-message m p).some_segments in omega arith, λ e. refl)
   answers_points (read p (by x g j)) q = judged_points x.shape p j q
 
   fields_points : (f : Fault) → reading m ≡ Passes → FaultNumbered 0 (length (segments m)) f → Points (fault_answer f)
-  fields_points Sound p h q = absurd (false-true (sym q))
+  fields_points Sound p h q = absurd (false_true (sym q))
   fields_points (Faulty kind segment field repetition) p h q = (p, h.2, λ e. absurd (let b = h.0.0 in omega arith))
 
   pub points : {r : FaultRecord} → Verdicts m r → Points r
   points (by-structure r a n) = answers_points a
-  points (by-fields r a n) = fields_points (judging rows m) (shaped built_in m a n).passed (judging-numbered m rows)
+  points (by-fields r a n) = fields_points (judging rows m) (shaped built_in m a n).passed (judging_numbered m rows)
 
 -- ---- the parts
 
@@ -169,18 +169,18 @@ unfolding Every Each
 part_signs m {r = r} v = at (nowhere (number_of r.kind)) refl
   where
     at : (t : Bool) → nowhere (number_of r.kind) ≡ t → Every (Each Sign) (error_parts m r)
-    at true e = subst (Every (Each Sign)) (sym (parts-nowhere m r e)) (tt, (tt, (tt, (numeral_signs _, tt))))
+    at true e = subst (Every (Each Sign)) (sym (parts_nowhere m r e)) (tt, (tt, (tt, (numeral_signs _, tt))))
     at false e =
         let p = points m v e in
-        subst (Every (Each Sign)) (sym (parts-there m r e))
+        subst (Every (Each Sign)) (sym (parts_there m r e))
         (front_signs (field_separator m) (faulty m r.place) ((accepted-message m p.0).all_named r.place p.1), (numeral_signs _, (position_signs (number_of r.kind) r.field, (numeral_signs _, tt))))
 
 pub four : (m : List ℕ) (r : FaultRecord) → length (error_parts m r) ≡ 4
 four m r = at (nowhere (number_of r.kind)) refl
   where
     at : (t : Bool) → nowhere (number_of r.kind) ≡ t → length (error_parts m r) ≡ 4
-    at true e = ap length (parts-nowhere m r e)
-    at false e = ap length (parts-there m r e)
+    at true e = ap length (parts_nowhere m r e)
+    at false e = ap length (parts_there m r e)
 
 -- ---- whether there is a line
 
@@ -213,7 +213,7 @@ module _ (h : List ℕ) (o : Opened h) (one : find carriage_return h + 1 ≡ len
 
   -- a sign is none of the delimiters
   sign_not : (i b : ℕ) → i < 5 → Sign b → Not (get_or ds i 0) b
-  sign_not i b l s = no-delimiter h o one b i l (sign_none b s)
+  sign_not i b l s = no_delimiter h o one b i l (sign_none b s)
 
   -- each part is clean of a delimiter
   parts_clean : (i : ℕ) → i < 5 → Every (Each (Clean (get_or ds i 0))) (error_parts m r)
@@ -223,60 +223,60 @@ module _ (h : List ℕ) (o : Opened h) (one : find carriage_return h + 1 ≡ len
   -- and so is the field, of each but the component separator
   told_clean : (i : ℕ) → i < 5 → (i ≡ 1 → ⊥) → Each (Clean (get_or ds i 0)) told
   told_clean i l n =
-      each-join (Clean (get_or ds i 0)) between (error_parts m r)
-      (delimiter-printable h o one 1 (omega arith), delimiters_apart h o one 1 i (omega arith) l (λ e. n (sym e))) (parts_clean i l)
+      each_join (Clean (get_or ds i 0)) between (error_parts m r)
+      (delimiter_printable h o one 1 (omega arith), delimiters_apart h o one 1 i (omega arith) l (λ e. n (sym e))) (parts_clean i l)
 
   both_clean : Every (Each (Clean sep)) (ascii "ERR" ∷ told ∷ [])
   unfolding Every Each
   both_clean = ((sign_clean h o one 69 refl refl, (sign_clean h o one 82 refl refl, (sign_clean h o one 82 refl refl, tt))), (told_clean 0 (omega arith) (λ e. omega arith), tt))
 
   -- ERR has one field
-  pub line-parts : split sep (error_line m r) ≡ ascii "ERR" ∷ told ∷ []
-  line-parts = ap (split sep) line_is ∙ joined_parts sep (ascii "ERR" ∷ told ∷ []) (omega arith) both_clean
+  pub line_parts : split sep (error_line m r) ≡ ascii "ERR" ∷ told ∷ []
+  line_parts = ap (split sep) line_is ∙ joined_parts sep (ascii "ERR" ∷ told ∷ []) (omega arith) both_clean
 
   -- of one repetition and four components
-  pub told-once : split (get_or ds 2 0) told ≡ told ∷ []
-  told-once =
+  pub told_once : split (get_or ds 2 0) told ≡ told ∷ []
+  told_once =
       let n = each_free (get_or ds 2 0) told (each_weaken (Clean (get_or ds 2 0)) (Not (get_or ds 2 0)) (λ b q. q.1) told (told_clean 2 (omega arith) (λ e. omega arith))) in
-      split-last (get_or ds 2 0) told (omega arith)
+      split_last (get_or ds 2 0) told (omega arith)
 
-  pub told-parts : split between told ≡ error_parts m r
-  told-parts = joined_parts between (error_parts m r) (let n = four m r in omega arith) (parts_clean 1 (omega arith))
+  pub told_parts : split between told ≡ error_parts m r
+  told_parts = joined_parts between (error_parts m r) (let n = four m r in omega arith) (parts_clean 1 (omega arith))
 
-  pub line-name : name_of (error_line m r) ≡ name "ERR"
+  pub line_name : name_of (error_line m r) ≡ name "ERR"
   unfolding join name_of
-  line-name = ap name_of line_is
+  line_name = ap name_of line_is
 
-  line-behind : Behind sep (error_line m r ∷ [])
+  line_behind : Behind sep (error_line m r ∷ [])
   unfolding Every join name_of
-  line-behind =
+  line_behind =
       let l = line_is in
       record {
-        told = inr (ap (λ (n : ℕ). n ∷ []) line-name);
-        printed = (subst (Each Printable) (sym l) (joined_printable sep (delimiter-printable h o one 0 (omega arith)) (ascii "ERR" ∷ told ∷ []) both_clean), tt);
-        named-well = (ap (named sep) l ∙ rw (eq-eqb sep sep refl) (or-true (eqb (length (join sep (ascii "ERR" ∷ told ∷ []))) 3)), tt);
+        told = inr (ap (λ (n : ℕ). n ∷ []) line_name);
+        printed = (subst (Each Printable) (sym l) (joined_printable sep (delimiter_printable h o one 0 (omega arith)) (ascii "ERR" ∷ told ∷ []) both_clean), tt);
+        named-well = (ap (named sep) l ∙ rw (eq-eqb sep sep refl) (or_true (eqb (length (join sep (ascii "ERR" ∷ told ∷ []))) 3)), tt);
         no_other = (ap is_header l, tt);
       }
 
-  pub lines-behind : Behind sep (error_lines m r)
+  pub lines_behind : Behind sep (error_lines m r)
   unfolding Every
-  lines-behind = at (eqb (number_of r.kind) 0)
+  lines_behind = at (eqb (number_of r.kind) 0)
     where
       at : (t : Bool) → Behind sep (cond t [] (error_line m r ∷ []))
       at true = record { told = inl refl; printed = tt; named-well = tt; no_other = tt }
-      at false = line-behind
+      at false = line_behind
 
   -- ---- component c of ERR-1, from what is looked up in the line
 
-  pub told-component : (c : ℕ) → get_or (split between (get_or (split (get_or ds 2 0) (get_or (split sep (error_line m r)) 1 [])) 0 [])) (c - 1) [] ≡ get_or (error_parts m r) (c - 1) []
-  told-component c =
-      ap (λ (ps : List (List ℕ)). get_or (split between (get_or (split (get_or ds 2 0) (get_or ps 1 [])) 0 [])) (c - 1) []) line-parts
-      ∙ ap (λ (ps : List (List ℕ)). get_or (split between (get_or ps 0 [])) (c - 1) []) told-once ∙ ap (λ (ps : List (List ℕ)). get_or ps (c - 1) []) told-parts
+  pub told_component : (c : ℕ) → get_or (split between (get_or (split (get_or ds 2 0) (get_or (split sep (error_line m r)) 1 [])) 0 [])) (c - 1) [] ≡ get_or (error_parts m r) (c - 1) []
+  told_component c =
+      ap (λ (ps : List (List ℕ)). get_or (split between (get_or (split (get_or ds 2 0) (get_or ps 1 [])) 0 [])) (c - 1) []) line_parts
+      ∙ ap (λ (ps : List (List ℕ)). get_or (split between (get_or ps 0 [])) (c - 1) []) told_once ∙ ap (λ (ps : List (List ℕ)). get_or ps (c - 1) []) told_parts
 
   -- "The code is its identifier alone.": no part has a subcomponent separator
   pub part_alone : (c : ℕ) → split (get_or ds 4 0) (get_or (error_parts m r) c []) ≡ get_or (error_parts m r) c [] ∷ []
   unfolding Each
   part_alone c =
       let p = get_or (error_parts m r) c [] in
-      let n = each_free (get_or ds 4 0) p (each_weaken (Clean (get_or ds 4 0)) (Not (get_or ds 4 0)) (λ b q. q.1) p (every-at (Each (Clean (get_or ds 4 0))) (error_parts m r) tt (parts_clean 4 (omega arith)) c)) in
-      split-last (get_or ds 4 0) p (omega arith)
+      let n = each_free (get_or ds 4 0) p (each_weaken (Clean (get_or ds 4 0)) (Not (get_or ds 4 0)) (λ b q. q.1) p (every_at (Each (Clean (get_or ds 4 0))) (error_parts m r) tt (parts_clean 4 (omega arith)) c)) in
+      split_last (get_or ds 4 0) p (omega arith)

@@ -15,7 +15,7 @@ use Rattle.alphabet.specs.declared.answers.Refusal.TheVariants.{None}
 use Rattle.alphabet.specs.declared.parts.Part.{Part}
 use Rattle.alphabet.specs.declared.parts.Part.TheVariants.{At, Absent}
 use Rattle.alphabet.proofs.BoolLaws.{and_both}
-use Rattle.alphabet.proofs.PartLaws.{standing-first}
+use Rattle.alphabet.proofs.PartLaws.{standing_first}
 use Rattle.reading.specs.Reading.{reading}
 use Rattle.reading.specs.Segments.{delimiters_of, field_separator, segments, segment_at}
 use Rattle.element.specs.Finding.{found, part_bytes}
@@ -24,42 +24,42 @@ use Rattle.element.specs.declared.Element.{Element}
 use Rattle.element.specs.declared.Found.{Found}
 use Rattle.element.specs.declared.address.Address.{Address}
 use Rattle.element.specs.declared.states.State.TheVariants.{Absent as no_part}
-use Rattle.element.proofs.LevelLaws.{Within, between-length, within_in, within-below, within-segment, within_field, within-element, in-absent, below_split, field_header, field_other, element-split, element-unsplit, unsplit-more}
+use Rattle.element.proofs.LevelLaws.{Within, between_length, within_in, within_below, within_segment, within_field, within_element, in_absent, below_split, field_header, field_other, element_split, element_unsplit, unsplit_more}
 use Rattle.leaves.specs.Leaves.{Leaf, addressed, leaf_at, each, subcomponent_leaf, in_component, in_repetition, in_field, in_part, in_segment, leaves_of}
-use Rattle.laws.specs.Elements.{Asks, whole_field, whole-repetition, whole-component, subcomponent}
+use Rattle.laws.specs.Elements.{Asks, whole_field, whole_repetition, whole_component, subcomponent}
 use Rattle.laws.specs.Listing.{In, here, there, FoundAt}
-use Rattle.laws.proofs.Asking.{answered-exactly}
-use Rattle.laws.proofs.FoundLaws.{absent-nowhere, segment-stands}
-use Rattle.laws.proofs.LeafLaws.{Stands, part_standing, leaf_right, leaf_found-at, four}
+use Rattle.laws.proofs.Asking.{answered_exactly}
+use Rattle.laws.proofs.FoundLaws.{absent_nowhere, segment_stands}
+use Rattle.laws.proofs.LeafLaws.{Stands, part_standing, leaf_right, leaf_found_at, four}
 use Rattle.laws.proofs.HeaderFields.{one_byte}
 use Rattle.element.proofs.RawLaws.{part_in_bytes, segment_part_bytes}
 
 -- ---- one of several
 
-in-front : {l : Leaf} (ks ls : List Leaf) → In l ks → In l (ks ++ ls)
-in-front (k ∷ ks) ls here = here
-in-front (k ∷ ks) ls (there i) = there (in-front ks ls i)
+in_front : {l : Leaf} (ks ls : List Leaf) → In l ks → In l (ks ++ ls)
+in_front (k ∷ ks) ls here = here
+in_front (k ∷ ks) ls (there i) = there (in_front ks ls i)
 
-in-behind : {l : Leaf} (ks ls : List Leaf) → In l ls → In l (ks ++ ls)
-in-behind [] ls i = i
-in-behind (k ∷ ks) ls i = there (in-behind ks ls i)
+in_behind : {l : Leaf} (ks ls : List Leaf) → In l ls → In l (ks ++ ls)
+in_behind [] ls i = i
+in_behind (k ∷ ks) ls i = there (in_behind ks ls i)
 
 at_same : {a b s e : ℕ} → At a b ≡ At s e → a ≡ s
 at_same q = cc
 
-nowhere-at : {s e : ℕ} → Absent ≡ At s e → ⊥
-nowhere-at q = let z : ◌≡◌ {A = ℕ} 0 1 = cc in omega arith
+nowhere_at : {s e : ℕ} → Absent ≡ At s e → ⊥
+nowhere_at q = let z : ◌≡◌ {A = ℕ} 0 1 = cc in omega arith
 
 -- a leaf of one of some parts, by its number and where it stands
 each_in : (l : Leaf) (inner : ℕ → ℕ → List ℕ → List Leaf) (k at : ℕ) (ps : List (List ℕ)) (j t e : ℕ) → standing at ps j ≡ At t e
     → In l (inner (k + j) t (get_or ps j [])) → In l (each inner k at ps)
 unfolding each standing
-each_in l inner k at [] j t e q i = absurd (nowhere-at q)
+each_in l inner k at [] j t e q i = absurd (nowhere_at q)
 each_in l inner k at (p ∷ ps) zero t e q i =
-    in-front (inner k at p) (each inner (k + 1) (at + length p + 1) ps) (subst₂ (λ (n b : ℕ). In l (inner n b p)) (add-zero k) (sym (at_same q)) i)
+    in_front (inner k at p) (each inner (k + 1) (at + length p + 1) ps) (subst₂ (λ (n b : ℕ). In l (inner n b p)) (add-zero k) (sym (at_same q)) i)
 each_in l inner k at (p ∷ ps) (suc j) t e q i =
     let n : k + suc j ≡ k + 1 + j = omega arith in
-    in-behind (inner k at p) (each inner (k + 1) (at + length p + 1) ps)
+    in_behind (inner k at p) (each inner (k + 1) (at + length p + 1) ps)
     (each_in l inner (k + 1) (at + length p + 1) ps j t e q (subst (λ (x : ℕ). In l (inner x t (get_or ps j []))) n i))
 
 -- ---- a part that is there
@@ -69,11 +69,11 @@ begin Absent = 0
 begin (At s e) = s
 
 module _ (m : List ℕ) where
-  stands-there : (p : Part) → Within m p → (p ≡ Absent → ⊥) → Stands m p (begin p) (part_bytes m p)
-  stands-there Absent w h = absurd (h refl)
-  stands-there (At s e) w h =
+  stands_there : (p : Part) → Within m p → (p ≡ Absent → ⊥) → Stands m p (begin p) (part_bytes m p)
+  stands_there Absent w h = absurd (h refl)
+  stands_there (At s e) w h =
       let w0 = w.0 in
-      let n = between-length m s e w0 w.1 in
+      let n = between_length m s e w0 w.1 in
       let k : e ≡ s + length (between m s e) = omega arith in
       record { place = ap (At s) k; within = w; holds = refl }
 
@@ -81,13 +81,13 @@ module _ (m : List ℕ) where
   part_listed : (sep : ℕ) (p : Part) → Within m p → (p ≡ Absent → ⊥) → (j : ℕ) → (part_in sep m p j ≡ Absent → ⊥) → (l : Leaf) (inner : ℕ → ℕ → List ℕ → List Leaf) (k : ℕ)
       → In l (inner (k + j) (begin (part_in sep m p j)) (part_bytes m (part_in sep m p j))) → In l (each inner k (begin p) (split sep (part_bytes m p)))
   part_listed sep p w h j g l inner k i =
-      let child = stands-there (part_in sep m p j) (within_in sep m p j w) g in
+      let child = stands_there (part_in sep m p j) (within_in sep m p j w) g in
       each_in l inner k (begin p) (split sep (part_bytes m p)) j (begin (part_in sep m p j)) (begin (part_in sep m p j) + length (part_bytes m (part_in sep m p j)))
-      (sym (part_standing m sep (stands-there p w h) j) ∙ child.place)
+      (sym (part_standing m sep (stands_there p w h) j) ∙ child.place)
       (subst (λ (b : List ℕ). In l (inner (k + j) (begin (part_in sep m p j)) b)) (part_in_bytes sep m p j w) i)
 
   above_in : (sep : ℕ) (p : Part) (j : ℕ) → (part_in sep m p j ≡ Absent → ⊥) → p ≡ Absent → ⊥
-  above_in sep p j g q = g (in-absent sep m p j q)
+  above_in sep p j g q = g (in_absent sep m p j q)
 
   above : (sep : ℕ) (p : Part) (k : ℕ) → (below sep m p k ≡ Absent → ⊥) → p ≡ Absent → ⊥
   unfolding below
@@ -95,9 +95,9 @@ module _ (m : List ℕ) where
   above sep p (suc k) g q = above_in sep p k g q
 
   -- the same by its number, from 1
-  level-listed : (sep : ℕ) (p : Part) → Within m p → (k : ℕ) → 1 ≤ k → (below sep m p k ≡ Absent → ⊥) → (l : Leaf) (inner : ℕ → ℕ → List ℕ → List Leaf)
+  level_listed : (sep : ℕ) (p : Part) → Within m p → (k : ℕ) → 1 ≤ k → (below sep m p k ≡ Absent → ⊥) → (l : Leaf) (inner : ℕ → ℕ → List ℕ → List Leaf)
       → In l (inner k (begin (below sep m p k)) (part_bytes m (below sep m p k))) → In l (each inner 1 (begin p) (split sep (part_bytes m p)))
-  level-listed sep p w k one g l inner i =
+  level_listed sep p w k one g l inner i =
       let q = below_split sep m p k (λ z. omega arith) in
       let n : k ≡ 1 + (k - 1) = omega arith in
       part_listed sep p w (above sep p k g) (k - 1) (λ e. g (q ∙ e)) l inner 1
@@ -123,30 +123,30 @@ module _ (m : List ℕ) (ok : reading m ≡ Passes) where
     subcomponent_part = below (get_or (delimiters_of m) 4 0) m component_part u
 
     field_within : Within m field_part
-    field_within = within_field m s (segment_at m s) f (four m ok) (within-segment m s)
+    field_within = within_field m s (segment_at m s) f (four m ok) (within_segment m s)
 
-    repetition-within : Within m repetition_part
-    repetition-within = within-below (get_or (delimiters_of m) 2 0) m field_part r field_within
+    repetition_within : Within m repetition_part
+    repetition_within = within_below (get_or (delimiters_of m) 2 0) m field_part r field_within
 
-    component-within : Within m component_part
-    component-within = within-below (get_or (delimiters_of m) 1 0) m repetition_part c repetition-within
+    component_within : Within m component_part
+    component_within = within_below (get_or (delimiters_of m) 1 0) m repetition_part c repetition_within
 
     module _ (g : subcomponent_part ≡ Absent → ⊥) where
-      component-there : component_part ≡ Absent → ⊥
-      component-there = above m (get_or (delimiters_of m) 4 0) component_part u g
+      component_there : component_part ≡ Absent → ⊥
+      component_there = above m (get_or (delimiters_of m) 4 0) component_part u g
 
-      repetition-there : repetition_part ≡ Absent → ⊥
-      repetition-there = above m (get_or (delimiters_of m) 1 0) repetition_part c component-there
+      repetition_there : repetition_part ≡ Absent → ⊥
+      repetition_there = above m (get_or (delimiters_of m) 1 0) repetition_part c component_there
 
       field_there : field_in m s (segment_at m s) f ≡ Absent → ⊥
-      field_there = above m (get_or (delimiters_of m) 2 0) field_part r repetition-there
+      field_there = above m (get_or (delimiters_of m) 2 0) field_part r repetition_there
 
       field_listed : In (leaf_at ds (addressed s f r c u) (begin subcomponent_part) (part_bytes m subcomponent_part)) (in_field ds s f (begin field_part) (part_bytes m field_part))
       unfolding in_field in_repetition in_component
       field_listed =
-          level-listed m (get_or (delimiters_of m) 2 0) field_part field_within r hr repetition-there _ (in_repetition ds s f)
-          (level-listed m (get_or (delimiters_of m) 1 0) repetition_part repetition-within c hc component-there _ (in_component ds s f r)
-          (level-listed m (get_or (delimiters_of m) 4 0) component_part component-within u hu g _ (subcomponent_leaf ds s f r c) here))
+          level_listed m (get_or (delimiters_of m) 2 0) field_part field_within r hr repetition_there _ (in_repetition ds s f)
+          (level_listed m (get_or (delimiters_of m) 1 0) repetition_part repetition_within c hc component_there _ (in_component ds s f r)
+          (level_listed m (get_or (delimiters_of m) 4 0) component_part component_within u hu g _ (subcomponent_leaf ds s f r c) here))
 
   -- ---- of a segment
 
@@ -156,20 +156,20 @@ module _ (m : List ℕ) (ok : reading m ≡ Passes) where
   message_listed : (l : Leaf) (s : ℕ) → (segment_at m s ≡ Absent → ⊥) → Held l s → In l (leaves_of m)
   unfolding leaves_of segment_at
   message_listed l s g i =
-      let h = stands-there m (segment_at m s) (within-segment m s) g in
+      let h = stands_there m (segment_at m s) (within_segment m s) g in
       let n : s ≡ 0 + s = omega arith in
       each_in l (in_segment ds) 0 0 (segments m) s (begin (segment_at m s)) (begin (segment_at m s) + length (part_bytes m (segment_at m s))) h.place
       (subst₂ (λ (x : ℕ) (b : List ℕ). In l (in_segment ds x (begin (segment_at m s)) b)) n (segment_part_bytes m (four m ok) s) i)
 
-  other-listed : (l : Leaf) (s f : ℕ) → (s ≡ 0 → ⊥) → 1 ≤ f → (field_in m s (segment_at m s) f ≡ Absent → ⊥)
+  other_listed : (l : Leaf) (s f : ℕ) → (s ≡ 0 → ⊥) → 1 ≤ f → (field_in m s (segment_at m s) f ≡ Absent → ⊥)
       → In l (in_field ds s f (begin (field_in m s (segment_at m s) f)) (part_bytes m (field_in m s (segment_at m s) f))) → Held l s
   unfolding in_segment in_part
-  other-listed l s f ne one g i =
+  other_listed l s f ne one g i =
       let q = field_other m s (segment_at m s) f ne in
       let n : f ≡ 0 + f = omega arith in
       let k : In l (in_part ds s f (begin (field_in m s (segment_at m s) f)) (part_bytes m (field_in m s (segment_at m s) f))) = rw (ne_eqb s 0 ne, ne_eqb f 0 (λ z. omega arith)) i in
       let part : In l (each (in_part ds s) 0 (begin (segment_at m s)) (split (field_separator m) (part_bytes m (segment_at m s))))
-      = part_listed m (field_separator m) (segment_at m s) (within-segment m s) (above_in m (field_separator m) (segment_at m s) f (λ e. g (q ∙ e))) f (λ e. g (q ∙ e)) l (in_part ds s) 0
+      = part_listed m (field_separator m) (segment_at m s) (within_segment m s) (above_in m (field_separator m) (segment_at m s) f (λ e. g (q ∙ e))) f (λ e. g (q ∙ e)) l (in_part ds s) 0
       (subst₂ (λ (x : ℕ) (y : Part). In l (in_part ds s x (begin y) (part_bytes m y))) n q k) in
       rw (ne_eqb s 0 ne) part
 
@@ -180,23 +180,23 @@ module _ (m : List ℕ) (ok : reading m ≡ Passes) where
   header_part l f two g i =
       let q = field_header m 0 (segment_at m 0) f refl (λ z. omega arith) in
       let n : f ≡ 1 + (f - 1) = omega arith in
-      part_listed m (field_separator m) (segment_at m 0) (within-segment m 0) (above_in m (field_separator m) (segment_at m 0) (f - 1) (λ e. g (q ∙ e))) (f - 1) (λ e. g (q ∙ e)) l (in_part ds 0) 1
+      part_listed m (field_separator m) (segment_at m 0) (within_segment m 0) (above_in m (field_separator m) (segment_at m 0) (f - 1) (λ e. g (q ∙ e))) (f - 1) (λ e. g (q ∙ e)) l (in_part ds 0) 1
       (subst₂ (λ (x : ℕ) (y : Part). In l (in_part ds 0 x (begin y) (part_bytes m y))) n q i)
 
-  header-listed : (l : Leaf) (f : ℕ) → 3 ≤ f → (field_in m 0 (segment_at m 0) f ≡ Absent → ⊥)
+  header_listed : (l : Leaf) (f : ℕ) → 3 ≤ f → (field_in m 0 (segment_at m 0) f ≡ Absent → ⊥)
       → In l (in_field ds 0 f (begin (field_in m 0 (segment_at m 0) f)) (part_bytes m (field_in m 0 (segment_at m 0) f))) → Held l 0
   unfolding in_part
-  header-listed l f three g i = header_part l f (omega arith) g (rw (ne_eqb f 1 (λ z. omega arith), ne_eqb f 2 (λ z. omega arith)) i)
+  header_listed l f three g i = header_part l f (omega arith) g (rw (ne_eqb f 1 (λ z. omega arith), ne_eqb f 2 (λ z. omega arith)) i)
 
-  separator-listed : Held (leaf_at ds (addressed 0 1 1 1 1) 3 (get_or m 3 0 ∷ [])) 0
+  separator_listed : Held (leaf_at ds (addressed 0 1 1 1 1) 3 (get_or m 3 0 ∷ [])) 0
   unfolding in_segment in_part
-  separator-listed =
+  separator_listed =
       each_in _ (in_part ds 0) 1 (begin (segment_at m 0)) (split (field_separator m) (part_bytes m (segment_at m 0))) 0 _ _
-      (standing-first (field_separator m) (begin (segment_at m 0)) (part_bytes m (segment_at m 0))) here
+      (standing_first (field_separator m) (begin (segment_at m 0)) (part_bytes m (segment_at m 0))) here
 
-  encoding-listed : (field_in m 0 (segment_at m 0) 2 ≡ Absent → ⊥) → Held (leaf_at ds (addressed 0 2 1 1 1) (begin (field_in m 0 (segment_at m 0) 2)) (part_bytes m (field_in m 0 (segment_at m 0) 2))) 0
+  encoding_listed : (field_in m 0 (segment_at m 0) 2 ≡ Absent → ⊥) → Held (leaf_at ds (addressed 0 2 1 1 1) (begin (field_in m 0 (segment_at m 0) 2)) (part_bytes m (field_in m 0 (segment_at m 0) 2))) 0
   unfolding in_part
-  encoding-listed g = header_part _ 2 (omega arith) g here
+  encoding_listed g = header_part _ 2 (omega arith) g here
 
   -- ---- of the message
 
@@ -204,38 +204,38 @@ module _ (m : List ℕ) (ok : reading m ≡ Passes) where
   abbrev Listed : Address → Type 0
   Listed a = In (leaf_at ds a (begin (element_at m a)) (part_bytes m (element_at m a))) (leaves_of m)
 
-  split-listed : (s f r c u : ℕ) → 1 ≤ f → 1 ≤ r → 1 ≤ c → 1 ≤ u → fixed s f ≡ false → (segment_at m s ≡ Absent → ⊥) → (element_at m (addressed s f r c u) ≡ Absent → ⊥) → Listed (addressed s f r c u)
+  split_listed : (s f r c u : ℕ) → 1 ≤ f → 1 ≤ r → 1 ≤ c → 1 ≤ u → fixed s f ≡ false → (segment_at m s ≡ Absent → ⊥) → (element_at m (addressed s f r c u) ≡ Absent → ⊥) → Listed (addressed s f r c u)
   unfolding subcomponent_at component_at repetition_at
-  split-listed s f r c u hf hr hc hu further stood g =
-      let q = element-split m (addressed s f r c u) further in
+  split_listed s f r c u hf hr hc hu further stood g =
+      let q = element_split m (addressed s f r c u) further in
       let k : subcomponent_at m (addressed s f r c u) ≡ Absent → ⊥ = (λ e. g (q ∙ e)) in
       subst (λ (p : Part). In (leaf_at ds (addressed s f r c u) (begin p) (part_bytes m p)) (leaves_of m)) (sym q)
       (message_listed _ s stood (held s further (field_there s f r c u hr hc hu k) (field_listed s f r c u hr hc hu k)))
     where
       held : (s : ℕ) → fixed s f ≡ false → (field_in m s (segment_at m s) f ≡ Absent → ⊥) → {l : Leaf}
           → In l (in_field ds s f (begin (field_in m s (segment_at m s) f)) (part_bytes m (field_in m s (segment_at m s) f))) → Held l s
-      held zero e there-is i = let n = leb-false f 2 e in header-listed _ f (omega arith) there-is i
-      held (suc s) e there-is i = other-listed _ (suc s) f (λ z. omega arith) hf there-is i
+      held zero e there-is i = let n = leb-false f 2 e in header_listed _ f (omega arith) there-is i
+      held (suc s) e there-is i = other_listed _ (suc s) f (λ z. omega arith) hf there-is i
 
-  separator-here : (segment_at m 0 ≡ Absent → ⊥) → Listed (addressed 0 1 1 1 1)
+  separator_here : (segment_at m 0 ≡ Absent → ⊥) → Listed (addressed 0 1 1 1 1)
   unfolding element_at unsplit field_in
-  separator-here stood = subst (λ (b : List ℕ). In (leaf_at ds (addressed 0 1 1 1 1) 3 b) (leaves_of m)) (sym (one_byte m (four m ok))) (message_listed _ 0 stood separator-listed)
+  separator_here stood = subst (λ (b : List ℕ). In (leaf_at ds (addressed 0 1 1 1 1) 3 b) (leaves_of m)) (sym (one_byte m (four m ok))) (message_listed _ 0 stood separator_listed)
 
-  encoding-here : (segment_at m 0 ≡ Absent → ⊥) → (element_at m (addressed 0 2 1 1 1) ≡ Absent → ⊥) → Listed (addressed 0 2 1 1 1)
+  encoding_here : (segment_at m 0 ≡ Absent → ⊥) → (element_at m (addressed 0 2 1 1 1) ≡ Absent → ⊥) → Listed (addressed 0 2 1 1 1)
   unfolding element_at unsplit
-  encoding-here stood g = message_listed _ 0 stood (encoding-listed g)
+  encoding_here stood g = message_listed _ 0 stood (encoding_listed g)
 
-  fixed-listed : (f r c u : ℕ) → 1 ≤ f → f ≤ 2 → 1 ≤ r → 1 ≤ c → 1 ≤ u → (segment_at m 0 ≡ Absent → ⊥) → (element_at m (addressed 0 f r c u) ≡ Absent → ⊥) → Listed (addressed 0 f r c u)
-  fixed-listed f r c u hf few hr hc hu stood g = go (leb r 1 && (leb c 1 && leb u 1)) refl
+  fixed_listed : (f r c u : ℕ) → 1 ≤ f → f ≤ 2 → 1 ≤ r → 1 ≤ c → 1 ≤ u → (segment_at m 0 ≡ Absent → ⊥) → (element_at m (addressed 0 f r c u) ≡ Absent → ⊥) → Listed (addressed 0 f r c u)
+  fixed_listed f r c u hf few hr hc hu stood g = go (leb r 1 && (leb c 1 && leb u 1)) refl
     where
       one : (f : ℕ) → 1 ≤ f → f ≤ 2 → (element_at m (addressed 0 f 1 1 1) ≡ Absent → ⊥) → Listed (addressed 0 f 1 1 1)
       one zero a b k = absurd (omega arith)
-      one (suc zero) a b k = separator-here stood
-      one (suc (suc zero)) a b k = encoding-here stood k
+      one (suc zero) a b k = separator_here stood
+      one (suc (suc zero)) a b k = encoding_here stood k
       one (suc (suc (suc f))) a b k = absurd (omega arith)
 
       go : (t : Bool) → (leb r 1 && (leb c 1 && leb u 1)) ≡ t → Listed (addressed 0 f r c u)
-      go false e = absurd (g (element-unsplit m (addressed 0 f r c u) (le-leb f 2 few) ∙ unsplit-more (field_at m (addressed 0 f r c u)) (addressed 0 f r c u) e))
+      go false e = absurd (g (element_unsplit m (addressed 0 f r c u) (le-leb f 2 few) ∙ unsplit_more (field_at m (addressed 0 f r c u)) (addressed 0 f r c u) e))
       go true e =
           let x = and_both (leb r 1) (leb c 1 && leb u 1) e in
           let y = and_both (leb c 1) (leb u 1) x.1 in
@@ -248,39 +248,39 @@ module _ (m : List ℕ) (ok : reading m ≡ Passes) where
           let same : addressed 0 f 1 1 1 ≡ addressed 0 f r c u = (λ i. addressed 0 f (er i) (ec i) (eu i)) in
           subst Listed same (one f hf few (subst (λ (a : Address). element_at m a ≡ Absent → ⊥) (sym same) g))
 
-  asked-listed : {a : Address} → Asks a → 1 ≤ a.subcomponent → (segment_at m a.segment ≡ Absent → ⊥) → (element_at m a ≡ Absent → ⊥) → Listed a
-  asked-listed (whole_field s f h) n stood g = absurd (omega arith)
-  asked-listed (whole-repetition s f r h k) n stood g = absurd (omega arith)
-  asked-listed (whole-component s f r c h k j) n stood g = absurd (omega arith)
-  asked-listed (subcomponent s f r c u hf hr hc hu) n stood g = go (fixed s f) refl
+  asked_listed : {a : Address} → Asks a → 1 ≤ a.subcomponent → (segment_at m a.segment ≡ Absent → ⊥) → (element_at m a ≡ Absent → ⊥) → Listed a
+  asked_listed (whole_field s f h) n stood g = absurd (omega arith)
+  asked_listed (whole_repetition s f r h k) n stood g = absurd (omega arith)
+  asked_listed (whole_component s f r c h k j) n stood g = absurd (omega arith)
+  asked_listed (subcomponent s f r c u hf hr hc hu) n stood g = go (fixed s f) refl
     where
       go : (t : Bool) → fixed s f ≡ t → Listed (addressed s f r c u)
-      go false e = split-listed s f r c u hf hr hc hu e stood g
+      go false e = split_listed s f r c u hf hr hc hu e stood g
       go true e =
           let x = and_both (eqb s 0) (leb f 2) e in
           let z = sym (eqb-true s 0 x.0) in
           let same : addressed 0 f r c u ≡ addressed s f r c u = ap (λ (i : ℕ). addressed i f r c u) z in
           subst Listed same
-          (fixed-listed f r c u hf (leb-true f 2 x.1) hr hc hu (subst (λ (i : ℕ). segment_at m i ≡ Absent → ⊥) (sym z) stood)
+          (fixed_listed f r c u hf (leb-true f 2 x.1) hr hc hu (subst (λ (i : ℕ). segment_at m i ≡ Absent → ⊥) (sym z) stood)
           (subst (λ (a : Address). element_at m a ≡ Absent → ⊥) (sym same) g))
 
 -- every element that is asked for down to its subcomponent, and that is there, is one of the leaves
-pub found-listed : (m : List ℕ) (a : Address) → (found m a).answer.kind ≡ None → 1 ≤ a.subcomponent → ((found m a).element.state ≡ no_part → ⊥)
+pub found_listed : (m : List ℕ) (a : Address) → (found m a).answer.kind ≡ None → 1 ≤ a.subcomponent → ((found m a).element.state ≡ no_part → ⊥)
     → In (record { address = a; element = (found m a).element }) (leaves_of m)
-found-listed m a done n here-is =
-    let x = (answered-exactly m a).0 done in
+found_listed m a done n here-is =
+    let x = (answered_exactly m a).0 done in
     let ok = x.0 in
-    let g : element_at m a ≡ Absent → ⊥ = (λ q. here-is ((absent-nowhere m a done).1 q)) in
-    let right = leaf_right m ok a _ _ x.1 n x.2 (stands-there m (element_at m a) (within-element m a (four m ok)) g) in
+    let g : element_at m a ≡ Absent → ⊥ = (λ q. here-is ((absent_nowhere m a done).1 q)) in
+    let right = leaf_right m ok a _ _ x.1 n x.2 (stands_there m (element_at m a) (within_element m a (four m ok)) g) in
     subst (λ (e : Element). In (record { address = a; element = e }) (leaves_of m)) (sym (ap (λ (y : Found). y.element) right.looked_up))
-    (asked-listed m ok x.1 n (segment-stands m a done) g)
+    (asked_listed m ok x.1 n (segment_stands m a done) g)
 
 -- the leaves of a message are exactly the elements that full addresses find
 pub leaf_exactly : (m : List ℕ) → reading m ≡ Passes → (l : Leaf) → In l (leaves_of m) ↔ FoundAt m l
-leaf_exactly m ok l = (leaf_found-at m ok l, back)
+leaf_exactly m ok l = (leaf_found_at m ok l, back)
   where
     back : FoundAt m l → In l (leaves_of m)
     back h =
         let same : (found m l.address).element ≡ l.element = ap (λ (y : Found). y.element) h.looked_up in
         subst (λ (e : Element). In (record { address = l.address; element = e }) (leaves_of m)) same
-        (found-listed m l.address (ap (λ (y : Found). y.answer.kind) h.looked_up) h.full (λ q. h.not-absent (ap (λ (e : Element). e.state) (sym same) ∙ q)))
+        (found_listed m l.address (ap (λ (y : Found). y.answer.kind) h.looked_up) h.full (λ q. h.not_absent (ap (λ (e : Element). e.state) (sym same) ∙ q)))

@@ -10,7 +10,7 @@ use lib.Dec.{ltb, eqb}
 use lib.ListN.{length}
 use Rattle.alphabet.specs.Answers.{number_of, fails_if, in_order}
 use Rattle.alphabet.specs.Limits.{id_limit}
-use Rattle.alphabet.proofs.CheckLaws.{NumberFromTo, Numbered, numbered_if, numbered-or}
+use Rattle.alphabet.proofs.CheckLaws.{NumberFromTo, Numbered, numbered_if, numbered_or}
 use Rattle.alphabet.specs.declared.answers.Check.{Check}
 use Rattle.alphabet.specs.declared.answers.Check.TheVariants.{Passes, Fails}
 use Rattle.alphabet.specs.declared.answers.Refusal.TheVariants.{None, RequiredMissing, BreaksForm, NotListed, RequiredNull, ValueWithoutType, Repeated, ValueTooLong}
@@ -36,9 +36,9 @@ abbrev AllTold : List Check → Type 0
 AllTold [] = Unit {0}
 AllTold (c ∷ later) = Told c × AllTold later
 
-order-told : (cs : List Check) → AllTold cs → Told (in_order cs)
-order-told [] p = tt
-order-told (c ∷ later) p = numbered-or 31 37 c (in_order later) p.0 (order-told later p.1)
+order_told : (cs : List Check) → AllTold cs → Told (in_order cs)
+order_told [] p = tt
+order_told (c ∷ later) p = numbered_or 31 37 c (in_order later) p.0 (order_told later p.1)
 
 form_told : (kind : Kind) (bytes : List ℕ) → Told (form_check kind bytes)
 unfolding form_check nm_check
@@ -47,30 +47,30 @@ form_told Identifier bytes = numbered_if 31 37 (ltb id_limit (length bytes)) Val
 form_told Ts bytes = numbered_if 31 37 (not (is_ts bytes)) BreaksForm 0 (omega arith, omega arith)
 form_told Si bytes = numbered_if 31 37 (not (is_si bytes)) BreaksForm 0 (omega arith, omega arith)
 form_told Nm bytes =
-    numbered-or 31 37 (fails_if (not (nm_form bytes)) BreaksForm 0) _ (numbered_if 31 37 (not (nm_form bytes)) BreaksForm 0 (omega arith, omega arith))
-    (numbered-or 31 37 (fails_if (ltb most_digits (length (nm_digits bytes))) ValueTooLong 0) Passes (numbered_if 31 37 (ltb most_digits (length (nm_digits bytes))) ValueTooLong 0 (omega arith, omega arith)) tt)
+    numbered_or 31 37 (fails_if (not (nm_form bytes)) BreaksForm 0) _ (numbered_if 31 37 (not (nm_form bytes)) BreaksForm 0 (omega arith, omega arith))
+    (numbered_or 31 37 (fails_if (ltb most_digits (length (nm_digits bytes))) ValueTooLong 0) Passes (numbered_if 31 37 (ltb most_digits (length (nm_digits bytes))) ValueTooLong 0 (omega arith, omega arith)) tt)
 form_told Dt bytes = numbered_if 31 37 (not (is_dt bytes)) BreaksForm 0 (omega arith, omega arith)
 form_told Tm bytes = numbered_if 31 37 (not (is_tm bytes)) BreaksForm 0 (omega arith, omega arith)
 form_told (OneOf values) bytes = numbered_if 31 37 (not (member bytes (values_of values))) NotListed 0 (omega arith, omega arith)
 form_told (AsField f) bytes = tt
 
-placed-told : (number : ℕ) (c : Check) → Told c → Told (placed number c)
-placed-told number Passes p = tt
-placed-told number (Fails kind place) p = p
+placed_told : (number : ℕ) (c : Check) → Told c → Told (placed number c)
+placed_told number Passes p = tt
+placed_told number (Fails kind place) p = p
 
 module _ (ds : List ℕ) where
-  repetition-told : (component : ℕ) (kind : Kind) (number : ℕ) (r : List ℕ) → Told (repetition_check ds component kind number r)
+  repetition_told : (component : ℕ) (kind : Kind) (number : ℕ) (r : List ℕ) → Told (repetition_check ds component kind number r)
   unfolding repetition_check
-  repetition-told component kind number r = at (is_present (part_state ds component r))
+  repetition_told component kind number r = at (is_present (part_state ds component r))
     where
       at : (t : Bool) → Told (cond t (placed number (form_check kind (judged_part ds component r))) Passes)
-      at true = placed-told number (form_check kind (judged_part ds component r)) (form_told kind (judged_part ds component r))
+      at true = placed_told number (form_check kind (judged_part ds component r)) (form_told kind (judged_part ds component r))
       at false = tt
 
   repetitions_told : (component : ℕ) (kind : Kind) (number : ℕ) (rs : List (List ℕ)) → AllTold (repetition_checks ds component kind number rs)
   unfolding repetition_checks
   repetitions_told component kind number [] = tt
-  repetitions_told component kind number (r ∷ rest) = (repetition-told component kind number r, repetitions_told component kind (number + 1) rest)
+  repetitions_told component kind number (r ∷ rest) = (repetition_told component kind number r, repetitions_told component kind (number + 1) rest)
 
   required_told : (required : Bool) (s : State) → Told (required_check required s)
   required_told required Absent = numbered_if 31 37 required RequiredMissing 1 (omega arith, omega arith)
@@ -81,10 +81,10 @@ module _ (ds : List ℕ) where
   row_told : (row : Row) (said : List ℕ) (rs : List (List ℕ)) → Told (row_check ds row said rs)
   unfolding row_check
   row_told row said rs =
-      numbered-or 31 37 (required_check row.required (first_state ds row.component rs)) _ (required_told row.required (first_state ds row.component rs))
-      (numbered-or 31 37 (repeated_check row.repeats rs) _ (numbered_if 31 37 (not row.repeats && ltb 1 (length rs)) Repeated 1 (omega arith, omega arith))
-      (numbered-or 31 37 (said_check ds row.kind said rs) _ (numbered_if 31 37 ((is_said row.kind && not (is_present (state_of ds said))) && some_present ds rs) ValueWithoutType 1 (omega arith, omega arith))
-      (order-told (repetition_checks ds (component_of row said) (kind_of row.kind said) 1 rs) (repetitions_told (component_of row said) (kind_of row.kind said) 1 rs))))
+      numbered_or 31 37 (required_check row.required (first_state ds row.component rs)) _ (required_told row.required (first_state ds row.component rs))
+      (numbered_or 31 37 (repeated_check row.repeats rs) _ (numbered_if 31 37 (not row.repeats && ltb 1 (length rs)) Repeated 1 (omega arith, omega arith))
+      (numbered_or 31 37 (said_check ds row.kind said rs) _ (numbered_if 31 37 ((is_said row.kind && not (is_present (state_of ds said))) && some_present ds rs) ValueWithoutType 1 (omega arith, omega arith))
+      (order_told (repetition_checks ds (component_of row said) (kind_of row.kind said) 1 rs) (repetitions_told (component_of row said) (kind_of row.kind said) 1 rs))))
 
 -- ---- faults
 
@@ -93,54 +93,54 @@ abbrev pub FaultNumbered : (first last : ℕ) → Fault → Type 0
 FaultNumbered first last Sound = Unit {0}
 FaultNumbered first last (Faulty kind segment field repetition) = NumberFromTo 31 37 kind × (first ≤ segment) × (segment < last)
 
-or-numbered : (first last : ℕ) (f g : Fault) → FaultNumbered first last f → FaultNumbered first last g → FaultNumbered first last (or_fault f g)
-or-numbered first last Sound g p q = q
-or-numbered first last (Faulty kind segment field repetition) g p q = p
+or_numbered : (first last : ℕ) (f g : Fault) → FaultNumbered first last f → FaultNumbered first last g → FaultNumbered first last (or_fault f g)
+or_numbered first last Sound g p q = q
+or_numbered first last (Faulty kind segment field repetition) g p q = p
 
 weaker : (first last : ℕ) (f : Fault) → FaultNumbered (first + 1) last f → FaultNumbered first last f
 weaker first last Sound p = tt
 weaker first last (Faulty kind segment field repetition) p = (p.0, omega (arith, p.1), p.2)
 
-located-numbered : (number last field : ℕ) (c : Check) → number < last → Told c → FaultNumbered number last (located number field c)
-located-numbered number last field Passes h p = tt
-located-numbered number last field (Fails kind place) h p = (p, omega arith, h)
+located_numbered : (number last field : ℕ) (c : Check) → number < last → Told c → FaultNumbered number last (located number field c)
+located_numbered number last field Passes h p = tt
+located_numbered number last field (Fails kind place) h p = (p, omega arith, h)
 
 module _ (m : List ℕ) where
-  row-numbered : (number last : ℕ) (part : Part) (s : List ℕ) (row : Row) → number < last → FaultNumbered number last (row_fault m number part s row)
+  row_numbered : (number last : ℕ) (part : Part) (s : List ℕ) (row : Row) → number < last → FaultNumbered number last (row_fault m number part s row)
   unfolding row_fault
-  row-numbered number last part s row h = at (eqb row.segment (name_at number s))
+  row_numbered number last part s row h = at (eqb row.segment (name_at number s))
     where
       at : (t : Bool) → FaultNumbered number last (cond t (located number row.field (row_check (delimiters_of m) row (said_in m number part row.kind) (repetitions_of m number part row.field))) Sound)
-      at true = located-numbered number last row.field (row_check (delimiters_of m) row (said_in m number part row.kind) (repetitions_of m number part row.field)) h (row_told (delimiters_of m) row (said_in m number part row.kind) (repetitions_of m number part row.field))
+      at true = located_numbered number last row.field (row_check (delimiters_of m) row (said_in m number part row.kind) (repetitions_of m number part row.field)) h (row_told (delimiters_of m) row (said_in m number part row.kind) (repetitions_of m number part row.field))
       at false = tt
 
-  rows-numbered : (number last : ℕ) (part : Part) (s : List ℕ) (rs : List Row) → number < last → FaultNumbered number last (first_fault (map (row_fault m number part s) rs))
+  rows_numbered : (number last : ℕ) (part : Part) (s : List ℕ) (rs : List Row) → number < last → FaultNumbered number last (first_fault (map (row_fault m number part s) rs))
   unfolding first_fault
-  rows-numbered number last part s [] h = tt
-  rows-numbered number last part s (row ∷ rest) h = or-numbered number last (row_fault m number part s row) _ (row-numbered number last part s row h) (rows-numbered number last part s rest h)
+  rows_numbered number last part s [] h = tt
+  rows_numbered number last part s (row ∷ rest) h = or_numbered number last (row_fault m number part s row) _ (row_numbered number last part s row h) (rows_numbered number last part s rest h)
 
-  pub segments-numbered : (rs : List Row) (number last at : ℕ) (ss : List (List ℕ)) → number + length ss ≤ last → FaultNumbered number last (first_fault (segment_faults rs m number at ss))
+  pub segments_numbered : (rs : List Row) (number last at : ℕ) (ss : List (List ℕ)) → number + length ss ≤ last → FaultNumbered number last (first_fault (segment_faults rs m number at ss))
   unfolding first_fault segment_faults
-  segments-numbered rs number last at [] h = tt
-  segments-numbered rs number last at (s ∷ rest) h =
-      or-numbered number last (segment_fault rs m number at s) _ (rows-numbered number last _ s rs (omega arith))
-      (weaker number last (first_fault (segment_faults rs m (number + 1) (at + length s + 1) rest)) (segments-numbered rs (number + 1) last (at + length s + 1) rest (omega arith)))
+  segments_numbered rs number last at [] h = tt
+  segments_numbered rs number last at (s ∷ rest) h =
+      or_numbered number last (segment_fault rs m number at s) _ (rows_numbered number last _ s rs (omega arith))
+      (weaker number last (first_fault (segment_faults rs m (number + 1) (at + length s + 1) rest)) (segments_numbered rs (number + 1) last (at + length s + 1) rest (omega arith)))
 
-  pub judging-numbered : (rs : List Row) → FaultNumbered 0 (length (segments m)) (judging rs m)
+  pub judging_numbered : (rs : List Row) → FaultNumbered 0 (length (segments m)) (judging rs m)
   unfolding judging
-  judging-numbered rs = segments-numbered rs 0 (length (segments m)) 0 (segments m) (omega arith)
+  judging_numbered rs = segments_numbered rs 0 (length (segments m)) 0 (segments m) (omega arith)
 
   -- the answer is 0, or one of 31 to 37
   pub fields_number : (rs : List Row) → (number_of (fault_answer (judging rs m)).kind ≡ 0) ⊎ NumberFromTo 31 37 (fault_answer (judging rs m)).kind
-  fields_number rs = at (judging rs m) (judging-numbered rs)
+  fields_number rs = at (judging rs m) (judging_numbered rs)
     where
       at : (f : Fault) → FaultNumbered 0 (length (segments m)) f → (number_of (fault_answer f).kind ≡ 0) ⊎ NumberFromTo 31 37 (fault_answer f).kind
       at Sound n = inl refl
       at (Faulty kind segment field repetition) n = inr n.0
 
   -- what has no number is sound
-  pub none-sound : (rs : List Row) → (fault_answer (judging rs m)).kind ≡ None → judging rs m ≡ Sound
-  none-sound rs e = at (judging rs m) (judging-numbered rs) e
+  pub none_sound : (rs : List Row) → (fault_answer (judging rs m)).kind ≡ None → judging rs m ≡ Sound
+  none_sound rs e = at (judging rs m) (judging_numbered rs) e
     where
       at : (f : Fault) → FaultNumbered 0 (length (segments m)) f → (fault_answer f).kind ≡ None → f ≡ Sound
       at Sound n q = refl

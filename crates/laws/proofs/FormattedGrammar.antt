@@ -19,32 +19,32 @@ use Rattle.escaping.specs.Escape.{escape_of}
 use Rattle.escaping.specs.Outcomes.{Outcome, text, fault}
 use Rattle.text.specs.Unescape.{plain_text, scan, unescaping}
 use Rattle.text.specs.Reads.{Reads, Refuses, unknown}
-use Rattle.text.proofs.OutcomeLaws.{unescaping-fault}
+use Rattle.text.proofs.OutcomeLaws.{unescaping_fault}
 use Rattle.format_commands.specs.Commands.{command}
 use Rattle.format_commands.specs.Items.{Item, formatted_text, items_of}
 use Rattle.formatting.specs.Sheet.{Lines, lines, none, lines_of}
 use Rattle.formatting.specs.Formatting.{formatting}
 use Rattle.laws.specs.Formats.{Asked, Formats, delimiter, null, refused, unfit, long, written}
-use Rattle.laws.proofs.Grammar.{Said, says, refuses, either, reads-scan, refuses-scan, scan-reads, scan-refuses}
-use Rattle.laws.proofs.FormattedItems.{plain-refuses}
-use Rattle.laws.proofs.FormattedOutcomes.{formatting_bad, formatting-null, formatting-fault, formatting-unfit, formatting-long, formatting-fits}
+use Rattle.laws.proofs.Grammar.{Said, says, refuses, either, reads_scan, refuses_scan, scan_reads, scan_refuses}
+use Rattle.laws.proofs.FormattedItems.{plain_refuses}
+use Rattle.laws.proofs.FormattedOutcomes.{formatting_bad, formatting_null, formatting_fault, formatting_unfit, formatting_long, formatting_fits}
 
 module _ (ds : List ℕ) (five : length ds ≡ 5) where
-  pub items-read : (s : List ℕ) (xs : List Item) → Reads formatted_text ds s xs ↔ (items_of ds s ≡ text xs)
-  items-read s xs = (reads-scan formatted_text ds five s xs, scan-reads formatted_text ds five s xs)
+  pub items_read : (s : List ℕ) (xs : List Item) → Reads formatted_text ds s xs ↔ (items_of ds s ≡ text xs)
+  items_read s xs = (reads_scan formatted_text ds five s xs, scan_reads formatted_text ds five s xs)
 
   pub items_refused : (s : List ℕ) (k : Refusal) (p : ℕ) → Refuses formatted_text ds s k p ↔ (items_of ds s ≡ fault k p)
-  items_refused s k p = (refuses-scan formatted_text ds five s k p, scan-refuses formatted_text ds five s k p)
+  items_refused s k p = (refuses_scan formatted_text ds five s k p, scan_refuses formatted_text ds five s k p)
 
   -- ---- the outcome
 
   pub formats_only : (s : List ℕ) (room : ℕ) (o : Outcome ℕ) → Formats ds s room o → formatting ds s room ≡ o
   formats_only s room o (delimiter h) = formatting_bad ds s room h
-  formats_only s room o (null h q) = formatting-null ds s room h (ap is_null q)
-  formats_only s room o (refused a k p f) = formatting-fault ds s room a.permitted (other_quotes s a.some) k p ((items_refused s k p).0 f)
-  formats_only s room o (unfit a xs m e) = formatting-unfit ds s room a.permitted (other_quotes s a.some) xs ((items-read s xs).0 m) e
-  formats_only s room o (long a xs m t e l) = formatting-long ds s room a.permitted (other_quotes s a.some) xs ((items-read s xs).0 m) t e l
-  formats_only s room o (written a xs m t e l) = formatting-fits ds s room a.permitted (other_quotes s a.some) xs ((items-read s xs).0 m) t e l
+  formats_only s room o (null h q) = formatting_null ds s room h (ap is_null q)
+  formats_only s room o (refused a k p f) = formatting_fault ds s room a.permitted (other_quotes s a.some) k p ((items_refused s k p).0 f)
+  formats_only s room o (unfit a xs m e) = formatting_unfit ds s room a.permitted (other_quotes s a.some) xs ((items_read s xs).0 m) e
+  formats_only s room o (long a xs m t e l) = formatting_long ds s room a.permitted (other_quotes s a.some) xs ((items_read s xs).0 m) t e l
+  formats_only s room o (written a xs m t e l) = formatting_fits ds s room a.permitted (other_quotes s a.some) xs ((items_read s xs).0 m) t e l
 
   pub formats : (s : List ℕ) (room : ℕ) → Formats ds s room (formatting ds s room)
   formats s room = by (ltb (first_wrong_delimiter ds) 5) refl (is_null s) refl (either formatted_text ds s)
@@ -72,11 +72,11 @@ module _ (ds : List ℕ) (five : length ds ≡ 5) where
     abbrev commanded : List ℕ
     commanded = u ++ escape_of ds ∷ (c ++ escape_of ds ∷ r)
 
-    pub command-unread : scan plain_text ds 0 0 (u ++ escape_of ds ∷ (c ++ escape_of ds ∷ r)) ≡ fault UnknownEscape (length u)
-    command-unread =
-        refuses-scan plain_text ds five commanded UnknownEscape (length u)
-        (record { front = u; rest = escape_of ds ∷ (c ++ escape_of ds ∷ r); said = t; made_of = refl; reads = m; stops = unknown c r f (plain-refuses c k); there = refl })
+    pub command_unread : scan plain_text ds 0 0 (u ++ escape_of ds ∷ (c ++ escape_of ds ∷ r)) ≡ fault UnknownEscape (length u)
+    command_unread =
+        refuses_scan plain_text ds five commanded UnknownEscape (length u)
+        (record { front = u; rest = escape_of ds ∷ (c ++ escape_of ds ∷ r); said = t; made_of = refl; reads = m; stops = unknown c r f (plain_refuses c k); there = refl })
 
     pub command_twelve : (room : ℕ) → 5 ≤ first_wrong_delimiter ds → is_null (u ++ escape_of ds ∷ (c ++ escape_of ds ∷ r)) ≡ false
         → unescaping ds (u ++ escape_of ds ∷ (c ++ escape_of ds ∷ r)) room ≡ fault UnknownEscape (length u)
-    command_twelve room h n = unescaping-fault ds commanded room h n UnknownEscape (length u) command-unread
+    command_twelve room h n = unescaping_fault ds commanded room h n UnknownEscape (length u) command_unread

@@ -13,7 +13,7 @@ use Rattle.alphabet.specs.Lists.{first, find, same}
 use Rattle.alphabet.specs.Hex.{all_hex}
 use Rattle.alphabet.specs.declared.answers.Refusal.{Refusal}
 use Rattle.alphabet.specs.declared.answers.Refusal.TheVariants.{NotAllowed, Separator, UnknownEscape, UnclosedEscape}
-use Rattle.alphabet.proofs.BoolLaws.{false-true}
+use Rattle.alphabet.proofs.BoolLaws.{false_true}
 use Rattle.escaping.specs.Escape.{escape_of}
 use Rattle.escaping.specs.Outcomes.{Outcome, text, fault}
 use Rattle.text.specs.Unescape.{known, meaning, plain_text, Step, stop, emit, sequence, step, before, after, scan}
@@ -26,43 +26,43 @@ use Rattle.format_commands.specs.Items.{Item, byte, order, formatted_text, items
 -- ---- "there every sequence below is 12"
 
 -- one letter: H and N are no letters of the table
-letter-plain : (l : ℕ) → known (l ∷ []) ≡ true → command (l ∷ []) ≡ false
+letter_plain : (l : ℕ) → known (l ∷ []) ≡ true → command (l ∷ []) ≡ false
 unfolding known command order_of same number_of signed_of digits_of numbered first
-letter-plain l e = rw (and-false (eqb l 46)) (at (eqb l 72) refl (eqb l 78) refl)
+letter_plain l e = rw (and-false (eqb l 46)) (at (eqb l 72) refl (eqb l 78) refl)
   where
     at : (t : Bool) → eqb l 72 ≡ t → (u : Bool) → eqb l 78 ≡ u → is_order (cond (t && true) Highlight (cond (u && true) Highlight Unknown)) ≡ false
-    at true p u q = false-true (sym (ap (λ (k : ℕ). known (k ∷ [])) (eqb-true l 72 p)) ∙ e)
-    at false p true q = false-true (sym (ap (λ (k : ℕ). known (k ∷ [])) (eqb-true l 78 q)) ∙ e)
+    at true p u q = false_true (sym (ap (λ (k : ℕ). known (k ∷ [])) (eqb-true l 72 p)) ∙ e)
+    at false p true q = false_true (sym (ap (λ (k : ℕ). known (k ∷ [])) (eqb-true l 78 q)) ∙ e)
     at false p false q = refl
 
 -- X and more
-numbered-plain : (a : ℕ) (r : List ℕ) (n : Number) → is_order (numbered (88 ∷ a ∷ r) n) ≡ false
+numbered_plain : (a : ℕ) (r : List ℕ) (n : Number) → is_order (numbered (88 ∷ a ∷ r) n) ≡ false
 unfolding numbered same
-numbered-plain a r Missing = refl
-numbered-plain a r (Given n) = refl
+numbered_plain a r Missing = refl
+numbered_plain a r (Given n) = refl
 
 pairs_plain : (a : ℕ) (r : List ℕ) → command (88 ∷ a ∷ r) ≡ false
 unfolding command order_of same
 pairs_plain a r = at (number_of (drop 3 (88 ∷ a ∷ r)))
   where
     at : (n : Number) → is_order (numbered (take 3 (88 ∷ a ∷ r)) n) ≡ false
-    at n = numbered-plain a (take 1 r) n
+    at n = numbered_plain a (take 1 r) n
 
-known-plain : (c : List ℕ) → known c ≡ true → command c ≡ false
+known_plain : (c : List ℕ) → known c ≡ true → command c ≡ false
 unfolding known
-known-plain [] e = false-true e
-known-plain (l ∷ []) e = letter-plain l e
-known-plain (l ∷ a ∷ r) e = at (eqb l 88) refl e
+known_plain [] e = false_true e
+known_plain (l ∷ []) e = letter_plain l e
+known_plain (l ∷ a ∷ r) e = at (eqb l 88) refl e
   where
     at : (t : Bool) → eqb l 88 ≡ t → (t && all_hex (a ∷ r)) ≡ true → command (l ∷ a ∷ r) ≡ false
     at true p q = ap (λ (k : ℕ). command (k ∷ a ∷ r)) (eqb-true l 88 p) ∙ pairs_plain a r
-    at false p q = false-true q
+    at false p q = false_true q
 
-pub plain-refuses : (c : List ℕ) → command c ≡ true → known c ≡ false
-plain-refuses c e = at (known c) refl
+pub plain_refuses : (c : List ℕ) → command c ≡ true → known c ≡ false
+plain_refuses c e = at (known c) refl
   where
     at : (t : Bool) → known c ≡ t → t ≡ false
-    at true p = false-true (sym (known-plain c p) ∙ e)
+    at true p = false_true (sym (known_plain c p) ∙ e)
     at false p = refl
 
 -- ---- the two scans side by side
@@ -86,7 +86,7 @@ steps_alike ds b r = at (eqb b (escape_of ds)) (printable b) (ltb (find b ds) 5)
     at : (t u v w x : Bool) → known c ≡ x → (y : Bool) → command c ≡ y
         → Alike (cond t (cond w (cond x (emit (meaning ds c) (n + 1)) (stop UnknownEscape)) (stop UnclosedEscape)) (cond u (cond v (stop Separator) (emit (b ∷ []) 0)) (stop NotAllowed)))
         (cond t (cond w (cond (y || x) (emit (cond y (order c ∷ []) (map byte (meaning ds c))) (n + 1)) (stop UnknownEscape)) (stop UnclosedEscape)) (cond u (cond v (stop Separator) (emit (byte b ∷ []) 0)) (stop NotAllowed)))
-    at true u v true true p true q = false-true (sym (plain-refuses c q) ∙ p)
+    at true u v true true p true q = false_true (sym (plain_refuses c q) ∙ p)
     at true u v true true p false q = says (meaning ds c) (n + 1)
     at true u v true false p y q = more _
     at true u v false x p y q = stops UnclosedEscape

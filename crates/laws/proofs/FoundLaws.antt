@@ -20,13 +20,13 @@ use Rattle.element.specs.declared.Found.{Found}
 use Rattle.element.specs.declared.address.Address.{Address}
 use Rattle.element.specs.declared.states.State.{State}
 use Rattle.element.specs.declared.states.State.TheVariants.{Absent as no_part}
-use Rattle.element.proofs.FindingLaws.{lookup_read, found-passes, shown}
-use Rattle.element.proofs.LevelLaws.{Within, between-length, within-element}
+use Rattle.element.proofs.FindingLaws.{lookup_read, found_passes, shown}
+use Rattle.element.proofs.LevelLaws.{Within, between_length, within_element}
 use Rattle.laws.specs.Elements.{levels, start_of, Past, SplitFurther}
 use Rattle.laws.specs.Means.{Means, null, empty, present}
-use Rattle.laws.proofs.Asking.{answered-exactly, lookup_passes}
+use Rattle.laws.proofs.Asking.{answered_exactly, lookup_passes}
 use Rattle.laws.proofs.ElementLaws.{state_means}
-use Rattle.laws.proofs.LevelBytes.{level-bytes, element-begins, past_exactly}
+use Rattle.laws.proofs.LevelBytes.{level_bytes, element_begins, past_exactly}
 use Rattle.laws.proofs.LevelStarts.{Begins}
 
 -- bytes that are there are not absent
@@ -39,21 +39,21 @@ module _ (m : List ℕ) (a : Address) (done : (found m a).answer.kind ≡ None) 
   pub was_read : Message m
   was_read = lookup_read m a (lookup_passes m a done)
 
-  pub segment-stands : segment_at m a.segment ≡ Absent → ⊥
-  segment-stands q =
-      let l = ((answered-exactly m a).0 done).2 in
+  pub segment_stands : segment_at m a.segment ≡ Absent → ⊥
+  segment_stands q =
+      let l = ((answered_exactly m a).0 done).2 in
       let n = segment_past m a.segment q in
       omega arith
 
   pub four_long : 4 ≤ length m
-  four_long = let n = was_read.opened.nine-bytes in omega arith
+  four_long = let n = was_read.opened.nine_bytes in omega arith
 
   pub element_is : (found m a).element ≡ element_in m (element_at m a)
   unfolding element_of
-  element_is = sym (ap (λ (f : Found). f.element) (found-passes m a Passes (sym (lookup_passes m a done)) refl))
+  element_is = sym (ap (λ (f : Found). f.element) (found_passes m a Passes (sym (lookup_passes m a done)) refl))
 
-  pub stands-within : (s e : ℕ) → element_at m a ≡ At s e → (s ≤ e) × (e ≤ length m)
-  stands-within s e q = subst (Within m) q (within-element m a four_long)
+  pub stands_within : (s e : ℕ) → element_at m a ≡ At s e → (s ≤ e) × (e ≤ length m)
+  stands_within s e q = subst (Within m) q (within_element m a four_long)
 
   pub shown_is : element_bytes m a ≡ part_bytes m (element_at m a)
   shown_is = shown m a ∙ ap (λ (x : Element). between m x.start x.end) element_is ∙ at (element_at m a)
@@ -62,8 +62,8 @@ module _ (m : List ℕ) (a : Address) (done : (found m a).answer.kind ≡ None) 
       at Absent = refl
       at (At s e) = refl
 
-  pub state-at : (s e : ℕ) → element_at m a ≡ At s e → (found m a).element.state ≡ state_of (delimiters_of m) (between m s e)
-  state-at s e q = ap (λ (x : Element). x.state) (element_is ∙ ap (element_in m) q)
+  pub state_at : (s e : ℕ) → element_at m a ≡ At s e → (found m a).element.state ≡ state_of (delimiters_of m) (between m s e)
+  state_at s e q = ap (λ (x : Element). x.state) (element_is ∙ ap (element_in m) q)
 
   pub place_at : (s e : ℕ) → element_at m a ≡ At s e → ((found m a).element.start ≡ s) × ((found m a).element.end ≡ e)
   place_at s e q =
@@ -71,42 +71,42 @@ module _ (m : List ℕ) (a : Address) (done : (found m a).answer.kind ≡ None) 
       (ap (λ (x : Element). x.start) i, ap (λ (x : Element). x.end) i)
 
   -- its state says that it is absent exactly where it stands nowhere
-  pub absent-nowhere : ((found m a).element.state ≡ no_part) ↔ (element_at m a ≡ Absent)
-  absent-nowhere = (at (element_at m a) refl, λ q. ap (λ (x : Element). x.state) (element_is ∙ ap (element_in m) q))
+  pub absent_nowhere : ((found m a).element.state ≡ no_part) ↔ (element_at m a ≡ Absent)
+  absent_nowhere = (at (element_at m a) refl, λ q. ap (λ (x : Element). x.state) (element_is ∙ ap (element_in m) q))
     where
       at : (p : Part) → element_at m a ≡ p → (found m a).element.state ≡ no_part → element_at m a ≡ Absent
       at Absent q f = q
-      at (At s e) q f = absurd (means_there (delimiters_of m) (between m s e) (state_of (delimiters_of m) (between m s e)) (state_means (delimiters_of m) (between m s e)) (sym (state-at s e q) ∙ f))
+      at (At s e) q f = absurd (means_there (delimiters_of m) (between m s e) (state_of (delimiters_of m) (between m s e)) (state_means (delimiters_of m) (between m s e)) (sym (state_at s e q) ∙ f))
 
   -- level by level, where the field is split further
-  pub bytes-by-levels : SplitFurther a → element_bytes m a ≡ levels m a
-  bytes-by-levels further = shown_is ∙ level-bytes m a four_long further
+  pub bytes_by_levels : SplitFurther a → element_bytes m a ≡ levels m a
+  bytes_by_levels further = shown_is ∙ level_bytes m a four_long further
 
-  pub absent-by-levels : SplitFurther a → ((found m a).element.state ≡ no_part) ↔ Past m a
-  absent-by-levels further =
-      let past = past_exactly m a four_long further segment-stands in
-      ((λ e. past.0 (absent-nowhere.0 e)), (λ p. absent-nowhere.1 (past.1 p)))
+  pub absent_by_levels : SplitFurther a → ((found m a).element.state ≡ no_part) ↔ Past m a
+  absent_by_levels further =
+      let past = past_exactly m a four_long further segment_stands in
+      ((λ e. past.0 (absent_nowhere.0 e)), (λ p. absent_nowhere.1 (past.1 p)))
 
-  pub state-by-levels : SplitFurther a → (Past m a → ⊥) → Means (delimiters_of m) (levels m a) (found m a).element.state
-  state-by-levels further there = at (element_at m a) refl
+  pub state_by_levels : SplitFurther a → (Past m a → ⊥) → Means (delimiters_of m) (levels m a) (found m a).element.state
+  state_by_levels further there = at (element_at m a) refl
     where
       at : (p : Part) → element_at m a ≡ p → Means (delimiters_of m) (levels m a) (found m a).element.state
-      at Absent q = absurd (there ((absent-by-levels further).0 (absent-nowhere.1 q)))
+      at Absent q = absurd (there ((absent_by_levels further).0 (absent_nowhere.1 q)))
       at (At s e) q =
-          let bytes : between m s e ≡ levels m a = ap (part_bytes m) (sym q) ∙ level-bytes m a four_long further in
-          subst₂ (Means (delimiters_of m)) bytes (sym (state-at s e q)) (state_means (delimiters_of m) (between m s e))
+          let bytes : between m s e ≡ levels m a = ap (part_bytes m) (sym q) ∙ level_bytes m a four_long further in
+          subst₂ (Means (delimiters_of m)) bytes (sym (state_at s e q)) (state_means (delimiters_of m) (between m s e))
 
-  pub place-by-levels : SplitFurther a → (Past m a → ⊥) → ((found m a).element.start ≡ start_of m a) × ((found m a).element.end ≡ start_of m a + length (levels m a))
-  place-by-levels further there = at (element_at m a) refl
+  pub place_by_levels : SplitFurther a → (Past m a → ⊥) → ((found m a).element.start ≡ start_of m a) × ((found m a).element.end ≡ start_of m a + length (levels m a))
+  place_by_levels further there = at (element_at m a) refl
     where
       at : (p : Part) → element_at m a ≡ p → ((found m a).element.start ≡ start_of m a) × ((found m a).element.end ≡ start_of m a + length (levels m a))
-      at Absent q = absurd (there ((absent-by-levels further).0 (absent-nowhere.1 q)))
+      at Absent q = absurd (there ((absent_by_levels further).0 (absent_nowhere.1 q)))
       at (At s e) q =
-          let start : s ≡ start_of m a = subst (λ (p : Part). Begins p (start_of m a)) q (element-begins m a four_long further) in
-          let w = stands-within s e q in
+          let start : s ≡ start_of m a = subst (λ (p : Part). Begins p (start_of m a)) q (element_begins m a four_long further) in
+          let w = stands_within s e q in
           let w0 = w.0 in
-          let n = between-length m s e w0 w.1 in
-          let bytes : length (between m s e) ≡ length (levels m a) = ap (λ (p : Part). length (part_bytes m p)) (sym q) ∙ ap length (level-bytes m a four_long further) in
+          let n = between_length m s e w0 w.1 in
+          let bytes : length (between m s e) ≡ length (levels m a) = ap (λ (p : Part). length (part_bytes m p)) (sym q) ∙ ap length (level_bytes m a four_long further) in
           let end : e ≡ start_of m a + length (levels m a) = omega arith in
           let place = place_at s e q in
           (place.0 ∙ start, place.1 ∙ end)

@@ -22,9 +22,9 @@ use Rattle.frames.specs.Wire.{opens, closes, frame_limit, most_dropped}
 use Rattle.frames.specs.Steps.{outside, inside, ending, skipping, skipping_end, stepped, step_outside, step_inside, step_ending, step_skipping, step_skipping_end, counted, quiet, gather, stop}
 use Rattle.frames.specs.Feeding.{stored, known}
 use Rattle.frames.specs.Runs.{Happening, frame, dropped, Runs, line}
-use Rattle.frames.specs.Wired.{Plain, none, some, or_long, broken, Place, out, opened, Wired, ended, stray, begins, whole-frame, breaks, breaks_open, again, open_body, open_end, open_long, open_long-end}
-use Rattle.frames.proofs.FeedLaws.{frame_limit_le, length-stored}
-use Rattle.frames.proofs.StepLaws.{outside-opens, outside-drops, ending-frame, ending-opens, ending-breaks, skipping-opens, skipping-closes, skipping-on, skipped_opens, skipped_on, inside-opens, inside-closes, inside-long, inside_gathers}
+use Rattle.frames.specs.Wired.{Plain, none, some, or_long, broken, Place, out, opened, Wired, ended, stray, begins, whole_frame, breaks, breaks_open, again, open_body, open_end, open_long, open_long_end}
+use Rattle.frames.proofs.FeedLaws.{frame_limit_le, length_stored}
+use Rattle.frames.proofs.StepLaws.{outside_opens, outside_drops, ending_frame, ending_opens, ending_breaks, skipping_opens, skipping_closes, skipping_on, skipped_opens, skipped_on, inside_opens, inside_closes, inside_long, inside_gathers}
 use Rattle.frames.proofs.KnownLaws.{known_test, is_outside}
 use Rattle.laws.proofs.FrameLines.{Whole, also, noted, whole}
 use Rattle.laws.proofs.FrameCuts.{Fit, runs_whole, runs_exist}
@@ -32,21 +32,21 @@ use Rattle.laws.proofs.FrameCuts.{Fit, runs_whole, runs_exist}
 -- ---- one byte of a line that is taken whole
 
 module _ (limit : ℕ) (s t : FrameState) (d : List ℕ) (b : ℕ) (l : List ℕ) where
-  whole-quiet : stepped limit s b ≡ quiet t → whole limit s d (b ∷ l) ≡ whole limit t d l
+  whole_quiet : stepped limit s b ≡ quiet t → whole limit s d (b ∷ l) ≡ whole limit t d l
   unfolding whole stored noted
-  whole-quiet e = rw e
+  whole_quiet e = rw e
 
-  whole-gather : stepped limit s b ≡ gather t → whole limit s d (b ∷ l) ≡ whole limit t (set d s.held b) l
+  whole_gather : stepped limit s b ≡ gather t → whole limit s d (b ∷ l) ≡ whole limit t (set d s.held b) l
   unfolding whole stored noted
-  whole-gather e = rw e
+  whole_gather e = rw e
 
-  whole-frames : stepped limit s b ≡ stop Frame t → whole limit s d (b ∷ l) ≡ also (frame (take s.held d)) (whole limit t d l)
+  whole_frames : stepped limit s b ≡ stop Frame t → whole limit s d (b ∷ l) ≡ also (frame (take s.held d)) (whole limit t d l)
   unfolding whole stored noted
-  whole-frames e = rw e
+  whole_frames e = rw e
 
-  whole-breaks : stepped limit s b ≡ stop Broken t → whole limit s d (b ∷ l) ≡ also broken (whole limit t d l)
+  whole_breaks : stepped limit s b ≡ stop Broken t → whole limit s d (b ∷ l) ≡ also broken (whole limit t d l)
   unfolding whole stored noted
-  whole-breaks e = rw e
+  whole_breaks e = rw e
 
   whole_long : stepped limit s b ≡ stop Long t → whole limit s d (b ∷ l) ≡ also (dropped N.FrameTooLong) (whole limit t d l)
   unfolding whole stored noted
@@ -54,25 +54,25 @@ module _ (limit : ℕ) (s t : FrameState) (d : List ℕ) (b : ℕ) (l : List ℕ
 
 -- the mode decides
 module _ (limit h n b : ℕ) where
-  by-outside : stepped limit (outside n) b ≡ step_outside n b
+  by_outside : stepped limit (outside n) b ≡ step_outside n b
   unfolding stepped
-  by-outside = refl
+  by_outside = refl
 
-  by-inside : stepped limit (inside h n) b ≡ step_inside limit h n b
+  by_inside : stepped limit (inside h n) b ≡ step_inside limit h n b
   unfolding stepped
-  by-inside = refl
+  by_inside = refl
 
-  by-ending : stepped limit (ending h n) b ≡ step_ending n b
+  by_ending : stepped limit (ending h n) b ≡ step_ending n b
   unfolding stepped
-  by-ending = refl
+  by_ending = refl
 
-  by-skipping : stepped limit (skipping n) b ≡ step_skipping n b
+  by_skipping : stepped limit (skipping n) b ≡ step_skipping n b
   unfolding stepped
-  by-skipping = refl
+  by_skipping = refl
 
-  by-skipping-end : stepped limit (skipping_end n) b ≡ step_skipping_end n b
+  by_skipping_end : stepped limit (skipping_end n) b ≡ step_skipping_end n b
   unfolding stepped
-  by-skipping-end = refl
+  by_skipping_end = refl
 
 -- ---- a body
 
@@ -82,7 +82,7 @@ module _ (limit n : ℕ) where
   body_within none h d l k = let e : h ≡ h + 0 = omega arith in ap (λ (j : ℕ). whole limit (inside j n) d l) e
   body_within (some {b} {c} p q r) h d l k =
       let e : h + 1 + length c ≡ h + suc (length c) = omega arith in
-      whole-gather limit (inside h n) (inside (h + 1) n) d b (c ++ l) (by-inside limit h n b ∙ inside_gathers limit h n b p q (omega arith))
+      whole_gather limit (inside h n) (inside (h + 1) n) d b (c ++ l) (by_inside limit h n b ∙ inside_gathers limit h n b p q (omega arith))
       ∙ body_within r (h + 1) (set d h b) l (omega arith)
       ∙ ap (λ (j : ℕ). whole limit (inside (h + 1 + length c) n) (sets (set d h b) j c) l) (add-one h)
       ∙ ap (λ (j : ℕ). whole limit (inside j n) (sets (set d h b) (suc h) c) l) e
@@ -90,7 +90,7 @@ module _ (limit n : ℕ) where
   body_skipped : {c : List ℕ} → Plain c → (d l : List ℕ) → whole limit (skipping n) d (c ++ l) ≡ whole limit (skipping n) d l
   body_skipped none d l = refl
   body_skipped (some {b} {c} p q r) d l =
-      whole-quiet limit (skipping n) (skipping n) d b (c ++ l) (by-skipping limit 0 n b ∙ skipping-on n b p q) ∙ body_skipped r d l
+      whole_quiet limit (skipping n) (skipping n) d b (c ++ l) (by_skipping limit 0 n b ∙ skipping_on n b p q) ∙ body_skipped r d l
 
 -- what a line gives from a state, over any buffer with room to the limit
 abbrev Gives : Whole → List Happening → FrameState → List ℕ → Type 0
@@ -124,12 +124,12 @@ body_over limit n (some {b} {c} p q r) h d l es cs t k j m g =
         → Gives (whole limit (inside h n) d (b ∷ (c ++ l))) (dropped N.FrameTooLong ∷ es) t (laid cs (sets d h (take (limit - h) (b ∷ c))))
     at (yes i) ih =
         subst (λ (w : Whole). Gives w (dropped N.FrameTooLong ∷ es) t (laid cs (sets d h (take (limit - h) (b ∷ c)))))
-        (sym (whole-gather limit (inside h n) (inside (h + 1) n) d b (c ++ l) (by-inside limit h n b ∙ inside_gathers limit h n b p q i)))
+        (sym (whole_gather limit (inside h n) (inside (h + 1) n) d b (c ++ l) (by_inside limit h n b ∙ inside_gathers limit h n b p q i)))
         (subst (λ (x : List ℕ). Gives (whole limit (inside (h + 1) n) (set d h b) (c ++ l)) (dropped N.FrameTooLong ∷ es) t (laid cs x)) (one_more limit h b c d i) (ih i))
     at (no i) ih =
         subst (λ (w : Whole). Gives w (dropped N.FrameTooLong ∷ es) t (laid cs (sets d h (take (limit - h) (b ∷ c)))))
         (sym
-        (whole_long limit (inside h n) (skipping n) d b (c ++ l) (by-inside limit h n b ∙ inside-long limit h n b p q (omega arith))
+        (whole_long limit (inside h n) (skipping n) d b (c ++ l) (by_inside limit h n b ∙ inside_long limit h n b p q (omega arith))
         ∙ ap (also (dropped N.FrameTooLong)) (body_skipped limit n r d l)))
         (subst (λ (x : List ℕ). Gives (also (dropped N.FrameTooLong) (whole limit (skipping n) d l)) (dropped N.FrameTooLong ∷ es) t (laid cs x)) (no_more limit h b c d (omega arith))
         (gives_also (dropped N.FrameTooLong) (whole limit (skipping n) d l) es t (laid cs d) (g d m)))
@@ -137,22 +137,22 @@ body_over limit n (some {b} {c} p q r) h d l es cs t k j m g =
 -- ---- what a byte adds
 
 module _ (limit : ℕ) (s u : FrameState) (b : ℕ) (l : List ℕ) (es : List Happening) (cs : List (List ℕ)) (t : FrameState) (g : Says limit u l es cs t) where
-  says-quiet : stepped limit s b ≡ quiet u → Says limit s (b ∷ l) es cs t
-  says-quiet e d k = subst (λ (w : Whole). Gives w es t (laid cs d)) (sym (whole-quiet limit s u d b l e)) (g d k)
+  says_quiet : stepped limit s b ≡ quiet u → Says limit s (b ∷ l) es cs t
+  says_quiet e d k = subst (λ (w : Whole). Gives w es t (laid cs d)) (sym (whole_quiet limit s u d b l e)) (g d k)
 
-  says-broken : stepped limit s b ≡ stop Broken u → Says limit s (b ∷ l) (broken ∷ es) cs t
-  says-broken e d k =
-      subst (λ (w : Whole). Gives w (broken ∷ es) t (laid cs d)) (sym (whole-breaks limit s u d b l e)) (gives_also broken (whole limit u d l) es t (laid cs d) (g d k))
+  says_broken : stepped limit s b ≡ stop Broken u → Says limit s (b ∷ l) (broken ∷ es) cs t
+  says_broken e d k =
+      subst (λ (w : Whole). Gives w (broken ∷ es) t (laid cs d)) (sym (whole_breaks limit s u d b l e)) (gives_also broken (whole limit u d l) es t (laid cs d) (g d k))
 
   -- a frame is what the front of the buffer holds
-  says-frame : (c d : List ℕ) → limit ≤ length d → take s.held d ≡ c → stepped limit s b ≡ stop Frame u → Gives (whole limit s d (b ∷ l)) (frame c ∷ es) t (laid cs d)
-  says-frame c d k f e =
-      subst (λ (w : Whole). Gives w (frame c ∷ es) t (laid cs d)) (sym (whole-frames limit s u d b l e ∙ ap (λ (x : List ℕ). also (frame x) (whole limit u d l)) f))
+  says_frame : (c d : List ℕ) → limit ≤ length d → take s.held d ≡ c → stepped limit s b ≡ stop Frame u → Gives (whole limit s d (b ∷ l)) (frame c ∷ es) t (laid cs d)
+  says_frame c d k f e =
+      subst (λ (w : Whole). Gives w (frame c ∷ es) t (laid cs d)) (sym (whole_frames limit s u d b l e ∙ ap (λ (x : List ℕ). also (frame x) (whole limit u d l)) f))
       (gives_also (frame c) (whole limit u d l) es t (laid cs d) (g d k))
 
-says-nil : (limit : ℕ) (s : FrameState) → Says limit s [] [] [] s
+says_nil : (limit : ℕ) (s : FrameState) → Says limit s [] [] [] s
 unfolding whole laid
-says-nil limit s d k = (refl, refl, refl)
+says_nil limit s d k = (refl, refl, refl)
 
 -- ---- a body and what follows it
 
@@ -218,77 +218,77 @@ not_11_13 : ◌≡◌ {A = ℕ} 11 13 → ⊥
 not_11_13 z = omega arith
 
 module _ (limit h n : ℕ) (l : List ℕ) (es : List Happening) (cs : List (List ℕ)) (t : FrameState) where
-  closes-inside : Says limit (ending h n) l es cs t → Says limit (inside h n) (28 ∷ l) es cs t
-  closes-inside g = says-quiet limit (inside h n) (ending h n) 28 l es cs t g (by-inside limit h n 28 ∙ inside-closes limit h n 28 not_28_11 refl)
+  closes_inside : Says limit (ending h n) l es cs t → Says limit (inside h n) (28 ∷ l) es cs t
+  closes_inside g = says_quiet limit (inside h n) (ending h n) 28 l es cs t g (by_inside limit h n 28 ∙ inside_closes limit h n 28 not_28_11 refl)
 
-  closes-skipping : Says limit (skipping_end n) l es cs t → Says limit (skipping n) (28 ∷ l) es cs t
-  closes-skipping g = says-quiet limit (skipping n) (skipping_end n) 28 l es cs t g (by-skipping limit 0 n 28 ∙ skipping-closes n 28 not_28_11 refl)
+  closes_skipping : Says limit (skipping_end n) l es cs t → Says limit (skipping n) (28 ∷ l) es cs t
+  closes_skipping g = says_quiet limit (skipping n) (skipping_end n) 28 l es cs t g (by_skipping limit 0 n 28 ∙ skipping_closes n 28 not_28_11 refl)
 
   opens_skipped : Says limit (inside 0 n) l es cs t → Says limit (skipping_end n) (11 ∷ l) es cs t
-  opens_skipped g = says-quiet limit (skipping_end n) (inside 0 n) 11 l es cs t g (by-skipping-end limit 0 n 11 ∙ skipped_opens n 11 refl)
+  opens_skipped g = says_quiet limit (skipping_end n) (inside 0 n) 11 l es cs t g (by_skipping_end limit 0 n 11 ∙ skipped_opens n 11 refl)
 
   ends_skipped : (b : ℕ) → (b ≡ 11 → ⊥) → Says limit (outside n) l es cs t → Says limit (skipping_end n) (b ∷ l) es cs t
-  ends_skipped b f g = says-quiet limit (skipping_end n) (outside n) b l es cs t g (by-skipping-end limit 0 n b ∙ skipped_on n b f)
+  ends_skipped b f g = says_quiet limit (skipping_end n) (outside n) b l es cs t g (by_skipping_end limit 0 n b ∙ skipped_on n b f)
 
 pub wired_says : {limit n : ℕ} {p : Place} {l : List ℕ} {es : List Happening} {cs : List (List ℕ)} {t : FrameState} → Wired limit p n l es cs t → Says limit (at_place p n) l es cs t
-wired_says {limit} (ended {n}) = says-nil limit (outside n)
+wired_says {limit} (ended {n}) = says_nil limit (outside n)
 wired_says {limit} (stray {n} {b} {l} {es} {cs} {t} f w) =
-    says-quiet limit (outside n) (outside (counted n)) b l es cs t (wired_says w) (by-outside limit 0 n b ∙ outside-drops n b f)
+    says_quiet limit (outside n) (outside (counted n)) b l es cs t (wired_says w) (by_outside limit 0 n b ∙ outside_drops n b f)
 wired_says {limit} (begins {n} {l} {es} {cs} {t} w) =
-    says-quiet limit (outside n) (inside 0 n) 11 l es cs t (wired_says w) (by-outside limit 0 n 11 ∙ outside-opens n 11 refl)
-wired_says {limit} (whole-frame {n} {c} {l} {es} {cs} {t} p w) =
+    says_quiet limit (outside n) (inside 0 n) 11 l es cs t (wired_says w) (by_outside limit 0 n 11 ∙ outside_opens n 11 refl)
+wired_says {limit} (whole_frame {n} {c} {l} {es} {cs} {t} p w) =
     body_says limit n c (28 ∷ 13 ∷ l) p (frame c) es cs t
     (λ d m f. subst (λ (v : Whole). Gives v (frame c ∷ es) t (laid cs d))
-    (sym (whole-quiet limit (inside (length c) n) (ending (length c) n) d 28 (13 ∷ l) (by-inside limit (length c) n 28 ∙ inside-closes limit (length c) n 28 not_28_11 refl)))
-    (says-frame limit (ending (length c) n) (outside n) 13 l es cs t (wired_says w) c d m f (by-ending limit (length c) n 13 ∙ ending-frame n 13 refl)))
-    (closes-skipping limit 0 n (13 ∷ l) es cs t (ends_skipped limit 0 n l es cs t 13 not_13_11 (wired_says w)))
+    (sym (whole_quiet limit (inside (length c) n) (ending (length c) n) d 28 (13 ∷ l) (by_inside limit (length c) n 28 ∙ inside_closes limit (length c) n 28 not_28_11 refl)))
+    (says_frame limit (ending (length c) n) (outside n) 13 l es cs t (wired_says w) c d m f (by_ending limit (length c) n 13 ∙ ending_frame n 13 refl)))
+    (closes_skipping limit 0 n (13 ∷ l) es cs t (ends_skipped limit 0 n l es cs t 13 not_13_11 (wired_says w)))
 wired_says {limit} (breaks {n} {b} {c} {l} {es} {cs} {t} p f g w) =
     body_says limit n c (28 ∷ b ∷ l) p broken es cs t
-    (λ d m k. closes-inside limit (length c) n (b ∷ l) (broken ∷ es) cs t
-    (says-broken limit (ending (length c) n) (outside n) b l es cs t (wired_says w) (by-ending limit (length c) n b ∙ ending-breaks n b f g)) d m)
-    (closes-skipping limit 0 n (b ∷ l) es cs t (ends_skipped limit 0 n l es cs t b g (wired_says w)))
+    (λ d m k. closes_inside limit (length c) n (b ∷ l) (broken ∷ es) cs t
+    (says_broken limit (ending (length c) n) (outside n) b l es cs t (wired_says w) (by_ending limit (length c) n b ∙ ending_breaks n b f g)) d m)
+    (closes_skipping limit 0 n (b ∷ l) es cs t (ends_skipped limit 0 n l es cs t b g (wired_says w)))
 wired_says {limit} (breaks_open {n} {c} {l} {es} {cs} {t} p w) =
     body_says limit n c (28 ∷ 11 ∷ l) p broken es cs t
-    (λ d m k. closes-inside limit (length c) n (11 ∷ l) (broken ∷ es) cs t
-    (says-broken limit (ending (length c) n) (inside 0 n) 11 l es cs t (wired_says w) (by-ending limit (length c) n 11 ∙ ending-opens n 11 not_11_13 refl)) d m)
-    (closes-skipping limit 0 n (11 ∷ l) es cs t (opens_skipped limit 0 n l es cs t (wired_says w)))
+    (λ d m k. closes_inside limit (length c) n (11 ∷ l) (broken ∷ es) cs t
+    (says_broken limit (ending (length c) n) (inside 0 n) 11 l es cs t (wired_says w) (by_ending limit (length c) n 11 ∙ ending_opens n 11 not_11_13 refl)) d m)
+    (closes_skipping limit 0 n (11 ∷ l) es cs t (opens_skipped limit 0 n l es cs t (wired_says w)))
 wired_says {limit} (again {n} {c} {l} {es} {cs} {t} p w) =
     body_says limit n c (11 ∷ l) p broken es cs t
-    (λ d m k. says-broken limit (inside (length c) n) (inside 0 n) 11 l es cs t (wired_says w) (by-inside limit (length c) n 11 ∙ inside-opens limit (length c) n 11 refl) d m)
-    (says-quiet limit (skipping n) (inside 0 n) 11 l es cs t (wired_says w) (by-skipping limit 0 n 11 ∙ skipping-opens n 11 refl))
+    (λ d m k. says_broken limit (inside (length c) n) (inside 0 n) 11 l es cs t (wired_says w) (by_inside limit (length c) n 11 ∙ inside_opens limit (length c) n 11 refl) d m)
+    (says_quiet limit (skipping n) (inside 0 n) 11 l es cs t (wired_says w) (by_skipping limit 0 n 11 ∙ skipping_opens n 11 refl))
 wired_says {limit} (open_body {n} {c} p k) =
     subst (λ (x : List ℕ). Says limit (inside 0 n) x [] (take limit c ∷ []) (inside (length c) n)) (append-nil c)
-    (body_fits limit n c [] p [] [] (inside (length c) n) k (λ d m f. says-nil limit (inside (length c) n) d m))
+    (body_fits limit n c [] p [] [] (inside (length c) n) k (λ d m f. says_nil limit (inside (length c) n) d m))
 wired_says {limit} (open_end {n} {c} p k) =
     body_fits limit n c (28 ∷ []) p [] [] (ending (length c) n) k
-    (λ d m f. closes-inside limit (length c) n [] [] [] (ending (length c) n) (says-nil limit (ending (length c) n)) d m)
+    (λ d m f. closes_inside limit (length c) n [] [] [] (ending (length c) n) (says_nil limit (ending (length c) n)) d m)
 wired_says {limit} (open_long {n} {c} p k) =
     subst (λ (x : List ℕ). Says limit (inside 0 n) x (dropped N.FrameTooLong ∷ []) (take limit c ∷ []) (skipping n)) (append-nil c)
-    (body_long limit n c [] p [] [] (skipping n) k (says-nil limit (skipping n)))
-wired_says {limit} (open_long-end {n} {c} p k) =
-    body_long limit n c (28 ∷ []) p [] [] (skipping_end n) k (closes-skipping limit 0 n [] [] [] (skipping_end n) (says-nil limit (skipping_end n)))
+    (body_long limit n c [] p [] [] (skipping n) k (says_nil limit (skipping n)))
+wired_says {limit} (open_long_end {n} {c} p k) =
+    body_long limit n c (28 ∷ []) p [] [] (skipping_end n) k (closes_skipping limit 0 n [] [] [] (skipping_end n) (says_nil limit (skipping_end n)))
 
 -- ---- every line says something
 
 -- a line up to its first byte that opens or closes a frame
 data Cut : List ℕ → Type 0 where
-  no-mark : {c : List ℕ} → Plain c → Cut c
-  at-opens : {c : List ℕ} (l : List ℕ) → Plain c → Cut (c ++ 11 ∷ l)
-  at-closes : {c : List ℕ} (l : List ℕ) → Plain c → Cut (c ++ 28 ∷ l)
+  no_mark : {c : List ℕ} → Plain c → Cut c
+  at_opens : {c : List ℕ} (l : List ℕ) → Plain c → Cut (c ++ 11 ∷ l)
+  at_closes : {c : List ℕ} (l : List ℕ) → Plain c → Cut (c ++ 28 ∷ l)
 
-cut-more : (b : ℕ) {l : List ℕ} → (b ≡ 11 → ⊥) → (b ≡ 28 → ⊥) → Cut l → Cut (b ∷ l)
-cut-more b f g (no-mark p) = no-mark (some f g p)
-cut-more b f g (at-opens l p) = at-opens l (some f g p)
-cut-more b f g (at-closes l p) = at-closes l (some f g p)
+cut_more : (b : ℕ) {l : List ℕ} → (b ≡ 11 → ⊥) → (b ≡ 28 → ⊥) → Cut l → Cut (b ∷ l)
+cut_more b f g (no_mark p) = no_mark (some f g p)
+cut_more b f g (at_opens l p) = at_opens l (some f g p)
+cut_more b f g (at_closes l p) = at_closes l (some f g p)
 
 cut_line : (l : List ℕ) → Cut l
-cut_line [] = no-mark none
+cut_line [] = no_mark none
 cut_line (b ∷ l) = at (eqb b 11) (eqb b 28) refl refl (cut_line l)
   where
     at : (x y : Bool) → eqb b 11 ≡ x → eqb b 28 ≡ y → Cut l → Cut (b ∷ l)
-    at true y e f k = subst (λ (a : ℕ). Cut (a ∷ l)) (sym (eqb-true b 11 e)) (at-opens l none)
-    at false true e f k = subst (λ (a : ℕ). Cut (a ∷ l)) (sym (eqb-true b 28 f)) (at-closes l none)
-    at false false e f k = cut-more b (eqb-false b 11 e) (eqb-false b 28 f) k
+    at true y e f k = subst (λ (a : ℕ). Cut (a ∷ l)) (sym (eqb-true b 11 e)) (at_opens l none)
+    at false true e f k = subst (λ (a : ℕ). Cut (a ∷ l)) (sym (eqb-true b 28 f)) (at_closes l none)
+    at false false e f k = cut_more b (eqb-false b 11 e) (eqb-false b 28 f) k
 
 record Some (limit : ℕ) (p : Place) (n : ℕ) (l : List ℕ) : Type 0 where
   happenings : List Happening
@@ -304,14 +304,14 @@ behind_close : (limit m n : ℕ) (c l : List ℕ) → Plain c → Shorter limit 
 behind_close limit m n c [] p ih k = at (dec_lt limit (length c))
   where
     at : Dec (limit < length c) → Some limit opened n (c ++ 28 ∷ [])
-    at (yes j) = record { happenings = _; bodies = _; state = _; derivation = open_long-end p j }
+    at (yes j) = record { happenings = _; bodies = _; state = _; derivation = open_long_end p j }
     at (no j) = record { happenings = _; bodies = _; state = _; derivation = open_end p (omega arith) }
 behind_close limit m n c (b ∷ l) p ih k = at (eqb b 13) (eqb b 11) refl refl
   where
     at : (x y : Bool) → eqb b 13 ≡ x → eqb b 11 ≡ y → Some limit opened n (c ++ 28 ∷ b ∷ l)
     at true y e f =
         let r = ih out n l (omega arith) in
-        subst (λ (a : ℕ). Some limit opened n (c ++ 28 ∷ a ∷ l)) (sym (eqb-true b 13 e)) (record { happenings = _; bodies = _; state = _; derivation = whole-frame p r.derivation })
+        subst (λ (a : ℕ). Some limit opened n (c ++ 28 ∷ a ∷ l)) (sym (eqb-true b 13 e)) (record { happenings = _; bodies = _; state = _; derivation = whole_frame p r.derivation })
     at false true e f =
         let r = ih opened n l (omega arith) in
         subst (λ (a : ℕ). Some limit opened n (c ++ 28 ∷ a ∷ l)) (sym (eqb-true b 11 f)) (record { happenings = _; bodies = _; state = _; derivation = breaks_open p r.derivation })
@@ -320,15 +320,15 @@ behind_close limit m n c (b ∷ l) p ih k = at (eqb b 13) (eqb b 11) refl refl
         record { happenings = _; bodies = _; state = _; derivation = breaks p (eqb-false b 13 e) (eqb-false b 11 f) r.derivation }
 
 behind_open : (limit m n : ℕ) {l : List ℕ} → Cut l → Shorter limit m → length l < suc m → Some limit opened n l
-behind_open limit m n (no-mark {c} p) ih k = at (dec_lt limit (length c))
+behind_open limit m n (no_mark {c} p) ih k = at (dec_lt limit (length c))
   where
     at : Dec (limit < length c) → Some limit opened n c
     at (yes j) = record { happenings = _; bodies = _; state = _; derivation = open_long p j }
     at (no j) = record { happenings = _; bodies = _; state = _; derivation = open_body p (omega arith) }
-behind_open limit m n (at-opens {c} l p) ih k =
+behind_open limit m n (at_opens {c} l p) ih k =
     let r = ih opened n l (omega (arith, length-append c (11 ∷ l))) in
     record { happenings = _; bodies = _; state = _; derivation = again p r.derivation }
-behind_open limit m n (at-closes {c} l p) ih k = behind_close limit m n c l p ih (omega (arith, length-append c (28 ∷ l)))
+behind_open limit m n (at_closes {c} l p) ih k = behind_close limit m n c l p ih (omega (arith, length-append c (28 ∷ l)))
 
 from_out : (limit m n : ℕ) (l : List ℕ) → Shorter limit m → length l < suc m → Some limit out n l
 from_out limit m n [] ih k = record { happenings = _; bodies = _; state = _; derivation = ended }
@@ -347,15 +347,15 @@ shorter limit (suc m) opened n l k = behind_open limit m n (cut_line l) (shorter
 
 -- ---- both ways
 
-out-fits : (d : List ℕ) (n : ℕ) → n ≤ most_dropped → Fit (length d) (outside n) d
-out-fits d n k = record { size = refl; can = known_test (length d) (is_outside n k) }
+out_fits : (d : List ℕ) (n : ℕ) → n ≤ most_dropped → Fit (length d) (outside n) d
+out_fits d n k = record { size = refl; can = known_test (length d) (is_outside n k) }
 
 module _ (d : List ℕ) (ps : List (List ℕ)) (n : ℕ) (k : n ≤ most_dropped) where
   -- what the grammar says of the bytes, some run gives, however they are cut, and leaves its bodies in the buffer
   pub wired_runs : (es : List Happening) (cs : List (List ℕ)) (t : FrameState) → Wired (frame_limit (length d)) out n (line ps) es cs t → Runs (outside n) d ps es t (laid cs d)
   wired_runs es cs t w =
-      let r = runs_exist (length d) ps (outside n) d (out-fits d n k) in
-      let v = runs_whole (length d) (out-fits d n k) r.run in
+      let r = runs_exist (length d) ps (outside n) d (out_fits d n k) in
+      let v = runs_whole (length d) (out_fits d n k) r.run in
       let g = wired_says w d (frame_limit_le (length d)) in
       let e : r.happenings ≡ es = ap (λ (x : Whole). x.happenings) (sym v) ∙ g.0 in
       let f : r.state ≡ t = ap (λ (x : Whole). x.state) (sym v) ∙ g.1 in
@@ -367,7 +367,7 @@ module _ (d : List ℕ) (ps : List (List ℕ)) (n : ℕ) (k : n ≤ most_dropped
   pub runs_wired : (es : List Happening) (t : FrameState) (x : List ℕ) → Runs (outside n) d ps es t x → Said (frame_limit (length d)) n (line ps) es t d x
   runs_wired es t x r =
       let s = shorter (frame_limit (length d)) (suc (length (line ps))) out n (line ps) (omega arith) in
-      let v = runs_whole (length d) (out-fits d n k) r in
+      let v = runs_whole (length d) (out_fits d n k) r in
       let g = wired_says s.derivation d (frame_limit_le (length d)) in
       let e : s.happenings ≡ es = sym g.0 ∙ ap (λ (w : Whole). w.happenings) v in
       let f : s.state ≡ t = sym g.1 ∙ ap (λ (w : Whole). w.state) v in

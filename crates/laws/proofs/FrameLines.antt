@@ -6,7 +6,7 @@ use Prim.Native.Nat.{ℕ, zero, suc, ◌+◌, ◌≤◌, ◌<◌}
 use native.Mathlib.Omega.{arith}
 use native.Mathlib.Numerals.{add-one}
 use lib.ListN.{length, take, drop}
-use Rattle.alphabet.proofs.BoolLaws.{false-true}
+use Rattle.alphabet.proofs.BoolLaws.{false_true}
 use Rattle.frames.specs.declared.state.FrameState.{FrameState}
 use Rattle.frames.specs.declared.steps.Event.{Event}
 use Rattle.frames.specs.declared.steps.Event.TheVariants.{Quiet, Frame, Broken, Long}
@@ -15,7 +15,7 @@ use Rattle.alphabet.specs.declared.answers.Refusal.TheVariants as N
 use Rattle.frames.specs.Steps.{stepped}
 use Rattle.frames.specs.Feeding.{Feeding, feeding, told, stored, stopping}
 use Rattle.frames.specs.Runs.{Happening, frame, dropped}
-use Rattle.frames.proofs.FeedLaws.{length-stored}
+use Rattle.frames.proofs.FeedLaws.{length_stored}
 
 -- what a line gives, taken whole
 pub record Whole : Type 0 where
@@ -40,12 +40,12 @@ whole limit s d (b ∷ bytes) =
     (whole limit (stepped limit s b).after (stored d s.held b (stepped limit s b).gathers) bytes)
 
 -- an event that does not stop the reader is none
-quiet-noted : (e : Event) (h : ℕ) (d : List ℕ) (w : Whole) → stopping e ≡ false → noted e h d w ≡ w
+quiet_noted : (e : Event) (h : ℕ) (d : List ℕ) (w : Whole) → stopping e ≡ false → noted e h d w ≡ w
 unfolding noted stopping
-quiet-noted Quiet h d w f = refl
-quiet-noted Frame h d w f = false-true (sym f)
-quiet-noted Broken h d w f = false-true (sym f)
-quiet-noted Long h d w f = false-true (sym f)
+quiet_noted Quiet h d w f = refl
+quiet_noted Frame h d w f = false_true (sym f)
+quiet_noted Broken h d w f = false_true (sym f)
+quiet_noted Long h d w f = false_true (sym f)
 
 -- how a piece went that was fed: to its end, or to a stop behind n of its bytes
 pub data Went (limit : ℕ) (s : FrameState) (d : List ℕ) (used : ℕ) (p : List ℕ) (f : Feeding) : Type 0 where
@@ -60,10 +60,10 @@ later : (limit : ℕ) (s : FrameState) (d : List ℕ) (used b : ℕ) (p : List �
 unfolding whole
 later limit s d used b p f e (went_on t u w) =
     let n : used + 1 + length p ≡ used + length (b ∷ p) = omega arith in
-    went_on t (u ∙ ap (λ (k : ℕ). told Quiet 0 k t) n) (λ r. quiet-noted (stepped limit s b).event s.held _ _ e ∙ w r)
+    went_on t (u ∙ ap (λ (k : ℕ). told Quiet 0 k t) n) (λ r. quiet_noted (stepped limit s b).event s.held _ _ e ∙ w r)
 later limit s d used b p f e (went_stop v h n t x u l m w) =
     let k : used + 1 + n ≡ used + suc n = omega arith in
-    went_stop v h (suc n) t x (u ∙ ap (λ (j : ℕ). told v h j t) k) (omega arith) (omega arith) (λ r. quiet-noted (stepped limit s b).event s.held _ _ e ∙ w r)
+    went_stop v h (suc n) t x (u ∙ ap (λ (j : ℕ). told v h j t) k) (omega arith) (omega arith) (λ r. quiet_noted (stepped limit s b).event s.held _ _ e ∙ w r)
 
 pub went : (limit : ℕ) (s : FrameState) (d : List ℕ) (used : ℕ) (p : List ℕ) → Went limit s d used p (feeding limit s d used p)
 unfolding feeding whole

@@ -17,17 +17,17 @@ use Rattle.frames.specs.Steps.{stepped}
 use Rattle.frames.specs.Feeding.{Feeding, stored, stopping, told, feeding, known, foreign, fed}
 use Rattle.frames.specs.Runs.{Happening, Runs, line}
 use Rattle.frames.specs.Gathered.{Gathered, gathered, last_at, laid, last_of}
-use Rattle.frames.proofs.FeedLaws.{frame_limit_le, gathers_below, length-stored}
-use Rattle.frames.proofs.KnownLaws.{feeding-length}
+use Rattle.frames.proofs.FeedLaws.{frame_limit_le, gathers_below, length_stored}
+use Rattle.frames.proofs.KnownLaws.{feeding_length}
 use Rattle.laws.proofs.FrameLines.{Whole, noted, whole}
 use Rattle.laws.proofs.FrameCuts.{Fit, runs_whole, gave, told_used}
 
-noted-left : (e : Event) (h : ℕ) (d : List ℕ) (w : Whole) → (noted e h d w).left ≡ w.left
+noted_left : (e : Event) (h : ℕ) (d : List ℕ) (w : Whole) → (noted e h d w).left ≡ w.left
 unfolding noted
-noted-left Quiet h d w = refl
-noted-left Frame h d w = refl
-noted-left Broken h d w = refl
-noted-left Long h d w = refl
+noted_left Quiet h d w = refl
+noted_left Frame h d w = refl
+noted_left Broken h d w = refl
+noted_left Long h d w = refl
 
 set_holds : (d : List ℕ) (h b i : ℕ) → h < length d → get_or (set d h b) i 0 ≡ cond (eqb i h) b (get_or d i 0)
 set_holds d h b i k = at (eqb i h) refl
@@ -36,12 +36,12 @@ set_holds d h b i k = at (eqb i h) refl
     at true e = ap (λ (j : ℕ). get_or (set d h b) j 0) (eqb-true i h e) ∙ get_or-set_same d h b 0 k
     at false e = get_or-set_other d h i b 0 (eqb-false i h e)
 
-whole-holds : (limit : ℕ) (s : FrameState) (d l : List ℕ) (i : ℕ) → limit ≤ length d → get_or (whole limit s d l).left i 0 ≡ last_at i (gathered limit s l) (get_or d i 0)
+whole_holds : (limit : ℕ) (s : FrameState) (d l : List ℕ) (i : ℕ) → limit ≤ length d → get_or (whole limit s d l).left i 0 ≡ last_at i (gathered limit s l) (get_or d i 0)
 unfolding whole gathered last_at stored
-whole-holds limit s d [] i k = refl
-whole-holds limit s d (b ∷ l) i k =
-    ap (λ (x : List ℕ). get_or x i 0) (noted-left (stepped limit s b).event s.held _ _)
-    ∙ at (stepped limit s b).gathers refl (whole-holds limit (stepped limit s b).after (stored d s.held b (stepped limit s b).gathers) l i (rw (length-stored d s.held b (stepped limit s b).gathers) k))
+whole_holds limit s d [] i k = refl
+whole_holds limit s d (b ∷ l) i k =
+    ap (λ (x : List ℕ). get_or x i 0) (noted_left (stepped limit s b).event s.held _ _)
+    ∙ at (stepped limit s b).gathers refl (whole_holds limit (stepped limit s b).after (stored d s.held b (stepped limit s b).gathers) l i (rw (length_stored d s.held b (stepped limit s b).gathers) k))
   where
     at : (t : Bool) → (stepped limit s b).gathers ≡ t
         → get_or (whole limit (stepped limit s b).after (stored d s.held b t) l).left i 0 ≡ last_at i (gathered limit (stepped limit s b).after l) (get_or (stored d s.held b t) i 0)
@@ -51,19 +51,19 @@ whole-holds limit s d (b ∷ l) i k =
     at false e ih = ih
 
 -- "each place of the lent buffer holds the byte last gathered there, or what it held at first"
-pub place-holds : {s t : FrameState} {d x : List ℕ} {ps : List (List ℕ)} {es : List Happening} → known (length d) s ≡ true → Runs s d ps es t x
+pub place_holds : {s t : FrameState} {d x : List ℕ} {ps : List (List ℕ)} {es : List Happening} → known (length d) s ≡ true → Runs s d ps es t x
     → (i : ℕ) → get_or x i 0 ≡ last_at i (gathered (frame_limit (length d)) s (line ps)) (get_or d i 0)
-place-holds {s} {t} {d} {x} {ps} {es} k r i =
+place_holds {s} {t} {d} {x} {ps} {es} k r i =
     ap (λ (w : Whole). get_or w.left i 0) (sym (runs_whole (length d) (record { size = refl; can = k }) r))
-    ∙ whole-holds (frame_limit (length d)) s d (line ps) i (frame_limit_le (length d))
+    ∙ whole_holds (frame_limit (length d)) s d (line ps) i (frame_limit_le (length d))
 
 whole_length : (limit : ℕ) (s : FrameState) (d l : List ℕ) → length (whole limit s d l).left ≡ length d
 unfolding whole
 whole_length limit s d [] = refl
 whole_length limit s d (b ∷ l) =
-    ap length (noted-left (stepped limit s b).event s.held _ _)
+    ap length (noted_left (stepped limit s b).event s.held _ _)
     ∙ whole_length limit (stepped limit s b).after (stored d s.held b (stepped limit s b).gathers) l
-    ∙ length-stored d s.held b (stepped limit s b).gathers
+    ∙ length_stored d s.held b (stepped limit s b).gathers
 
 -- and there are as many places as before
 pub places_stay : {s t : FrameState} {d x : List ℕ} {ps : List (List ℕ)} {es : List Happening} → known (length d) s ≡ true → Runs s d ps es t x → length x ≡ length d
@@ -103,19 +103,19 @@ gathered_next limit s d b l i k = at (stepped limit s b).gathers refl
     at true e = ap (last_at i (gathered limit (stepped limit s b).after l)) (sym (set_holds d s.held b i (omega (arith, gathers_below limit s b e))))
     at false e = refl
 
-feeding-holds : (limit : ℕ) (s : FrameState) (d : List ℕ) (used : ℕ) (p : List ℕ) (i n : ℕ) → limit ≤ length d → (feeding limit s d used p).said.used ≡ used + n
+feeding_holds : (limit : ℕ) (s : FrameState) (d : List ℕ) (used : ℕ) (p : List ℕ) (i n : ℕ) → limit ≤ length d → (feeding limit s d used p).said.used ≡ used + n
     → get_or (feeding limit s d used p).left i 0 ≡ last_at i (gathered limit s (take n p)) (get_or d i 0)
 unfolding feeding gathered last_at
-feeding-holds limit s d used [] i zero k e = refl
-feeding-holds limit s d used [] i (suc n) k e = refl
-feeding-holds limit s d used (b ∷ p) i zero k e = absurd (at (stopping (stepped limit s b).event) e)
+feeding_holds limit s d used [] i zero k e = refl
+feeding_holds limit s d used [] i (suc n) k e = refl
+feeding_holds limit s d used (b ∷ p) i zero k e = absurd (at (stopping (stepped limit s b).event) e)
   where
     at : (t : Bool) → (cond t (Here limit s d used b) (Next limit s d used b p)).said.used ≡ used + 0 → ⊥
     at true q = omega (arith, told_used (stepped limit s b).event s.held (used + 1) (stepped limit s b).after)
     at false q = omega (arith, feeding_uses limit (stepped limit s b).after (stored d s.held b (stepped limit s b).gathers) (used + 1) p)
-feeding-holds limit s d used (b ∷ p) i (suc n) k e =
+feeding_holds limit s d used (b ∷ p) i (suc n) k e =
     at (stopping (stepped limit s b).event) e
-    (λ q. feeding-holds limit (stepped limit s b).after (stored d s.held b (stepped limit s b).gathers) (used + 1) p i n (rw (length-stored d s.held b (stepped limit s b).gathers) k) q)
+    (λ q. feeding_holds limit (stepped limit s b).after (stored d s.held b (stepped limit s b).gathers) (used + 1) p i n (rw (length_stored d s.held b (stepped limit s b).gathers) k) q)
     ∙ sym (gathered_next limit s d b (take n p) i k)
   where
     at : (t : Bool) → (cond t (Here limit s d used b) (Next limit s d used b p)).said.used ≡ used + suc n
@@ -140,7 +140,7 @@ call_holds s p d i = at (known (length d) s)
         ≡ last_at i (gathered (frame_limit (length d)) s (take (cond t (feeding (frame_limit (length d)) s d 0 p) (foreign s d)).said.used p)) (get_or d i 0)
     at true =
         let z : (feeding (frame_limit (length d)) s d 0 p).said.used ≡ 0 + (feeding (frame_limit (length d)) s d 0 p).said.used = omega arith in
-        feeding-holds (frame_limit (length d)) s d 0 p i (feeding (frame_limit (length d)) s d 0 p).said.used (frame_limit_le (length d)) z
+        feeding_holds (frame_limit (length d)) s d 0 p i (feeding (frame_limit (length d)) s d 0 p).said.used (frame_limit_le (length d)) z
     at false = refl
 
 pub call_size : (s : FrameState) (p d : List ℕ) → length (fed s p d).left ≡ length d
@@ -148,7 +148,7 @@ unfolding fed foreign
 call_size s p d = at (known (length d) s)
   where
     at : (t : Bool) → length (cond t (feeding (frame_limit (length d)) s d 0 p) (foreign s d)).left ≡ length d
-    at true = feeding-length (frame_limit (length d)) s d 0 p
+    at true = feeding_length (frame_limit (length d)) s d 0 p
     at false = refl
 
 -- ---- under the bodies of a line
@@ -158,14 +158,14 @@ get_d_behind c d i h =
     let e : i ≡ length c + (i - length c) = omega arith in
     ap (λ (j : ℕ). get_or (over c d) j 0) e ∙ get_or-append-add c (drop (length c) d) (i - length c) 0 ∙ get_or-drop (length c) d (i - length c) 0 ∙ ap (λ (j : ℕ). get_or d j 0) (sym e)
 
-over-holds : (c d : List ℕ) (i : ℕ) → get_or (over c d) i 0 ≡ cond (ltb i (length c)) (get_or c i 0) (get_or d i 0)
-over-holds c d i = at (ltb i (length c)) refl
+over_holds : (c d : List ℕ) (i : ℕ) → get_or (over c d) i 0 ≡ cond (ltb i (length c)) (get_or c i 0) (get_or d i 0)
+over_holds c d i = at (ltb i (length c)) refl
   where
     at : (t : Bool) → ltb i (length c) ≡ t → get_or (over c d) i 0 ≡ cond t (get_or c i 0) (get_or d i 0)
     at true e = get_or-append c (drop (length c) d) 0 i (ltb-true i (length c) e)
     at false e = get_d_behind c d i (ltb-false i (length c) e)
 
-pub laid-holds : (cs : List (List ℕ)) (d : List ℕ) (i : ℕ) → get_or (laid cs d) i 0 ≡ last_of i cs (get_or d i 0)
+pub laid_holds : (cs : List (List ℕ)) (d : List ℕ) (i : ℕ) → get_or (laid cs d) i 0 ≡ last_of i cs (get_or d i 0)
 unfolding laid last_of
-laid-holds [] d i = refl
-laid-holds (c ∷ cs) d i = laid-holds cs (over c d) i ∙ ap (last_of i cs) (over-holds c d i)
+laid_holds [] d i = refl
+laid_holds (c ∷ cs) d i = laid_holds cs (over c d) i ∙ ap (last_of i cs) (over_holds c d i)

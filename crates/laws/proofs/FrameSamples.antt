@@ -52,6 +52,6 @@ abbrev Hold : List Sample → Type 0
 Hold [] = Unit {0}
 Hold (x ∷ xs) = (fed x.state x.piece x.lent ≡ x.gives) × Hold xs
 
-pub frame-samples : Hold telling
+pub frame_samples : Hold telling
 unfolding message_limit most_dropped frame_limit counted step_outside step_inside step_ending step_skipping step_skipping_end stepped known stored stopping told feeding foreign fed
-frame-samples = (refl, (refl, (refl, (refl, (refl, (refl, (refl, (refl, (refl, (refl, tt))))))))))
+frame_samples = (refl, (refl, (refl, (refl, (refl, (refl, (refl, (refl, (refl, (refl, tt))))))))))

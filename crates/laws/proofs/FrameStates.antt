@@ -15,10 +15,10 @@ use Rattle.frames.specs.Wire.{most_dropped, frame_limit}
 use Rattle.frames.specs.Steps.{outside, inside, ending, skipping, skipping_end, stepped, step_outside, step_inside, step_skipping, counted, quiet, gather, stop}
 use Rattle.alphabet.specs.declared.answers.Refusal.TheVariants as N
 use Rattle.frames.specs.Feeding.{stored, known, foreign, fed}
-use Rattle.frames.proofs.FeedLaws.{fed-foreign}
+use Rattle.frames.proofs.FeedLaws.{fed_foreign}
 use Rattle.frames.specs.Runs.{Happening, Runs, line, start, Reached, Run}
-use Rattle.frames.proofs.StepLaws.{counted-more, inside-long, inside_gathers}
-use Rattle.frames.proofs.KnownLaws.{Known, is_outside, is_inside, is_ending, is_skipping, is_skipping-end, known_case, known_test, known_step}
+use Rattle.frames.proofs.StepLaws.{counted_more, inside_long, inside_gathers}
+use Rattle.frames.proofs.KnownLaws.{Known, is_outside, is_inside, is_ending, is_skipping, is_skipping_end, known_case, known_test, known_step}
 use Rattle.laws.proofs.FrameLines.{Whole, noted, whole}
 use Rattle.laws.proofs.FrameCuts.{Fit, runs_whole, runs_exist, never_refused}
 
@@ -27,37 +27,37 @@ abbrev pub ends : ℕ → FrameState → List ℕ → FrameState
 ends limit s [] = s
 ends limit s (b ∷ l) = ends limit (stepped limit s b).after l
 
-pub ends-append : (limit : ℕ) (s : FrameState) (k l : List ℕ) → ends limit s (k ++ l) ≡ ends limit (ends limit s k) l
-ends-append limit s [] l = refl
-ends-append limit s (b ∷ k) l = ends-append limit (stepped limit s b).after k l
+pub ends_append : (limit : ℕ) (s : FrameState) (k l : List ℕ) → ends limit s (k ++ l) ≡ ends limit (ends limit s k) l
+ends_append limit s [] l = refl
+ends_append limit s (b ∷ k) l = ends_append limit (stepped limit s b).after k l
 
-noted-state : (e : Event) (h : ℕ) (d : List ℕ) (w : Whole) → (noted e h d w).state ≡ w.state
+noted_state : (e : Event) (h : ℕ) (d : List ℕ) (w : Whole) → (noted e h d w).state ≡ w.state
 unfolding noted
-noted-state Quiet h d w = refl
-noted-state Frame h d w = refl
-noted-state Broken h d w = refl
-noted-state Long h d w = refl
+noted_state Quiet h d w = refl
+noted_state Frame h d w = refl
+noted_state Broken h d w = refl
+noted_state Long h d w = refl
 
-pub whole-ends : (limit : ℕ) (s : FrameState) (d l : List ℕ) → (whole limit s d l).state ≡ ends limit s l
+pub whole_ends : (limit : ℕ) (s : FrameState) (d l : List ℕ) → (whole limit s d l).state ≡ ends limit s l
 unfolding whole
-whole-ends limit s d [] = refl
-whole-ends limit s d (b ∷ l) =
-    noted-state (stepped limit s b).event s.held _ _ ∙ whole-ends limit (stepped limit s b).after (stored d s.held b (stepped limit s b).gathers) l
+whole_ends limit s d [] = refl
+whole_ends limit s d (b ∷ l) =
+    noted_state (stepped limit s b).event s.held _ _ ∙ whole_ends limit (stepped limit s b).after (stored d s.held b (stepped limit s b).gathers) l
 
 -- ---- a run reaches no other state
 
-ends-known : (limit : ℕ) {s : FrameState} (l : List ℕ) → Known limit s → Known limit (ends limit s l)
-ends-known limit [] k = k
-ends-known limit (b ∷ l) k = ends-known limit l (known_step limit b k)
+ends_known : (limit : ℕ) {s : FrameState} (l : List ℕ) → Known limit s → Known limit (ends limit s l)
+ends_known limit [] k = k
+ends_known limit (b ∷ l) k = ends_known limit l (known_step limit b k)
 
-start-known : (room : ℕ) → known room start ≡ true
-start-known room = known_test room (is_outside 0 (omega arith))
+start_known : (room : ℕ) → known room start ≡ true
+start_known room = known_test room (is_outside 0 (omega arith))
 
 pub reached_known : (room : ℕ) (s : FrameState) → Reached room s → known room s ≡ true
 reached_known room s r =
-    let w = runs_whole room (record { size = r.size; can = start-known room }) r.run in
-    let e : ends (frame_limit room) start (line r.pieces) ≡ s = sym (whole-ends (frame_limit room) start r.buffer (line r.pieces)) ∙ ap (λ (v : Whole). v.state) w in
-    known_test room (subst (Known (frame_limit room)) e (ends-known (frame_limit room) (line r.pieces) (is_outside 0 (omega arith))))
+    let w = runs_whole room (record { size = r.size; can = start_known room }) r.run in
+    let e : ends (frame_limit room) start (line r.pieces) ≡ s = sym (whole_ends (frame_limit room) start r.buffer (line r.pieces)) ∙ ap (λ (v : Whole). v.state) w in
+    known_test room (subst (Known (frame_limit room)) e (ends_known (frame_limit room) (line r.pieces) (is_outside 0 (omega arith))))
 
 -- ---- and each of these is reached
 
@@ -67,12 +67,12 @@ opened h n = replicate n 0 ++ 11 ∷ replicate h 65
 
 module _ (limit : ℕ) where
   -- n bytes dropped outside
-  drops-on : (n k : ℕ) → k + n ≤ most_dropped → ends limit (outside k) (replicate n 0) ≡ outside (k + n)
+  drops_on : (n k : ℕ) → k + n ≤ most_dropped → ends limit (outside k) (replicate n 0) ≡ outside (k + n)
   unfolding stepped step_outside
-  drops-on zero k h = let e : k ≡ k + 0 = omega arith in ap outside e
-  drops-on (suc n) k h =
+  drops_on zero k h = let e : k ≡ k + 0 = omega arith in ap outside e
+  drops_on (suc n) k h =
       let e : k + 1 + n ≡ k + suc n = omega arith in
-      ap (λ (j : ℕ). ends limit (outside j) (replicate n 0)) (counted-more {n = k} (omega arith)) ∙ drops-on n (k + 1) (omega arith) ∙ ap outside e
+      ap (λ (j : ℕ). ends limit (outside j) (replicate n 0)) (counted_more {n = k} (omega arith)) ∙ drops_on n (k + 1) (omega arith) ∙ ap outside e
 
   gathers_on : (h k n : ℕ) → k + h ≤ limit → ends limit (inside k n) (replicate h 65) ≡ inside (k + h) n
   unfolding stepped
@@ -83,37 +83,37 @@ module _ (limit : ℕ) where
       ∙ gathers_on h (k + 1) n (omega arith) ∙ ap (λ (j : ℕ). inside j n) e
 
   to_outside : (n : ℕ) → n ≤ most_dropped → ends limit start (replicate n 0) ≡ outside n
-  to_outside n h = let e : 0 + n ≡ n = omega arith in drops-on n 0 (omega arith) ∙ ap outside e
+  to_outside n h = let e : 0 + n ≡ n = omega arith in drops_on n 0 (omega arith) ∙ ap outside e
 
   to_inside : (h n : ℕ) → n ≤ most_dropped → h ≤ limit → ends limit start (opened h n) ≡ inside h n
   unfolding stepped step_outside
   to_inside h n m k =
       let e : 0 + h ≡ h = omega arith in
-      ends-append limit start (replicate n 0) (11 ∷ replicate h 65) ∙ ap (λ (s : FrameState). ends limit s (11 ∷ replicate h 65)) (to_outside n m)
+      ends_append limit start (replicate n 0) (11 ∷ replicate h 65) ∙ ap (λ (s : FrameState). ends limit s (11 ∷ replicate h 65)) (to_outside n m)
       ∙ gathers_on h 0 n (omega arith) ∙ ap (λ (j : ℕ). inside j n) e
 
   to_ending : (h n : ℕ) → n ≤ most_dropped → h ≤ limit → ends limit start (opened h n ++ 28 ∷ []) ≡ ending h n
   unfolding stepped step_inside
-  to_ending h n m k = ends-append limit start (opened h n) (28 ∷ []) ∙ ap (λ (s : FrameState). ends limit s (28 ∷ [])) (to_inside h n m k)
+  to_ending h n m k = ends_append limit start (opened h n) (28 ∷ []) ∙ ap (λ (s : FrameState). ends limit s (28 ∷ [])) (to_inside h n m k)
 
   to_skipping : (n : ℕ) → n ≤ most_dropped → ends limit start (opened limit n ++ 65 ∷ []) ≡ skipping n
   unfolding stepped
   to_skipping n m =
-      ends-append limit start (opened limit n) (65 ∷ []) ∙ ap (λ (s : FrameState). ends limit s (65 ∷ [])) (to_inside limit n m (omega arith))
-      ∙ ap (λ (q : Step). q.after) (inside-long limit limit n 65 (λ (z : 65 ≡ 11). omega arith) (λ (z : 65 ≡ 28). omega arith) (omega arith))
+      ends_append limit start (opened limit n) (65 ∷ []) ∙ ap (λ (s : FrameState). ends limit s (65 ∷ [])) (to_inside limit n m (omega arith))
+      ∙ ap (λ (q : Step). q.after) (inside_long limit limit n 65 (λ (z : 65 ≡ 11). omega arith) (λ (z : 65 ≡ 28). omega arith) (omega arith))
 
-  to_skipping-end : (n : ℕ) → n ≤ most_dropped → ends limit start ((opened limit n ++ 65 ∷ []) ++ 28 ∷ []) ≡ skipping_end n
+  to_skipping_end : (n : ℕ) → n ≤ most_dropped → ends limit start ((opened limit n ++ 65 ∷ []) ++ 28 ∷ []) ≡ skipping_end n
   unfolding stepped step_skipping
-  to_skipping-end n m = ends-append limit start (opened limit n ++ 65 ∷ []) (28 ∷ []) ∙ ap (λ (s : FrameState). ends limit s (28 ∷ [])) (to_skipping n m)
+  to_skipping_end n m = ends_append limit start (opened limit n ++ 65 ∷ []) (28 ∷ []) ∙ ap (λ (s : FrameState). ends limit s (28 ∷ [])) (to_skipping n m)
 
 -- bytes that end in the state reach it over any buffer of the room, in one piece
 reach : (room : ℕ) (s : FrameState) (l : List ℕ) → ends (frame_limit room) start l ≡ s → Reached room s
 reach room s l e =
     let d : List ℕ = replicate room 0 in
-    let k : Fit room start d = record { size = length-replicate room 0; can = start-known room } in
+    let k : Fit room start d = record { size = length-replicate room 0; can = start_known room } in
     let r = runs_exist room (l ∷ []) start d k in
     let w = runs_whole room k r.run in
-    let f : r.state ≡ s = ap (λ (v : Whole). v.state) (sym w) ∙ whole-ends (frame_limit room) start d (l ++ []) ∙ ap (ends (frame_limit room) start) (append-nil l) ∙ e in
+    let f : r.state ≡ s = ap (λ (v : Whole). v.state) (sym w) ∙ whole_ends (frame_limit room) start d (l ++ []) ∙ ap (ends (frame_limit room) start) (append-nil l) ∙ e in
     record {
       buffer = d;
       size = length-replicate room 0;
@@ -128,7 +128,7 @@ reach_case room (is_outside n m) = reach room (outside n) (replicate n 0) (to_ou
 reach_case room (is_inside h n m k) = reach room (inside h n) (opened h n) (to_inside (frame_limit room) h n m k)
 reach_case room (is_ending h n m k) = reach room (ending h n) (opened h n ++ 28 ∷ []) (to_ending (frame_limit room) h n m k)
 reach_case room (is_skipping n m) = reach room (skipping n) (opened (frame_limit room) n ++ 65 ∷ []) (to_skipping (frame_limit room) n m)
-reach_case room (is_skipping-end n m) = reach room (skipping_end n) ((opened (frame_limit room) n ++ 65 ∷ []) ++ 28 ∷ []) (to_skipping-end (frame_limit room) n m)
+reach_case room (is_skipping_end n m) = reach room (skipping_end n) ((opened (frame_limit room) n ++ 65 ∷ []) ++ 28 ∷ []) (to_skipping_end (frame_limit room) n m)
 
 pub known_reached : (room : ℕ) (s : FrameState) → known room s ≡ true → Reached room s
 known_reached room s e = reach_case room (known_case room s e)
@@ -140,7 +140,7 @@ unreached_refused s p d u = at (known (length d) s) refl
   where
     at : (t : Bool) → known (length d) s ≡ t → (fed s p d).said.answer.kind ≡ N.NoRoom
     at true e = absurd (u (known_reached (length d) s e))
-    at false e = rw (fed-foreign s p d e)
+    at false e = rw (fed_foreign s p d e)
 
 pub reached_taken : (s : FrameState) (p d : List ℕ) → Reached (length d) s → (fed s p d).said.answer.kind ≡ N.NoRoom → ⊥
 reached_taken s p d r = never_refused s p d (reached_known (length d) s r)
@@ -151,7 +151,7 @@ taken_reached s p d taken = at (known (length d) s) refl
   where
     at : (t : Bool) → known (length d) s ≡ t → Reached (length d) s
     at true e = known_reached (length d) s e
-    at false e = absurd (taken (rw (fed-foreign s p d e)))
+    at false e = absurd (taken (rw (fed_foreign s p d e)))
 
 -- 14 changes nothing
 pub refused_leaves : (s : FrameState) (p d : List ℕ) → (fed s p d).said.answer.kind ≡ N.NoRoom
@@ -161,4 +161,4 @@ refused_leaves s p d r = at (known (length d) s) refl
   where
     at : (t : Bool) → known (length d) s ≡ t → ((fed s p d).said.state ≡ s) × ((fed s p d).left ≡ d) × ((fed s p d).said.used ≡ 0)
     at true e = absurd (never_refused s p d e r)
-    at false e = let f = fed-foreign s p d e in (rw f, rw f, rw f)
+    at false e = let f = fed_foreign s p d e in (rw f, rw f, rw f)

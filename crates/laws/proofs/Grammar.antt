@@ -10,9 +10,9 @@ use lib.Dec.{leb, ltb, eqb}
 use lib.ListN.{length, take, drop, length-append, length-drop}
 use lib.Seq.{split_at, take-append_seam}
 use borrow.Author.Tests.{eqb-true, eqb-false, ltb-true, ltb-false, leb-true, leb-false}
-use Rattle.alphabet.proofs.ListLaws.{find_is, first-le}
+use Rattle.alphabet.proofs.ListLaws.{find_is, first_le}
 use Rattle.alphabet.proofs.NullLaws.{two_quotes_lem, not_quotes, other_quotes}
-use Rattle.alphabet.proofs.PartLaws.{free-find}
+use Rattle.alphabet.proofs.PartLaws.{free_find}
 use Rattle.alphabet.specs.Lists.{first, find}
 use Rattle.alphabet.specs.Bytes.{printable, is_null}
 use Rattle.alphabet.specs.Delimiters.{first_wrong_delimiter}
@@ -23,14 +23,14 @@ use Rattle.text.specs.Unescape.{Sequences, plain_text, before, scan}
 use Rattle.escaping.specs.Outcomes.{Outcome, text, fault}
 use Rattle.text.specs.Unescape.{unescaping}
 use Rattle.text.specs.Reads.{Reads, done, plain, escaped, Stops, unprintable, separator, unknown, unclosed, Refuses, Unescapes, delimiter, null, refused, long, written}
-use Rattle.text.proofs.StepLaws.{step-unknown, step-unclosed, step-unprintable, step-separator, step-plain, scan-emit, scan-stop, before-before, before-none}
-use Rattle.text.proofs.OutcomeLaws.{unescaping_bad, unescaping-null, unescaping-fault, unescaping-fits, unescaping-long}
-use Rattle.laws.proofs.RoundTrip.{no-delimiter, AreBytes, sequence_back, plain_back}
+use Rattle.text.proofs.StepLaws.{step_unknown, step_unclosed, step_unprintable, step_separator, step_plain, scan_emit, scan_stop, before_before, before_none}
+use Rattle.text.proofs.OutcomeLaws.{unescaping_bad, unescaping_null, unescaping_fault, unescaping_fits, unescaping_long}
+use Rattle.laws.proofs.RoundTrip.{no_delimiter, AreBytes, sequence_back, plain_back}
 
-find-take : (b : ℕ) (l : List ℕ) → find b (take (find b l) l) ≡ length (take (find b l) l)
+find_take : (b : ℕ) (l : List ℕ) → find b (take (find b l) l) ≡ length (take (find b l) l)
 unfolding first
-find-take b [] = refl
-find-take b (x ∷ l) = at (eqb b x) refl (find-take b l)
+find_take b [] = refl
+find_take b (x ∷ l) = at (eqb b x) refl (find_take b l)
   where
     at : (t : Bool) → eqb b x ≡ t → find b (take (find b l) l) ≡ length (take (find b l) l)
         → find b (take (cond t 0 (suc (find b l))) (x ∷ l)) ≡ length (take (cond t 0 (suc (find b l))) (x ∷ l))
@@ -43,42 +43,42 @@ module _ {A : Type 0} (q : Sequences A) (ds : List ℕ) where
   module _ (five : length ds ≡ 5) where
     -- what is read passes, whatever follows
     reads_before : {u : List ℕ} {t : List A} → Reads q ds u t → (v : List ℕ) (at : ℕ) → scan q ds at 0 (u ++ v) ≡ before t (scan q ds (at + length u) 0 v)
-    reads_before done v at = before-none (scan q ds at 0 v) ∙ ap (λ (n : ℕ). before [] (scan q ds n 0 v)) (sym (add-zero at))
+    reads_before done v at = before_none (scan q ds at 0 v) ∙ ap (λ (n : ℕ). before [] (scan q ds n 0 v)) (sym (add-zero at))
     reads_before (plain {r} {t} b a h m) v at =
         let e : (at + 1) + length r ≡ at + suc (length r) = omega arith in
-        scan-emit q ds at b (r ++ v) (q.plain b ∷ []) 0 (step-plain q ds b (r ++ v) (no-delimiter ds five b h) a h)
+        scan_emit q ds at b (r ++ v) (q.plain b ∷ []) 0 (step_plain q ds b (r ++ v) (no_delimiter ds five b h) a h)
         ∙ ap (before (q.plain b ∷ [])) (reads_before m v (at + 1))
-        ∙ before-before (q.plain b ∷ []) t (scan q ds ((at + 1) + length r) 0 v) ∙ ap (λ (n : ℕ). before (q.plain b ∷ t) (scan q ds n 0 v)) e
+        ∙ before_before (q.plain b ∷ []) t (scan q ds ((at + 1) + length r) 0 v) ∙ ap (λ (n : ℕ). before (q.plain b ∷ t) (scan q ds n 0 v)) e
     reads_before (escaped {r} {t} c f k m) v at =
         let n : length (c ++ escape_of ds ∷ r) ≡ length c + suc (length r) = length-append c (escape_of ds ∷ r) in
         let e : (at + (length c + 2)) + length r ≡ at + suc (length (c ++ escape_of ds ∷ r)) = omega arith in
         ap (λ (l : List ℕ). scan q ds at 0 (escape_of ds ∷ l)) (append_assoc c (escape_of ds ∷ r) v)
-        ∙ sequence_back q ds at c (r ++ v) (q.meaning ds c) (free-find (escape_of ds) c (r ++ v) f) k refl
+        ∙ sequence_back q ds at c (r ++ v) (q.meaning ds c) (free_find (escape_of ds) c (r ++ v) f) k refl
         ∙ ap (before (q.meaning ds c)) (reads_before m v (at + (length c + 2)))
-        ∙ before-before (q.meaning ds c) t (scan q ds ((at + (length c + 2)) + length r) 0 v) ∙ ap (λ (n : ℕ). before (q.meaning ds c ++ t) (scan q ds n 0 v)) e
+        ∙ before_before (q.meaning ds c) t (scan q ds ((at + (length c + 2)) + length r) 0 v) ∙ ap (λ (n : ℕ). before (q.meaning ds c ++ t) (scan q ds n 0 v)) e
 
     reads_from : {s : List ℕ} {t : List A} → Reads q ds s t → (at : ℕ) → scan q ds at 0 s ≡ text t
     unfolding scan
     reads_from done at = refl
     reads_from (plain {r} {t} b a h m) at =
-        scan-emit q ds at b r (q.plain b ∷ []) 0 (step-plain q ds b r (no-delimiter ds five b h) a h) ∙ ap (before (q.plain b ∷ [])) (reads_from m (at + 1))
+        scan_emit q ds at b r (q.plain b ∷ []) 0 (step_plain q ds b r (no_delimiter ds five b h) a h) ∙ ap (before (q.plain b ∷ [])) (reads_from m (at + 1))
     reads_from (escaped {r} {t} c f k m) at =
-        sequence_back q ds at c r (q.meaning ds c) (free-find (escape_of ds) c r f) k refl ∙ ap (before (q.meaning ds c)) (reads_from m (at + (length c + 2)))
+        sequence_back q ds at c r (q.meaning ds c) (free_find (escape_of ds) c r f) k refl ∙ ap (before (q.meaning ds c)) (reads_from m (at + (length c + 2)))
 
     stops_at : {v : List ℕ} {k : Refusal} → Stops q ds v k → (at : ℕ) → scan q ds at 0 v ≡ fault k at
-    stops_at (unprintable b r n a) at = scan-stop q ds at b r NotAllowed (step-unprintable q ds b r n a)
-    stops_at (separator b r n a h) at = scan-stop q ds at b r Separator (step-separator q ds b r n a h)
+    stops_at (unprintable b r n a) at = scan_stop q ds at b r NotAllowed (step_unprintable q ds b r n a)
+    stops_at (separator b r n a h) at = scan_stop q ds at b r Separator (step_separator q ds b r n a h)
     stops_at (unknown c r f k) at =
         let e = escape_of ds in
         let n : length (c ++ e ∷ r) ≡ length c + suc (length r) = length-append c (e ∷ r) in
-        scan-stop q ds at e (c ++ e ∷ r) UnknownEscape (step-unknown q ds e (c ++ e ∷ r) (length c) refl (free-find e c r f) (omega arith) (ap q.known (take-append_seam c (e ∷ r)) ∙ k))
-    stops_at (unclosed r f) at = scan-stop q ds at (escape_of ds) r UnclosedEscape (step-unclosed q ds (escape_of ds) r refl (omega arith))
+        scan_stop q ds at e (c ++ e ∷ r) UnknownEscape (step_unknown q ds e (c ++ e ∷ r) (length c) refl (free_find e c r f) (omega arith) (ap q.known (take-append_seam c (e ∷ r)) ∙ k))
+    stops_at (unclosed r f) at = scan_stop q ds at (escape_of ds) r UnclosedEscape (step_unclosed q ds (escape_of ds) r refl (omega arith))
 
-    pub reads-scan : (s : List ℕ) (t : List A) → Reads q ds s t → scan q ds 0 0 s ≡ text t
-    reads-scan s t m = reads_from m 0
+    pub reads_scan : (s : List ℕ) (t : List A) → Reads q ds s t → scan q ds 0 0 s ≡ text t
+    reads_scan s t m = reads_from m 0
 
-    pub refuses-scan : (s : List ℕ) (k : Refusal) (p : ℕ) → Refuses q ds s k p → scan q ds 0 0 s ≡ fault k p
-    refuses-scan s k p f =
+    pub refuses_scan : (s : List ℕ) (k : Refusal) (p : ℕ) → Refuses q ds s k p → scan q ds 0 0 s ≡ fault k p
+    refuses_scan s k p f =
         ap (scan q ds 0 0) f.made_of ∙ reads_before f.reads f.rest 0 ∙ ap (before f.said) (stops_at f.stops (0 + length f.front))
         ∙ ap (fault k) (zero-add (length f.front) ∙ f.there)
 
@@ -133,13 +133,13 @@ module _ {A : Type 0} (q : Sequences A) (ds : List ℕ) where
       at : (t : Bool) → ltb n (length r) ≡ t → (u : Bool) → q.known (take n r) ≡ u → Said (e ∷ r)
       at true h true k =
           subst (λ (l : List ℕ). Said (e ∷ l)) (apart (ltb-true n (length r) h))
-          (past_escaped (take n r) (drop (suc n) r) (find-take e r) k (more (drop (suc n) r) (let d = length-drop (suc n) r in omega arith)))
+          (past_escaped (take n r) (drop (suc n) r) (find_take e r) k (more (drop (suc n) r) (let d = length-drop (suc n) r in omega arith)))
       at true h false k =
           subst (λ (l : List ℕ). Said (e ∷ l)) (apart (ltb-true n (length r) h))
-          (stopped _ UnknownEscape (unknown (take n r) (drop (suc n) r) (find-take e r) k))
+          (stopped _ UnknownEscape (unknown (take n r) (drop (suc n) r) (find_take e r) k))
       at false h u k =
           let l = ltb-false n (length r) h in
-          let m = first-le (eqb e) r in
+          let m = first_le (eqb e) r in
           stopped (e ∷ r) UnclosedEscape (unclosed r (omega arith))
 
   -- at any other byte
@@ -159,30 +159,30 @@ module _ {A : Type 0} (q : Sequences A) (ds : List ℕ) where
       at true e = subst (λ (x : ℕ). Said (x ∷ r)) (sym (eqb-true b (escape_of ds) e)) (opened r (λ (v : List ℕ) (l : length v ≤ length r). more v (omega arith)))
       at false e = other b r (eqb-false b (escape_of ds) e) (more r (omega arith))
 
-  either-below : (n : ℕ) (s : List ℕ) → length s < n → Said s
-  either-below zero s h = absurd (omega arith)
-  either-below (suc n) s h = turn s (λ (v : List ℕ) (l : length v < length s). either-below n v (omega arith))
+  either_below : (n : ℕ) (s : List ℕ) → length s < n → Said s
+  either_below zero s h = absurd (omega arith)
+  either_below (suc n) s h = turn s (λ (v : List ℕ) (l : length v < length s). either_below n v (omega arith))
 
   pub either : (s : List ℕ) → Said s
-  either s = either-below (suc (length s)) s (omega arith)
+  either s = either_below (suc (length s)) s (omega arith)
 
   -- ---- from the scan to the grammar
 
   module _ (five : length ds ≡ 5) where
-    pub scan-reads : (s : List ℕ) (t : List A) → scan q ds 0 0 s ≡ text t → Reads q ds s t
-    scan-reads s t e = by (either s)
+    pub scan_reads : (s : List ℕ) (t : List A) → scan q ds 0 0 s ≡ text t → Reads q ds s t
+    scan_reads s t e = by (either s)
       where
         by : Said s → Reads q ds s t
-        by (says t' m) = let w : text t' ≡ text t = sym (reads-scan five s t' m) ∙ e in let z : t' ≡ t = cc in subst (Reads q ds s) z m
-        by (refuses k p f) = let w : fault k p ≡ text t = sym (refuses-scan five s k p f) ∙ e in absurd (let z : ◌≡◌ {A = ℕ} 0 1 = cc in omega arith)
+        by (says t' m) = let w : text t' ≡ text t = sym (reads_scan five s t' m) ∙ e in let z : t' ≡ t = cc in subst (Reads q ds s) z m
+        by (refuses k p f) = let w : fault k p ≡ text t = sym (refuses_scan five s k p f) ∙ e in absurd (let z : ◌≡◌ {A = ℕ} 0 1 = cc in omega arith)
 
-    pub scan-refuses : (s : List ℕ) (k : Refusal) (p : ℕ) → scan q ds 0 0 s ≡ fault k p → Refuses q ds s k p
-    scan-refuses s k p e = by (either s)
+    pub scan_refuses : (s : List ℕ) (k : Refusal) (p : ℕ) → scan q ds 0 0 s ≡ fault k p → Refuses q ds s k p
+    scan_refuses s k p e = by (either s)
       where
         by : Said s → Refuses q ds s k p
-        by (says t m) = let w : text t ≡ fault k p = sym (reads-scan five s t m) ∙ e in absurd (let z : ◌≡◌ {A = ℕ} 0 1 = cc in omega arith)
+        by (says t m) = let w : text t ≡ fault k p = sym (reads_scan five s t m) ∙ e in absurd (let z : ◌≡◌ {A = ℕ} 0 1 = cc in omega arith)
         by (refuses k' p' f) =
-            let w : fault k' p' ≡ fault k p = sym (refuses-scan five s k' p' f) ∙ e in
+            let w : fault k' p' ≡ fault k p = sym (refuses_scan five s k' p' f) ∙ e in
             let z : k' ≡ k = cc in
             let r : p' ≡ p = cc in
             subst (Refuses q ds s k) r (subst (λ (j : Refusal). Refuses q ds s j p') z f)
@@ -191,17 +191,17 @@ module _ {A : Type 0} (q : Sequences A) (ds : List ℕ) where
 
 module _ (ds : List ℕ) (five : length ds ≡ 5) where
   -- what is written reads as the text that it was written for
-  pub escape-reads : first_wrong_delimiter ds ≡ 5 → (t : List ℕ) → AreBytes t → Reads plain_text ds (escape ds t) t
-  escape-reads fine t small = scan-reads plain_text ds five (escape ds t) t (plain_back ds five fine t small)
+  pub escape_reads : first_wrong_delimiter ds ≡ 5 → (t : List ℕ) → AreBytes t → Reads plain_text ds (escape ds t) t
+  escape_reads fine t small = scan_reads plain_text ds five (escape ds t) t (plain_back ds five fine t small)
 
   -- ---- the outcome of unescaping is the one that the grammar says, and no other
 
   pub unescapes_only : (s : List ℕ) (room : ℕ) (o : Outcome ℕ) → Unescapes ds s room o → unescaping ds s room ≡ o
   unescapes_only s room o (delimiter h) = unescaping_bad ds s room h
-  unescapes_only s room o (null h q) = unescaping-null ds s room h (ap is_null q)
-  unescapes_only s room o (refused h n k p f) = unescaping-fault ds s room h (other_quotes s n) k p (refuses-scan plain_text ds five s k p f)
-  unescapes_only s room o (long h n t m l) = unescaping-long ds s room h (other_quotes s n) t (reads-scan plain_text ds five s t m) l
-  unescapes_only s room o (written h n t m l) = unescaping-fits ds s room h (other_quotes s n) t (reads-scan plain_text ds five s t m) l
+  unescapes_only s room o (null h q) = unescaping_null ds s room h (ap is_null q)
+  unescapes_only s room o (refused h n k p f) = unescaping_fault ds s room h (other_quotes s n) k p (refuses_scan plain_text ds five s k p f)
+  unescapes_only s room o (long h n t m l) = unescaping_long ds s room h (other_quotes s n) t (reads_scan plain_text ds five s t m) l
+  unescapes_only s room o (written h n t m l) = unescaping_fits ds s room h (other_quotes s n) t (reads_scan plain_text ds five s t m) l
 
   pub unescapes : (s : List ℕ) (room : ℕ) → Unescapes ds s room (unescaping ds s room)
   unescapes s room = by (ltb (first_wrong_delimiter ds) 5) refl (is_null s) refl (either plain_text ds s)

@@ -14,9 +14,9 @@ use Rattle.alphabet.specs.Answers.{number_of, fails_if, in_order, or_else}
 use Rattle.alphabet.specs.Limits.{id_limit}
 use Rattle.alphabet.specs.Lists.{same}
 use Rattle.alphabet.specs.Parts.{split, standing}
-use Rattle.alphabet.proofs.BoolLaws.{false-true}
-use Rattle.alphabet.proofs.CheckLaws.{passes-not, ends}
-use Rattle.alphabet.proofs.ListLaws.{same-own, same_is}
+use Rattle.alphabet.proofs.BoolLaws.{false_true}
+use Rattle.alphabet.proofs.CheckLaws.{passes_not, ends}
+use Rattle.alphabet.proofs.ListLaws.{same_own, same_is}
 use Rattle.alphabet.specs.declared.answers.Check.{Check}
 use Rattle.alphabet.specs.declared.answers.Check.TheVariants.{Passes, Fails}
 use Rattle.alphabet.specs.declared.answers.Refusal.{Refusal}
@@ -31,21 +31,21 @@ use Rattle.element.specs.declared.states.State.{State}
 use Rattle.element.specs.declared.states.State.TheVariants.{Absent as no_part, Empty, Null, Present}
 use Rattle.times.specs.Times.{is_ts}
 use Rattle.field_table.specs.Table.{rows, values_of, member}
-use Rattle.field_table.proofs.TableLaws.{member-here, member_past, member-none}
+use Rattle.field_table.proofs.TableLaws.{member_here, member_past, member_none}
 use Rattle.field_table.specs.declared.Kind.{Kind}
 use Rattle.field_table.specs.declared.Kind.TheVariants.{Identifier, Ts, OneOf as listed}
 use Rattle.field_table.specs.declared.Values.{Values}
 use Rattle.field_table.specs.declared.Values.TheVariants.{Processing, Version}
 use Rattle.rules.specs.Rules.{form_check, judged_part, part_state, placed, repetition_check, repetition_checks, first_state, required_check, row_check}
-use Rattle.fields.proofs.FieldLaws.{nothing_part, nothing-state}
+use Rattle.fields.proofs.FieldLaws.{nothing_part, nothing_state}
 use Rattle.fields.specs.Judging.{Sound, repetitions_of, located, or_fault, first_fault, row_fault, segment_fault}
 use Rattle.laws.specs.Elements.{address}
 use Rattle.laws.specs.Rejected.{StandsOnce, IsOneOf, IsNoneOf, Timed, Identified, processing_ids, versions}
-use Rattle.laws.proofs.Agreement.{judged-element, counted-element}
+use Rattle.laws.proofs.Agreement.{judged_element, counted_element}
 
-pub placed-passes : (number : ℕ) (c : Check) → placed number c ≡ Passes → c ≡ Passes
-placed-passes number Passes e = refl
-placed-passes number (Fails kind place) e = absurd (let z : ◌≡◌ {A = ℕ} 0 1 = cc in omega arith)
+pub placed_passes : (number : ℕ) (c : Check) → placed number c ≡ Passes → c ≡ Passes
+placed_passes number Passes e = refl
+placed_passes number (Fails kind place) e = absurd (let z : ◌≡◌ {A = ℕ} 0 1 = cc in omega arith)
 
 -- neither 31, 34 nor 36: nothing, or 33
 abbrev pub Calm : Check → Type 0
@@ -67,13 +67,13 @@ module _ (ds : List ℕ) (component : ℕ) (kind : Kind) where
   pub single : (rs : List (List ℕ)) (c : Check) → asks rs ≡ c → Calm c → Single rs
   single rs c = at (first_state ds component rs) refl
     where
-      first-there : (l : List (List ℕ)) → first_state ds component l ≡ Present → state_of ds (judged_part ds component (get_or l 0 [])) ≡ Present
-      first-there [] p = absurd (let z : ◌≡◌ {A = ℕ} 0 1 = cc in omega arith)
-      first-there (r ∷ rest) p = p
+      first_there : (l : List (List ℕ)) → first_state ds component l ≡ Present → state_of ds (judged_part ds component (get_or l 0 [])) ≡ Present
+      first_there [] p = absurd (let z : ◌≡◌ {A = ℕ} 0 1 = cc in omega arith)
+      first_there (r ∷ rest) p = p
 
       repeated : (t : Bool) → ltb 1 (length rs) ≡ t → first_state ds component rs ≡ Present → or_else (fails_if t Repeated 1) (in_order (repetition_checks ds component kind 1 rs)) ≡ c → Calm c → Single rs
       repeated true l p e q = absurd (let z = subst Calm (sym e) q in omega (arith, z))
-      repeated false l p e q = record { once = ltb-false 1 (length rs) l; there = first-there rs p }
+      repeated false l p e q = record { once = ltb-false 1 (length rs) l; there = first_there rs p }
 
       at : (s : State) → first_state ds component rs ≡ s → or_else (required_check true s) (or_else (fails_if (ltb 1 (length rs)) Repeated 1) (in_order (repetition_checks ds component kind 1 rs))) ≡ c → Calm c → Single rs
       at no_part p e q = absurd (let z = subst Calm (sym e) q in omega (arith, z))
@@ -82,12 +82,12 @@ module _ (ds : List ℕ) (component : ℕ) (kind : Kind) where
       at Present p e q = repeated (ltb 1 (length rs)) refl p e q
 
   -- no bytes have no part that is present
-  pub nothing-there : state_of ds (judged_part ds component []) ≡ Present → ⊥
-  nothing-there p = let e = sym (ap (state_of ds) (nothing_part ds component) ∙ nothing-state ds) ∙ p in let z : ◌≡◌ {A = ℕ} 0 1 = cc in omega arith
+  pub nothing_there : state_of ds (judged_part ds component []) ≡ Present → ⊥
+  nothing_there p = let e = sym (ap (state_of ds) (nothing_part ds component) ∙ nothing_state ds) ∙ p in let z : ◌≡◌ {A = ℕ} 0 1 = cc in omega arith
 
   pub finds : (rs : List (List ℕ)) → Single rs → asks rs ≡ placed 1 (form_check kind (judged_part ds component (get_or rs 0 [])))
   unfolding repetition_checks repetition_check
-  finds [] s = absurd (nothing-there s.there)
+  finds [] s = absurd (nothing_there s.there)
   finds (r ∷ []) s = at (part_state ds component r) s.there
     where
       at : (t : State) → t ≡ Present
@@ -102,9 +102,9 @@ module _ (ds : List ℕ) (component : ℕ) (kind : Kind) where
 -- ---- at the addresses of a lookup
 
 -- where the first segment stands
-pub first-stands : (m s : List ℕ) (rest : List (List ℕ)) → segments m ≡ s ∷ rest → segment_at m 0 ≡ At 0 (0 + length s)
+pub first_stands : (m s : List ℕ) (rest : List (List ℕ)) → segments m ≡ s ∷ rest → segment_at m 0 ≡ At 0 (0 + length s)
 unfolding segment_at standing
-first-stands m s rest first = ap (λ (ss : List (List ℕ)). standing 0 ss 0) first
+first_stands m s rest first = ap (λ (ss : List (List ℕ)). standing 0 ss 0) first
 
 module _ (m s : List ℕ) (rest : List (List ℕ)) (first : segments m ≡ s ∷ rest) (four : 4 ≤ length m) (field component : ℕ) (free : fixed 0 field ≡ false) where
   abbrev held : List (List ℕ)
@@ -117,15 +117,15 @@ module _ (m s : List ℕ) (rest : List (List ℕ)) (first : segments m ≡ s ∷
   looked_up : judged_part ds component (get_or held 0 []) ≡ raw_bytes m (address 0 field 1 component 0)
   unfolding raw_bytes
   looked_up =
-      ap (λ (p : Part). judged_part ds component (get_or (repetitions_of m 0 p field) 0 [])) (sym (first-stands m s rest first))
-      ∙ judged-element m 0 field 0 four free component
+      ap (λ (p : Part). judged_part ds component (get_or (repetitions_of m 0 p field) 0 [])) (sym (first_stands m s rest first))
+      ∙ judged_element m 0 field 0 four free component
       ∙ ap (λ (t : Bool). cond t (part_bytes m (element_at m (address 0 field 1 component 0))) []) (sym (le-leb 4 (length m) four))
 
   -- and there is a second repetition exactly where there is a second element
   counted : (1 < length held) ↔ (element_at m (address 0 field 2 0 0) ≡ Absent → ⊥)
   counted =
-      let c = counted-element m 0 field 1 four free in
-      let w = ap (λ (p : Part). length (repetitions_of m 0 p field)) (first-stands m s rest first) in
+      let c = counted_element m 0 field 1 four free in
+      let w = ap (λ (p : Part). length (repetitions_of m 0 p field)) (first_stands m s rest first) in
       (λ h. c.0 (omega (arith, h)), λ n. let h = c.1 n in omega (arith, h))
 
   pub stands : (kind : Kind) (Is : List ℕ → Type 0) → Single ds component kind held → Is (judged_part ds component (get_or held 0 [])) → StandsOnce m field component Is
@@ -135,21 +135,21 @@ module _ (m s : List ℕ) (rest : List (List ℕ)) (first : segments m ≡ s ∷
       at Absent e = e
       at (At a b) e = absurd (let l = o.once in let h = counted.1 (λ q. let z : ◌≡◌ {A = ℕ} 0 1 = cc in omega arith) in omega (arith, h))
 
-  pub standing-so : (kind : Kind) (Is : List ℕ → Type 0) → StandsOnce m field component Is → Single ds component kind held × Is (judged_part ds component (get_or held 0 []))
-  standing-so kind Is o = (record { once = at (dec_lt 1 (length held)); there = ap (state_of ds) looked_up ∙ o.present }, subst Is (sym looked_up) o.so)
+  pub standing_so : (kind : Kind) (Is : List ℕ → Type 0) → StandsOnce m field component Is → Single ds component kind held × Is (judged_part ds component (get_or held 0 []))
+  standing_so kind Is o = (record { once = at (dec_lt 1 (length held)); there = ap (state_of ds) looked_up ∙ o.present }, subst Is (sym looked_up) o.so)
     where
       at : Dec (1 < length held) → length held ≤ 1
       at (yes h) = absurd (counted.0 h o.once)
       at (no h) = omega (arith, h)
 
   -- it passes exactly where the field stands and its part has the form
-  pub passes-so : (kind : Kind) (Is : List ℕ → Type 0) → ((b : List ℕ) → (form_check kind b ≡ Passes) ↔ Is b) → (asks ds component kind held ≡ Passes) ↔ StandsOnce m field component Is
-  passes-so kind Is form = (
+  pub passes_so : (kind : Kind) (Is : List ℕ → Type 0) → ((b : List ℕ) → (form_check kind b ≡ Passes) ↔ Is b) → (asks ds component kind held ≡ Passes) ↔ StandsOnce m field component Is
+  passes_so kind Is form = (
     λ e.
         let o = single ds component kind held Passes e tt in
-        stands kind Is o ((form (judged_part ds component (get_or held 0 []))).0 (placed-passes 1 _ (sym (finds ds component kind held o) ∙ e))),
+        stands kind Is o ((form (judged_part ds component (get_or held 0 []))).0 (placed_passes 1 _ (sym (finds ds component kind held o) ∙ e))),
     λ h.
-        let o = standing-so kind Is h in
+        let o = standing_so kind Is h in
         finds ds component kind held o.0 ∙ ap (placed 1) ((form (judged_part ds component (get_or held 0 []))).1 o.1),
   )
 
@@ -163,7 +163,7 @@ module _ (m s : List ℕ) (rest : List (List ℕ)) (first : segments m ≡ s ∷
         let o = single ds component (listed values) held (Fails k place) e n in
         stands (listed values) Is o ((list (judged_part ds component (get_or held 0 []))).0 (out (member (judged_part ds component (get_or held 0 [])) (values_of values)) (sym (finds ds component (listed values) held o) ∙ e))),
     λ h.
-        let o = standing-so (listed values) Is h in
+        let o = standing_so (listed values) Is h in
         finds ds component (listed values) held o.0 ∙ ap (λ (t : Bool). placed 1 (fails_if (not t) NotListed 0)) ((list (judged_part ds component (get_or held 0 []))).1 o.1),
   )
     where
@@ -175,11 +175,11 @@ module _ (m s : List ℕ) (rest : List (List ℕ)) (first : segments m ≡ s ∷
 
 ts_form : (b : List ℕ) → (form_check Ts b ≡ Passes) ↔ (is_ts b ≡ true)
 unfolding form_check
-ts_form b = (λ e. not-false (is_ts b) (passes-not (not (is_ts b)) BreaksForm 0 e), λ e. rw e refl)
+ts_form b = (λ e. not-false (is_ts b) (passes_not (not (is_ts b)) BreaksForm 0 e), λ e. rw e refl)
 
 pub id_form : (b : List ℕ) → (form_check Identifier b ≡ Passes) ↔ (length b ≤ id_limit)
 unfolding form_check
-id_form b = (λ e. ltb-false id_limit (length b) (passes-not (ltb id_limit (length b)) ValueTooLong 0 e), λ l. rw (le-ltb id_limit (length b) l) refl)
+id_form b = (λ e. ltb-false id_limit (length b) (passes_not (ltb id_limit (length b)) ValueTooLong 0 e), λ l. rw (le-ltb id_limit (length b) l) refl)
 
 -- one step along the list
 one_more : (v : List ℕ) (vs : List (List ℕ)) (b : List ℕ) → (member b vs ≡ true) ↔ IsOneOf vs b → (member b (v ∷ vs) ≡ true) ↔ IsOneOf (v ∷ vs) b
@@ -190,19 +190,19 @@ one_more v vs b step = (to (same b v) refl, from)
     to false e q = inr (step.0 (sym (member_past b v vs e) ∙ q))
 
     later : (t : Bool) → same b v ≡ t → IsOneOf vs b → member b (v ∷ vs) ≡ true
-    later true e o = member-here b v vs e
+    later true e o = member_here b v vs e
     later false e o = member_past b v vs e ∙ step.1 o
 
     from : IsOneOf (v ∷ vs) b → member b (v ∷ vs) ≡ true
-    from (inl q) = member-here b v vs (ap (λ (x : List ℕ). same x v) q ∙ same-own v)
+    from (inl q) = member_here b v vs (ap (λ (x : List ℕ). same x v) q ∙ same_own v)
     from (inr o) = later (same b v) refl o
 
 one_listed : (vs : List (List ℕ)) (b : List ℕ) → (member b vs ≡ true) ↔ IsOneOf vs b
-one_listed [] b = (λ e. false-true (sym (member-none b) ∙ e), λ n. absurd n)
+one_listed [] b = (λ e. false_true (sym (member_none b) ∙ e), λ n. absurd n)
 one_listed (v ∷ vs) b = one_more v vs b (one_listed vs b)
 
-none-listed : (vs : List (List ℕ)) (b : List ℕ) → (member b vs ≡ false) ↔ IsNoneOf vs b
-none-listed vs b = (λ e o. false-true (sym e ∙ (one_listed vs b).1 o), at (member b vs) refl)
+none_listed : (vs : List (List ℕ)) (b : List ℕ) → (member b vs ≡ false) ↔ IsNoneOf vs b
+none_listed vs b = (λ e o. false_true (sym e ∙ (one_listed vs b).1 o), at (member b vs) refl)
   where
     at : (t : Bool) → member b vs ≡ t → IsNoneOf vs b → member b vs ≡ false
     at true e n = absurd (n ((one_listed vs b).0 e))
@@ -212,46 +212,46 @@ listed_form : (values : Values) (b : List ℕ) → (form_check (listed values) b
 unfolding form_check
 listed_form values b =
     let m = one_listed (values_of values) b in
-    (λ e. m.0 (not-false (member b (values_of values)) (passes-not (not (member b (values_of values))) NotListed 0 e)), λ o. rw (m.1 o) refl)
+    (λ e. m.0 (not-false (member b (values_of values)) (passes_not (not (member b (values_of values))) NotListed 0 e)), λ o. rw (m.1 o) refl)
 
 -- ---- the rows of MSH
 
 module _ (m s : List ℕ) (rest : List (List ℕ)) (first : segments m ≡ s ∷ rest) (four : 4 ≤ length m) where
-  abbrev row-found : ℕ → ℕ → Kind → Check
-  row-found field component kind = asks (delimiters_of m) component kind (repetitions_of m 0 (At 0 (0 + length s)) field)
+  abbrev row_found : ℕ → ℕ → Kind → Check
+  row_found field component kind = asks (delimiters_of m) component kind (repetitions_of m 0 (At 0 (0 + length s)) field)
 
   -- what the first segment has, row by row: those of other segments find nothing
   abbrev pub timed_found : Check
-  timed_found = row-found 7 1 Ts
+  timed_found = row_found 7 1 Ts
 
-  abbrev pub identified-found : Check
-  identified-found = row-found 10 0 Identifier
+  abbrev pub identified_found : Check
+  identified_found = row_found 10 0 Identifier
 
-  abbrev pub processing-found : Check
-  processing-found = row-found 11 1 (listed Processing)
+  abbrev pub processing_found : Check
+  processing_found = row_found 11 1 (listed Processing)
 
-  abbrev pub version-found : Check
-  version-found = row-found 12 1 (listed Version)
+  abbrev pub version_found : Check
+  version_found = row_found 12 1 (listed Version)
 
-  pub in-header : segment_fault rows m 0 0 s
-      ≡ or_fault (located 0 7 timed_found) (or_fault (located 0 10 identified-found) (or_fault (located 0 11 processing-found) (or_fault (located 0 12 version-found) Sound)))
+  pub in_header : segment_fault rows m 0 0 s
+      ≡ or_fault (located 0 7 timed_found) (or_fault (located 0 10 identified_found) (or_fault (located 0 11 processing_found) (or_fault (located 0 12 version_found) Sound)))
   unfolding rows first_fault row_fault row_check
-  in-header = refl
+  in_header = refl
 
   pub timed_so : (timed_found ≡ Passes) ↔ Timed m
-  timed_so = passes-so m s rest first four 7 1 refl Ts (λ (b : List ℕ). is_ts b ≡ true) ts_form
+  timed_so = passes_so m s rest first four 7 1 refl Ts (λ (b : List ℕ). is_ts b ≡ true) ts_form
 
-  pub identified-so : (identified-found ≡ Passes) ↔ Identified m
-  identified-so = passes-so m s rest first four 10 0 refl Identifier (λ (b : List ℕ). length b ≤ id_limit) id_form
+  pub identified_so : (identified_found ≡ Passes) ↔ Identified m
+  identified_so = passes_so m s rest first four 10 0 refl Identifier (λ (b : List ℕ). length b ≤ id_limit) id_form
 
-  pub processing-so : (processing-found ≡ Passes) ↔ StandsOnce m 11 1 (IsOneOf processing_ids)
+  pub processing_so : (processing_found ≡ Passes) ↔ StandsOnce m 11 1 (IsOneOf processing_ids)
   unfolding values_of split
-  processing-so = passes-so m s rest first four 11 1 refl (listed Processing) (IsOneOf processing_ids) (listed_form Processing)
+  processing_so = passes_so m s rest first four 11 1 refl (listed Processing) (IsOneOf processing_ids) (listed_form Processing)
 
-  pub processing-not : ((k : Refusal) (place : ℕ) → number_of k ≡ 33 → processing-found ≡ Fails k place → StandsOnce m 11 1 (IsNoneOf processing_ids)) × (StandsOnce m 11 1 (IsNoneOf processing_ids) → processing-found ≡ Fails NotListed 1)
+  pub processing_not : ((k : Refusal) (place : ℕ) → number_of k ≡ 33 → processing_found ≡ Fails k place → StandsOnce m 11 1 (IsNoneOf processing_ids)) × (StandsOnce m 11 1 (IsNoneOf processing_ids) → processing_found ≡ Fails NotListed 1)
   unfolding values_of split
-  processing-not = fails_so m s rest first four 11 1 refl Processing (IsNoneOf processing_ids) (none-listed processing_ids)
+  processing_not = fails_so m s rest first four 11 1 refl Processing (IsNoneOf processing_ids) (none_listed processing_ids)
 
-  pub version-not : ((k : Refusal) (place : ℕ) → number_of k ≡ 33 → version-found ≡ Fails k place → StandsOnce m 12 1 (IsNoneOf versions)) × (StandsOnce m 12 1 (IsNoneOf versions) → version-found ≡ Fails NotListed 1)
+  pub version_not : ((k : Refusal) (place : ℕ) → number_of k ≡ 33 → version_found ≡ Fails k place → StandsOnce m 12 1 (IsNoneOf versions)) × (StandsOnce m 12 1 (IsNoneOf versions) → version_found ≡ Fails NotListed 1)
   unfolding values_of split
-  version-not = fails_so m s rest first four 12 1 refl Version (IsNoneOf versions) (none-listed versions)
+  version_not = fails_so m s rest first four 12 1 refl Version (IsNoneOf versions) (none_listed versions)

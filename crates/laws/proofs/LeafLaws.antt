@@ -16,18 +16,18 @@ use Rattle.alphabet.specs.declared.parts.Part.TheVariants.{At}
 use Rattle.reading.specs.Reading.{reading}
 use Rattle.reading.specs.Segments.{delimiters_of, field_separator, segments, segment_at}
 use Rattle.reading.proofs.Accepted.{accepted}
-use Rattle.reading.proofs.SegmentLaws.{segment-bytes}
+use Rattle.reading.proofs.SegmentLaws.{segment_bytes}
 use Rattle.element.specs.Finding.{element_in, element_of, found, part_bytes}
 use Rattle.element.specs.Levels.{between, moved, part_in, field_in, below, repetition_at, component_at, subcomponent_at, fixed, unsplit, element_at}
 use Rattle.element.specs.States.{state_of}
 use Rattle.element.specs.declared.Element.{Element}
 use Rattle.element.specs.declared.address.Address.{Address}
-use Rattle.element.proofs.FindingLaws.{found-passes}
-use Rattle.element.proofs.LevelLaws.{Within, within_in, within-segment, below_split, field_header, field_other, element-split}
+use Rattle.element.proofs.FindingLaws.{found_passes}
+use Rattle.element.proofs.LevelLaws.{Within, within_in, within_segment, below_split, field_header, field_other, element_split}
 use Rattle.leaves.specs.Leaves.{Leaf, addressed, leaf_at, each, subcomponent_leaf, in_component, in_repetition, in_field, in_part, in_segment, leaves_of}
 use Rattle.laws.specs.Elements.{Asks, subcomponent}
 use Rattle.laws.specs.Listing.{In, here, there, FoundAt}
-use Rattle.laws.proofs.Asking.{answered-exactly, lookup_passes}
+use Rattle.laws.proofs.Asking.{answered_exactly, lookup_passes}
 use Rattle.laws.proofs.ElementLaws.{state_means}
 use Rattle.laws.proofs.FoundLaws.{means_there}
 use Rattle.laws.proofs.HeaderFields.{one_byte}
@@ -65,13 +65,13 @@ each_all P inner k at (p ∷ ps) h =
 
 -- ---- where parts stand
 
-standing-moved : (by at : ℕ) (ps : List (List ℕ)) (k : ℕ) → standing (by + at) ps k ≡ moved by (standing at ps k)
+standing_moved : (by at : ℕ) (ps : List (List ℕ)) (k : ℕ) → standing (by + at) ps k ≡ moved by (standing at ps k)
 unfolding standing
-standing-moved by at [] k = refl
-standing-moved by at (p ∷ ps) zero = let n : by + at + length p ≡ by + (at + length p) = omega arith in ap (At (by + at)) n
-standing-moved by at (p ∷ ps) (suc k) =
+standing_moved by at [] k = refl
+standing_moved by at (p ∷ ps) zero = let n : by + at + length p ≡ by + (at + length p) = omega arith in ap (At (by + at)) n
+standing_moved by at (p ∷ ps) (suc k) =
     let n : by + at + length p + 1 ≡ by + (at + length p + 1) = omega arith in
-    ap (λ (i : ℕ). standing i ps k) n ∙ standing-moved by (at + length p + 1) ps k
+    ap (λ (i : ℕ). standing i ps k) n ∙ standing_moved by (at + length p + 1) ps k
 
 -- a part of the message stands at s and has these bytes
 pub record Stands (m : List ℕ) (p : Part) (s : ℕ) (bytes : List ℕ) : Type 0 where
@@ -85,7 +85,7 @@ module _ (m : List ℕ) where
   unfolding part_in part_at
   part_standing sep {p} {s} {bytes} h j =
       let inside : between m s (s + length bytes) ≡ bytes = ap (part_bytes m) (sym h.place) ∙ h.holds in
-      ap (λ (q : Part). part_in sep m q j) h.place ∙ ap (λ (b : List ℕ). moved s (standing 0 (split sep b) j)) inside ∙ sym (standing-moved s 0 (split sep bytes) j)
+      ap (λ (q : Part). part_in sep m q j) h.place ∙ ap (λ (b : List ℕ). moved s (standing 0 (split sep b) j)) inside ∙ sym (standing_moved s 0 (split sep bytes) j)
       ∙ ap (λ (i : ℕ). standing i (split sep bytes) j) (add-zero s)
 
   stands_in : (sep : ℕ) {p : Part} {s : ℕ} {bytes : List ℕ} → Stands m p s bytes → (j t : ℕ) → standing s (split sep bytes) j ≡ At t (t + length (get_or (split sep bytes) j []))
@@ -97,8 +97,8 @@ module _ (m : List ℕ) where
   }
 
   -- the same by its number, from 1
-  stands-below : (sep : ℕ) (p : Part) {t : ℕ} {q : List ℕ} (j : ℕ) → Stands m (part_in sep m p j) t q → Stands m (below sep m p (1 + j)) t q
-  stands-below sep p {t} {q} j h =
+  stands_below : (sep : ℕ) (p : Part) {t : ℕ} {q : List ℕ} (j : ℕ) → Stands m (part_in sep m p j) t q → Stands m (below sep m p (1 + j)) t q
+  stands_below sep p {t} {q} j h =
       let n : 1 + j - 1 ≡ j = omega arith in
       subst (λ (x : Part). Stands m x t q) (sym (below_split sep m p (1 + j) (λ z. omega arith) ∙ ap (part_in sep m p) n)) h
 
@@ -106,7 +106,7 @@ module _ (m : List ℕ) where
       → ((k t : ℕ) (q : List ℕ) → 1 ≤ k → Stands m (below sep m p k) t q → All P (inner k t q)) → All P (each inner 1 s (split sep bytes))
   level_all P inner sep {p} {s} {bytes} h f =
       each_all P inner 1 s (split sep bytes)
-      (λ j t e. f (1 + j) t (get_or (split sep bytes) j []) (omega arith) (stands-below sep p j (stands_in sep h j t e)))
+      (λ j t e. f (1 + j) t (get_or (split sep bytes) j []) (omega arith) (stands_below sep p j (stands_in sep h j t e)))
 
 module _ (m : List ℕ) (ok : reading m ≡ Passes) where
   abbrev ds : List ℕ
@@ -116,8 +116,8 @@ module _ (m : List ℕ) (ok : reading m ≡ Passes) where
   unfolding element_of
   leaf_right a at bytes asks deep stood h = record {
     full = deep;
-    looked_up = sym (found-passes m a Passes (sym (lookup_passes m a ((answered-exactly m a).1 (ok, asks, stood)))) refl) ∙ ap (λ (x : Element). record { answer = answered Passes; element = x }) element_is;
-    not-absent = means_there (delimiters_of m) bytes (state_of (delimiters_of m) bytes) (state_means (delimiters_of m) bytes);
+    looked_up = sym (found_passes m a Passes (sym (lookup_passes m a ((answered_exactly m a).1 (ok, asks, stood)))) refl) ∙ ap (λ (x : Element). record { answer = answered Passes; element = x }) element_is;
+    not_absent = means_there (delimiters_of m) bytes (state_of (delimiters_of m) bytes) (state_means (delimiters_of m) bytes);
   }
     where
       inside : between m at (at + length bytes) ≡ bytes
@@ -140,7 +140,7 @@ module _ (m : List ℕ) (ok : reading m ≡ Passes) where
 
     element_part : (r c u : ℕ) → element_at m (addressed s f r c u) ≡ below (get_or (delimiters_of m) 4 0) m (component_part r c) u
     unfolding subcomponent_at component_at repetition_at
-    element_part r c u = element-split m (addressed s f r c u) further
+    element_part r c u = element_split m (addressed s f r c u) further
 
     component_right : (r c at : ℕ) (bytes : List ℕ) → 1 ≤ r → 1 ≤ c → Stands m (component_part r c) at bytes → All (FoundAt m) (in_component ds s f r c at bytes)
     unfolding in_component
@@ -170,15 +170,15 @@ module _ (m : List ℕ) (ok : reading m ≡ Passes) where
           field_right s f stood (omega arith) (rw (ne_eqb s 0 ne)) at bytes (subst (λ (p : Part). Stands m p at bytes) (sym (field_other m s (segment_at m s) f ne)) h)
 
   pub four : 4 ≤ length m
-  four = let n = (accepted m ok).opened.nine-bytes in omega arith
+  four = let n = (accepted m ok).opened.nine_bytes in omega arith
 
-  pub separator-stands : Stands m (element_at m (addressed 0 1 1 1 1)) 3 (get_or m 3 0 ∷ [])
+  pub separator_stands : Stands m (element_at m (addressed 0 1 1 1 1)) 3 (get_or m 3 0 ∷ [])
   unfolding element_at unsplit field_in
-  separator-stands = record { place = refl; within = (omega arith, four); holds = one_byte m four }
+  separator_stands = record { place = refl; within = (omega arith, four); holds = one_byte m four }
 
-  encoding-stands : (at : ℕ) (bytes : List ℕ) → Stands m (part_in (field_separator m) m (segment_at m 0) 1) at bytes → Stands m (element_at m (addressed 0 2 1 1 1)) at bytes
+  encoding_stands : (at : ℕ) (bytes : List ℕ) → Stands m (part_in (field_separator m) m (segment_at m 0) 1) at bytes → Stands m (element_at m (addressed 0 2 1 1 1)) at bytes
   unfolding element_at unsplit field_in
-  encoding-stands at bytes h = h
+  encoding_stands at bytes h = h
 
   header_right : 0 < length (segments m) → (f j at : ℕ) (bytes : List ℕ) → f ≡ 1 + j → Stands m (part_in (field_separator m) m (segment_at m 0) j) at bytes → All (FoundAt m) (in_part ds 0 f at bytes)
   unfolding in_part
@@ -186,12 +186,12 @@ module _ (m : List ℕ) (ok : reading m ≡ Passes) where
     where
       go : (t u : Bool) → eqb f 1 ≡ t → eqb f 2 ≡ u
           → All (FoundAt m) (cond t (leaf_at ds (addressed 0 1 1 1 1) 3 (get_or ds 0 0 ∷ []) ∷ []) (cond u (leaf_at ds (addressed 0 2 1 1 1) at bytes ∷ []) (in_field ds 0 f at bytes)))
-      go true u e g = all_one (FoundAt m) _ (leaf_right (addressed 0 1 1 1 1) 3 (get_or m 3 0 ∷ []) (subcomponent 0 1 1 1 1 (omega arith) (omega arith) (omega arith) (omega arith)) (omega arith) stood separator-stands)
+      go true u e g = all_one (FoundAt m) _ (leaf_right (addressed 0 1 1 1 1) 3 (get_or m 3 0 ∷ []) (subcomponent 0 1 1 1 1 (omega arith) (omega arith) (omega arith) (omega arith)) (omega arith) stood separator_stands)
       go false true e g =
           let two = eqb-true f 2 g in
           let i : j ≡ 1 = omega arith in
           all_one (FoundAt m) _ (leaf_right (addressed 0 2 1 1 1) at bytes (subcomponent 0 2 1 1 1 (omega arith) (omega arith) (omega arith) (omega arith)) (omega arith) stood
-          (encoding-stands at bytes (subst (λ (x : ℕ). Stands m (part_in (field_separator m) m (segment_at m 0) x) at bytes) i h)))
+          (encoding_stands at bytes (subst (λ (x : ℕ). Stands m (part_in (field_separator m) m (segment_at m 0) x) at bytes) i h)))
       go false false e g =
           let d = eqb-false f 1 e in
           let k = eqb-false f 2 g in
@@ -221,13 +221,13 @@ module _ (m : List ℕ) (ok : reading m ≡ Passes) where
   all_right =
       each_all (FoundAt m) (in_segment ds) 0 0 (segments m)
       (λ j t e. let n : j ≡ 0 + j = omega arith in
-      let b = segment-bytes m j t (t + length (get_or (segments m) j [])) e in
+      let b = segment_bytes m j t (t + length (get_or (segments m) j [])) e in
       subst (λ (i : ℕ). All (FoundAt m) (in_segment ds i t (get_or (segments m) j []))) n
-      (segment_right j t (get_or (segments m) j []) b.0 (record { place = e; within = within-segment m j; holds = ap (part_bytes m) e ∙ b.3 })))
+      (segment_right j t (get_or (segments m) j []) b.0 (record { place = e; within = within_segment m j; holds = ap (part_bytes m) e ∙ b.3 })))
 
-pub leaf_found-at : (m : List ℕ) → reading m ≡ Passes → (l : Leaf) → In l (leaves_of m) → FoundAt m l
-leaf_found-at m ok l i = all_in (FoundAt m) (leaves_of m) (all_right m ok) i
+pub leaf_found_at : (m : List ℕ) → reading m ≡ Passes → (l : Leaf) → In l (leaves_of m) → FoundAt m l
+leaf_found_at m ok l i = all_in (FoundAt m) (leaves_of m) (all_right m ok) i
 
 -- each leaf of a message is what a lookup finds at its address
 pub leaf_found : (m : List ℕ) → reading m ≡ Passes → (l : Leaf) → In l (leaves_of m) → found m l.address ≡ record { answer = answered Passes; element = l.element }
-leaf_found m ok l i = (leaf_found-at m ok l i).looked_up
+leaf_found m ok l i = (leaf_found_at m ok l i).looked_up

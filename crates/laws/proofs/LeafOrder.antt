@@ -12,19 +12,19 @@ use borrow.Author.Tests.{eqb-true, ne_eqb}
 use Rattle.alphabet.specs.Parts.{grown, split, standing}
 use Rattle.alphabet.specs.declared.answers.Check.TheVariants.{Passes}
 use Rattle.alphabet.specs.declared.parts.Part.TheVariants.{At}
-use Rattle.alphabet.proofs.PartLaws.{split-some}
+use Rattle.alphabet.proofs.PartLaws.{split_some}
 use Rattle.reading.specs.Reading.{reading}
 use Rattle.reading.specs.Segments.{delimiters_of, field_separator, segments, segment_at}
 use Rattle.reading.proofs.Accepted.{accepted}
-use Rattle.reading.proofs.SegmentLaws.{segment-bytes}
+use Rattle.reading.proofs.SegmentLaws.{segment_bytes}
 use Rattle.element.specs.Finding.{part_bytes}
-use Rattle.element.proofs.LevelLaws.{within-segment, field_header}
+use Rattle.element.proofs.LevelLaws.{within_segment, field_header}
 use Rattle.leaves.specs.Leaves.{Leaf, addressed, leaf_at, each, subcomponent_leaf, in_component, in_repetition, in_field, in_part, in_segment, leaves_of}
 use Rattle.laws.specs.Elements.{spanned}
 use Rattle.laws.specs.Listing.{In, here, there, FoundAt, Rising}
 use Rattle.laws.proofs.EveryLeaf.{leaf_exactly}
 use Rattle.laws.proofs.HeaderFields.{second_field}
-use Rattle.laws.proofs.HeaderLaws.{first-segment}
+use Rattle.laws.proofs.HeaderLaws.{first_segment}
 use Rattle.laws.proofs.LeafLaws.{Stands, part_standing}
 
 -- ---- leaves that begin from one place on, and before another
@@ -69,10 +69,10 @@ each_spans inner k at (p ∷ ps) h =
     (λ j s e. let n : k + suc j ≡ k + 1 + j = omega arith in subst (λ (i : ℕ). Spans s (s + length (get_or ps j []) + 1) (inner i s (get_or ps j []))) n (h (suc j) s e))))
 
 -- the parts of some bytes have these, and a separator between each two
-split-spanned : (sep : ℕ) (bytes : List ℕ) → spanned (split sep bytes) ≡ length bytes + 1
+split_spanned : (sep : ℕ) (bytes : List ℕ) → spanned (split sep bytes) ≡ length bytes + 1
 unfolding split spanned
-split-spanned sep [] = refl
-split-spanned sep (b ∷ r) = go (eqb sep b) (split-spanned sep r)
+split_spanned sep [] = refl
+split_spanned sep (b ∷ r) = go (eqb sep b) (split_spanned sep r)
   where
     grow : (ps : List (List ℕ)) → 1 ≤ length ps → spanned (grown b ps) ≡ 1 + spanned ps
     grow [] h = absurd (omega arith)
@@ -80,13 +80,13 @@ split-spanned sep (b ∷ r) = go (eqb sep b) (split-spanned sep r)
 
     go : (t : Bool) → spanned (split sep r) ≡ length r + 1 → spanned (cond t ([] ∷ split sep r) (grown b (split sep r))) ≡ suc (length r) + 1
     go true e = omega arith
-    go false e = let n = grow (split sep r) (split-some sep r) in omega arith
+    go false e = let n = grow (split sep r) (split_some sep r) in omega arith
 
 level_spans : (inner : ℕ → ℕ → List ℕ → List Leaf) (k at sep : ℕ) (bytes : List ℕ)
     → ((j s : ℕ) → standing at (split sep bytes) j ≡ At s (s + length (get_or (split sep bytes) j [])) → Spans s (s + length (get_or (split sep bytes) j []) + 1) (inner (k + j) s (get_or (split sep bytes) j [])))
     → Spans at (at + length bytes + 1) (each inner k at (split sep bytes))
 level_spans inner k at sep bytes h =
-    let n = split-spanned sep bytes in
+    let n = split_spanned sep bytes in
     let sum : at + spanned (split sep bytes) ≡ at + length bytes + 1 = omega arith in
     subst (λ (to : ℕ). Spans at to (each inner k at (split sep bytes))) sum (each_spans inner k at (split sep bytes) h)
 
@@ -148,7 +148,7 @@ module _ (m : List ℕ) (ok : reading m ≡ Passes) where
       second = sym (part_standing m (field_separator m) h 1) ∙ sym (field_header m 0 (segment_at m 0) 2 refl (λ z. omega arith)) ∙ second_field m (accepted m ok)
 
       begun : at ≡ 0
-      begun = let e = sym h.place ∙ (first-segment m (accepted m ok)).0 in cc
+      begun = let e = sym h.place ∙ (first_segment m (accepted m ok)).0 in cc
 
       named : (j t : ℕ) → standing at (split (get_or ds 0 0) bytes) j ≡ At t (t + length (get_or (split (get_or ds 0 0) bytes) j [])) → j ≡ 0 → (t ≤ 3) × (3 ≤ t + length (get_or (split (get_or ds 0 0) bytes) j []))
       named zero t e z =
@@ -169,52 +169,52 @@ leaves_rising m ok =
     spans_rising 0 (0 + spanned (segments m)) (each (in_segment (delimiters_of m)) 0 0 (segments m))
     (each_spans (in_segment (delimiters_of m)) 0 0 (segments m)
     (λ j t e. let n : j ≡ 0 + j = omega arith in
-    let b = segment-bytes m j t (t + length (get_or (segments m) j [])) e in
+    let b = segment_bytes m j t (t + length (get_or (segments m) j [])) e in
     subst (λ (i : ℕ). Spans t (t + length (get_or (segments m) j []) + 1) (in_segment (delimiters_of m) i t (get_or (segments m) j []))) n
-    (segment_spans m ok j t (get_or (segments m) j []) (record { place = e; within = within-segment m j; holds = ap (part_bytes m) e ∙ b.3 }))))
+    (segment_spans m ok j t (get_or (segments m) j []) (record { place = e; within = within_segment m j; holds = ap (part_bytes m) e ∙ b.3 }))))
 
 -- ---- no second list
 
-in-cases : {x k : Leaf} {ks : List Leaf} → In x (k ∷ ks) → (x ≡ k) ⊎ In x ks
-in-cases here = inl refl
-in-cases (there i) = inr i
+in_cases : {x k : Leaf} {ks : List Leaf} → In x (k ∷ ks) → (x ≡ k) ⊎ In x ks
+in_cases here = inl refl
+in_cases (there i) = inr i
 
-in-none : {x : Leaf} (ls : List Leaf) → In x ls → ls ≡ [] → ⊥
-in-none (k ∷ ks) i e = let z : ◌≡◌ {A = ℕ} 0 1 = cc in omega arith
+in_none : {x : Leaf} (ls : List Leaf) → In x ls → ls ≡ [] → ⊥
+in_none (k ∷ ks) i e = let z : ◌≡◌ {A = ℕ} 0 1 = cc in omega arith
 
-in-later : {x : Leaf} (from : ℕ) (ls : List Leaf) → Rising from ls → In x ls → from ≤ x.element.start
-in-later from (l ∷ ls) h here = h.0
-in-later from (l ∷ ls) h (there i) =
-    let n = in-later (l.element.start + 1) ls h.1 i in
+in_later : {x : Leaf} (from : ℕ) (ls : List Leaf) → Rising from ls → In x ls → from ≤ x.element.start
+in_later from (l ∷ ls) h here = h.0
+in_later from (l ∷ ls) h (there i) =
+    let n = in_later (l.element.start + 1) ls h.1 i in
     let k = h.0 in
     omega arith
 
-begins-same : {x k : Leaf} → x ≡ k → x.element.start ≡ k.element.start
-begins-same e = ap (λ (l : Leaf). l.element.start) e
+begins_same : {x k : Leaf} → x ≡ k → x.element.start ≡ k.element.start
+begins_same e = ap (λ (l : Leaf). l.element.start) e
 
 -- one of the rest, if it is not the first
 in_rest : {x l : Leaf} (ls : List Leaf) → In x (l ∷ ls) → l.element.start + 1 ≤ x.element.start → In x ls
-in_rest ls i h = ⊎_elim (λ e. absurd (let n = begins-same e in omega arith)) (λ j. j) (in-cases i)
+in_rest ls i h = ⊎_elim (λ e. absurd (let n = begins_same e in omega arith)) (λ j. j) (in_cases i)
 
-first-same : (k l : Leaf) (ks ls : List Leaf) (from : ℕ) → Rising from (k ∷ ks) → Rising from (l ∷ ls) → In k (l ∷ ls) → In l (k ∷ ks) → k ≡ l
-first-same k l ks ls from h g i j =
+first_same : (k l : Leaf) (ks ls : List Leaf) (from : ℕ) → Rising from (k ∷ ks) → Rising from (l ∷ ls) → In k (l ∷ ls) → In l (k ∷ ks) → k ≡ l
+first_same k l ks ls from h g i j =
     ⊎_elim (λ e. e)
     (λ a. ⊎_elim sym
-    (λ b. absurd (let n = in-later (l.element.start + 1) ls g.1 a in let o = in-later (k.element.start + 1) ks h.1 b in omega arith)) (in-cases j)) (in-cases i)
+    (λ b. absurd (let n = in_later (l.element.start + 1) ls g.1 a in let o = in_later (k.element.start + 1) ks h.1 b in omega arith)) (in_cases j)) (in_cases i)
 
 same_leaves : (from : ℕ) (ks ls : List Leaf) → Rising from ks → Rising from ls → ((x : Leaf) → In x ks ↔ In x ls) → ks ≡ ls
 same_leaves from [] [] h g same = refl
-same_leaves from [] (l ∷ ls) h g same = absurd (in-none [] ((same l).1 here) refl)
-same_leaves from (k ∷ ks) [] h g same = absurd (in-none [] ((same k).0 here) refl)
+same_leaves from [] (l ∷ ls) h g same = absurd (in_none [] ((same l).1 here) refl)
+same_leaves from (k ∷ ks) [] h g same = absurd (in_none [] ((same k).0 here) refl)
 same_leaves from (k ∷ ks) (l ∷ ls) h g same =
-    let e : k ≡ l = first-same k l ks ls from h g ((same k).0 here) ((same l).1 here) in
-    let n = begins-same e in
+    let e : k ≡ l = first_same k l ks ls from h g ((same k).0 here) ((same l).1 here) in
+    let n = begins_same e in
     let g' : Rising (k.element.start + 1) ls = subst (λ (x : Leaf). Rising (x.element.start + 1) ls) (sym e) g.1 in
     let rest : ks ≡ ls
     = same_leaves (k.element.start + 1) ks ls h.1 g'
     (λ x. (
-      (λ i. in_rest ls ((same x).0 (there i)) (let o = in-later (k.element.start + 1) ks h.1 i in omega arith)),
-      (λ i. in_rest ks ((same x).1 (there i)) (in-later (k.element.start + 1) ls g' i)),
+      (λ i. in_rest ls ((same x).0 (there i)) (let o = in_later (k.element.start + 1) ks h.1 i in omega arith)),
+      (λ i. in_rest ks ((same x).1 (there i)) (in_later (k.element.start + 1) ls g' i)),
     )) in
     ap₂ (λ (x : Leaf) (xs : List Leaf). x ∷ xs) e rest
 

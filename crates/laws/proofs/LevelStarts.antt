@@ -23,51 +23,51 @@ abbrev pub Begins : Part → ℕ → Type 0
 Begins Absent n = Unit {0}
 Begins (At s e) n = s ≡ n
 
-standing-begins : (at : ℕ) (ps : List (List ℕ)) (k : ℕ) → Begins (standing at ps k) (at + spanned (take k ps))
+standing_begins : (at : ℕ) (ps : List (List ℕ)) (k : ℕ) → Begins (standing at ps k) (at + spanned (take k ps))
 unfolding standing spanned
-standing-begins at [] k = tt
-standing-begins at (p ∷ ps) zero = omega arith
-standing-begins at (p ∷ ps) (suc k) =
+standing_begins at [] k = tt
+standing_begins at (p ∷ ps) zero = omega arith
+standing_begins at (p ∷ ps) (suc k) =
     let n : at + length p + 1 + spanned (take k ps) ≡ at + (length p + 1 + spanned (take k ps)) = omega arith in
-    subst (Begins (standing (at + length p + 1) ps k)) n (standing-begins (at + length p + 1) ps k)
+    subst (Begins (standing (at + length p + 1) ps k)) n (standing_begins (at + length p + 1) ps k)
 
-first-begins : (ps : List (List ℕ)) (k : ℕ) → Begins (standing 0 ps k) (spanned (take k ps))
-first-begins ps k = subst (Begins (standing 0 ps k)) (zero-add (spanned (take k ps))) (standing-begins 0 ps k)
+first_begins : (ps : List (List ℕ)) (k : ℕ) → Begins (standing 0 ps k) (spanned (take k ps))
+first_begins ps k = subst (Begins (standing 0 ps k)) (zero-add (spanned (take k ps))) (standing_begins 0 ps k)
 
 -- a CR is one byte too
-ended-length : (ps : List (List ℕ)) → length (ended ps) ≡ spanned ps
+ended_length : (ps : List (List ℕ)) → length (ended ps) ≡ spanned ps
 unfolding ended spanned
-ended-length [] = refl
-ended-length (p ∷ ps) =
-    let i = ended-length ps in
+ended_length [] = refl
+ended_length (p ∷ ps) =
+    let i = ended_length ps in
     let n = length-append p (carriage_return ∷ ended ps) in
     omega arith
 
-pub begins-segment : (m : List ℕ) (k : ℕ) → Begins (segment_at m k) (length (ended (take k (segments m))))
+pub begins_segment : (m : List ℕ) (k : ℕ) → Begins (segment_at m k) (length (ended (take k (segments m))))
 unfolding segment_at
-begins-segment m k = subst (Begins (standing 0 (segments m) k)) (sym (ended-length (take k (segments m)))) (first-begins (segments m) k)
+begins_segment m k = subst (Begins (standing 0 (segments m) k)) (sym (ended_length (take k (segments m)))) (first_begins (segments m) k)
 
 -- ---- one level
 
 module _ (sep : ℕ) (m : List ℕ) where
-  moved-begins : (s n : ℕ) (p : Part) → Begins p n → Begins (moved s p) (s + n)
-  moved-begins s n Absent h = tt
-  moved-begins s n (At b f) h = ap (λ (i : ℕ). s + i) h
+  moved_begins : (s n : ℕ) (p : Part) → Begins p n → Begins (moved s p) (s + n)
+  moved_begins s n Absent h = tt
+  moved_begins s n (At b f) h = ap (λ (i : ℕ). s + i) h
 
   part_begins : (l : List ℕ) (k : ℕ) → Begins (part_at sep l k) (before sep k l)
   unfolding part_at
-  part_begins l k = first-begins (split sep l) k
+  part_begins l k = first_begins (split sep l) k
 
   pub begins_in : (p : Part) (k n : ℕ) → Begins p n → Begins (part_in sep m p k) (n + before sep k (part_bytes m p))
   unfolding part_in
   begins_in Absent k n h = tt
   begins_in (At s e) k n h =
       subst (λ (i : ℕ). Begins (part_in sep m (At s e) k) (i + before sep k (between m s e))) h
-      (moved-begins s (before sep k (between m s e)) (part_at sep (between m s e) k) (part_begins (between m s e) k))
+      (moved_begins s (before sep k (between m s e)) (part_at sep (between m s e) k) (part_begins (between m s e) k))
 
-  pub begins-below : (p : Part) (k n : ℕ) → Begins p n → Begins (below sep m p k) (n + before_level sep k (part_bytes m p))
+  pub begins_below : (p : Part) (k n : ℕ) → Begins p n → Begins (below sep m p k) (n + before_level sep k (part_bytes m p))
   unfolding below
-  begins-below p zero n h = subst (Begins p) (sym (add-zero n)) h
-  begins-below p (suc k) n h =
+  begins_below p zero n h = subst (Begins p) (sym (add-zero n)) h
+  begins_below p (suc k) n h =
       let e : suc k - 1 ≡ k = omega arith in
       rw (ne_eqb (suc k) 0 (λ z. omega arith), e) (begins_in p k n h)

@@ -11,10 +11,10 @@ use Rattle.structure.specs.Listed.{In, here, there, Rising, Listed}
 
 -- ---- a list by its numbers
 
-pub in-at : (l : List ℕ) (i : ℕ) → i < length l → In (get_or l i 0) l
-in-at [] i h = absurd (omega arith)
-in-at (x ∷ l) zero h = here
-in-at (x ∷ l) (suc i) h = there (in-at l i (omega arith))
+pub in_at : (l : List ℕ) (i : ℕ) → i < length l → In (get_or l i 0) l
+in_at [] i h = absurd (omega arith)
+in_at (x ∷ l) zero h = here
+in_at (x ∷ l) (suc i) h = there (in_at l i (omega arith))
 
 pub at_in : {x : ℕ} {l : List ℕ} → In x l → (i : ℕ) × (i < length l) × (get_or l i 0 ≡ x)
 at_in here = (0, omega arith, refl)
@@ -30,10 +30,10 @@ zeros zero i = refl
 zeros (suc n) zero = refl
 zeros (suc n) (suc i) = zeros n i
 
-pub behind-at : (l : List ℕ) (n i : ℕ) → length l ≤ i → get_or (l ++ replicate n 0) i 0 ≡ 0
-behind-at [] n i h = zeros n i
-behind-at (x ∷ l) n zero h = absurd (omega arith)
-behind-at (x ∷ l) n (suc i) h = behind-at l n i (omega arith)
+pub behind_at : (l : List ℕ) (n i : ℕ) → length l ≤ i → get_or (l ++ replicate n 0) i 0 ≡ 0
+behind_at [] n i h = zeros n i
+behind_at (x ∷ l) n zero h = absurd (omega arith)
+behind_at (x ∷ l) n (suc i) h = behind_at l n i (omega arith)
 
 mapped_length : (f : ℕ → ℕ) (l : List ℕ) → length (map f l) ≡ length l
 mapped_length f [] = refl
@@ -69,12 +69,12 @@ module _ (Possible : ℕ → Type 0) (name_at : ℕ → ℕ) (l : List ℕ) (g :
       let n = sizes in
       let p = get_or g.places i 0 in
       let q = get_or g.places j 0 in
-      let first = (g.exactly p).0 (in-at g.places i (omega arith)) in
-      let later = (g.exactly q).0 (in-at g.places j (omega arith)) in
+      let first = (g.exactly p).0 (in_at g.places i (omega arith)) in
+      let later = (g.exactly q).0 (in_at g.places j (omega arith)) in
       later.no_earlier p (rising_less 0 g.places i j g.rising h (omega arith)) first.possible (sym (name_is i (omega arith)) ∙ e ∙ name_is j k)
 
-  pub once-each : (i j : ℕ) → i < length l → j < length l → get_or l i 0 ≡ get_or l j 0 → i ≡ j
-  once-each i j h k e = at (leb (i + 1) j) refl (leb (j + 1) i) refl
+  pub once_each : (i j : ℕ) → i < length l → j < length l → get_or l i 0 ≡ get_or l j 0 → i ≡ j
+  once_each i j h k e = at (leb (i + 1) j) refl (leb (j + 1) i) refl
     where
       at : (s : Bool) → leb (i + 1) j ≡ s → (t : Bool) → leb (j + 1) i ≡ t → i ≡ j
       at true a t b = let n = leb-true (i + 1) j a in absurd (never_again i j (omega arith) k e)

@@ -10,16 +10,16 @@ use lib.ListN.{get_or}
 use borrow.Author.Tests.{ltb-true, ltb-false, le-leb}
 use Rattle.alphabet.specs.Bytes.{digit, ascii}
 use Rattle.alphabet.specs.Digits.{all_digits, counted, decimal}
-use Rattle.alphabet.proofs.DigitLaws.{counted-append, digits_append}
+use Rattle.alphabet.proofs.DigitLaws.{counted_append, digits_append}
 use Rattle.error_segment.specs.Numerals.{digits_of, numeral}
 use Rattle.error_segment.proofs.NumeralLaws.{power_above}
 
-digits-digits : (most n : ℕ) → all_digits (digits_of most n) ≡ true
+digits_digits : (most n : ℕ) → all_digits (digits_of most n) ≡ true
 unfolding digits_of all_digits
-digits-digits zero n = refl
-digits-digits (suc most) n =
+digits_digits zero n = refl
+digits_digits (suc most) n =
     let d : digit (48 + n % 10) ≡ true = rw (le-leb 48 (48 + n % 10) (omega arith)) (rw (le-leb (48 + n % 10) 57 (omega arith))) in
-    digits_append (cond (ltb n 10) [] (digits_of most (n / 10))) ((48 + n % 10) ∷ []) ∙ at (ltb n 10) d (digits-digits most (n / 10))
+    digits_append (cond (ltb n 10) [] (digits_of most (n / 10))) ((48 + n % 10) ∷ []) ∙ at (ltb n 10) d (digits_digits most (n / 10))
   where
     at : (t : Bool) → digit (48 + n % 10) ≡ true → all_digits (digits_of most (n / 10)) ≡ true
         → (all_digits (cond t [] (digits_of most (n / 10))) && (digit (48 + n % 10) && true)) ≡ true
@@ -31,19 +31,19 @@ unfolding digits_of counted
 digits_say zero n h = omega arith
 digits_say (suc most) n h =
     let e = pow-succ' 10 most in
-    counted-append 0 (cond (ltb n 10) [] (digits_of most (n / 10))) ((48 + n % 10) ∷ []) ∙ at (ltb n 10) refl (digits_say most (n / 10) (omega arith))
+    counted_append 0 (cond (ltb n 10) [] (digits_of most (n / 10))) ((48 + n % 10) ∷ []) ∙ at (ltb n 10) refl (digits_say most (n / 10) (omega arith))
   where
     at : (t : Bool) → ltb n 10 ≡ t → decimal (digits_of most (n / 10)) ≡ n / 10 → counted 0 (cond t [] (digits_of most (n / 10))) * 10 + (48 + n % 10 - 48) ≡ n
     at true q e = let l = ltb-true n 10 q in omega arith
     at false q e = omega arith
 
 -- the first digit of a number that is not 0 is not 0
-digits-first : (most n : ℕ) → n < 10 ^ most → 1 ≤ n → 49 ≤ get_or (digits_of most n) 0 0
+digits_first : (most n : ℕ) → n < 10 ^ most → 1 ≤ n → 49 ≤ get_or (digits_of most n) 0 0
 unfolding digits_of
-digits-first zero n h l = absurd (omega arith)
-digits-first (suc most) n h l =
+digits_first zero n h l = absurd (omega arith)
+digits_first (suc most) n h l =
     let e = pow-succ' 10 most in
-    at (ltb n 10) refl (digits-first most (n / 10) (omega arith))
+    at (ltb n 10) refl (digits_first most (n / 10) (omega arith))
   where
     before : (s : List ℕ) (d : ℕ) → 49 ≤ get_or s 0 0 → 49 ≤ get_or (s ++ (d ∷ [])) 0 0
     before [] d q = absurd (omega arith)
@@ -58,8 +58,8 @@ pub numeral_reads : (n : ℕ) → (all_digits (numeral n) ≡ true) × (decimal 
 numeral_reads n =
     let h = power_above n in
     let e = pow-succ' 10 n in
-    (digits-digits (suc n) n, digits_say (suc n) n (omega arith), digits-first (suc n) n (omega arith))
+    (digits_digits (suc n) n, digits_say (suc n) n (omega arith), digits_first (suc n) n (omega arith))
 
-pub numeral-zero : numeral 0 ≡ ascii "0"
+pub numeral_zero : numeral 0 ≡ ascii "0"
 unfolding digits_of
-numeral-zero = refl
+numeral_zero = refl

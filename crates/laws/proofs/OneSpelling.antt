@@ -12,13 +12,13 @@ use lib.Seq.{take-add, take_all, length-take-le, get_or-drop}
 use borrow.Author.Tests.{leb-true, leb-false, eqb-true, ne_eqb}
 use Rattle.alphabet.specs.Digits.{all_digits, decimal}
 use Rattle.alphabet.specs.Lists.{find}
-use Rattle.alphabet.proofs.BoolLaws.{false-true}
-use Rattle.alphabet.proofs.DigitLaws.{digits_same, digits-take, digits-drop}
+use Rattle.alphabet.proofs.BoolLaws.{false_true}
+use Rattle.alphabet.proofs.DigitLaws.{digits_same, digits_take, digits_drop}
 use Rattle.alphabet.proofs.ListLaws.{find_is}
 use Rattle.forms.specs.declared.layouts.Form.{Form}
 use Rattle.forms.specs.declared.layouts.Form.TheVariants.{Tm, Ts}
 use Rattle.forms.specs.Forms.{one_of, dt_length, front_length, body_of, zone_of, front_of, tail_of, time_form}
-use Rattle.forms.proofs.FormLaws.{one_of_lem, dt-length, front-digits, front_length_lem, tail_holds, zone_held}
+use Rattle.forms.proofs.FormLaws.{one_of_lem, dt_length_lem, front_digits, front_length_lem, tail_holds, zone_held}
 use Rattle.times.specs.Times.{is_dt, dt_time, figure_at, date_of, fraction_of, clock_of, offset_of, is_time, time_of}
 use Rattle.calendar.specs.declared.figures.Figure.TheVariants.{NotSent, Sent}
 use Rattle.calendar.specs.declared.figures.Date.{Date}
@@ -26,13 +26,13 @@ use Rattle.calendar.specs.declared.figures.Clock.{Clock}
 use Rattle.calendar.specs.declared.figures.Sign.{Sign}
 use Rattle.calendar.specs.declared.figures.Offset.{Offset}
 use Rattle.calendar.specs.declared.figures.Time.{Time}
-use Rattle.times.proofs.FigureLaws.{figure_sent, figure_not, fraction-not, fraction-sent, offset_not}
-use Rattle.times.proofs.TimeLaws.{dt_formed, dt-digits, time_formed}
+use Rattle.times.proofs.FigureLaws.{figure_sent, figure_not, fraction_not, fraction_sent, offset_not}
+use Rattle.times.proofs.TimeLaws.{dt_formed, dt_digits, time_formed}
 
 -- ---- the front, figure by figure
 
-sent-number : {m n : ℕ} → Sent m ≡ Sent n → m ≡ n
-sent-number q = cc
+sent_number : {m n : ℕ} → Sent m ≡ Sent n → m ≡ n
+sent_number q = cc
 
 never : {n : ℕ} → Sent n ≡ NotSent → ⊥
 never q = let z : ◌≡◌ {A = ℕ} 0 1 = cc in omega arith
@@ -45,8 +45,8 @@ module _ (l l' : List ℕ) (e : all_digits l ≡ true) (e' : all_digits l' ≡ t
       let d' = length-drop s l' in
       let n = length-take-le w (drop s l) (omega arith) in
       let n' = length-take-le w (drop s l') (omega arith) in
-      let k = sent-number (sym (figure_sent l s w h) ∙ q ∙ figure_sent l' s w h') in
-      (digits_same 0 0 (take w (drop s l)) (take w (drop s l')) (digits-take w (drop s l) (digits-drop s l e)) (digits-take w (drop s l') (digits-drop s l' e')) (omega arith) k).1
+      let k = sent_number (sym (figure_sent l s w h) ∙ q ∙ figure_sent l' s w h') in
+      (digits_same 0 0 (take w (drop s l)) (take w (drop s l')) (digits_take w (drop s l) (digits_drop s l e)) (digits_take w (drop s l') (digits_drop s l' e')) (omega arith) k).1
 
   -- both are written alike up to s + w, if they are up to s and neither ends between
   step : (s w : ℕ) → (length l < s + w → length l ≤ s) → (length l' < s + w → length l' ≤ s) → figure_at l s w ≡ figure_at l' s w → take s l ≡ take s l'
@@ -73,7 +73,7 @@ or_cases false y e = inr e
 pub three : (n a b c : ℕ) → one_of (a ∷ b ∷ c ∷ []) n ≡ true → (n ≡ a) ⊎ ((n ≡ b) ⊎ (n ≡ c))
 three n a b c e =
     ⊎_elim inl
-    (λ p. ⊎_elim (λ q. inr (inl q)) (λ q. ⊎_elim (λ r. inr (inr r)) false-true (one_of_lem c [] n q)) (one_of_lem b (c ∷ []) n p))
+    (λ p. ⊎_elim (λ q. inr (inl q)) (λ q. ⊎_elim (λ r. inr (inr r)) false_true (one_of_lem c [] n q)) (one_of_lem b (c ∷ []) n p))
     (one_of_lem a (b ∷ c ∷ []) n e)
 
 -- a front of a TS is as long as a DT, or twelve or fourteen digits long
@@ -81,12 +81,12 @@ pub five : (n : ℕ) → front_length Ts n ≡ true → (dt_length n ≡ true) �
 five n e =
     ⊎_elim (λ a. inl (ap dt_length a))
     (λ p. ⊎_elim (λ a. inl (ap dt_length a))
-    (λ q. ⊎_elim (λ a. inl (ap dt_length a)) (λ r. inr (⊎_elim inl (λ t. ⊎_elim inr false-true (one_of_lem 14 [] n t)) (one_of_lem 12 (14 ∷ []) n r))) (one_of_lem 8 (12 ∷ 14 ∷ []) n q))
+    (λ q. ⊎_elim (λ a. inl (ap dt_length a)) (λ r. inr (⊎_elim inl (λ t. ⊎_elim inr false_true (one_of_lem 14 [] n t)) (one_of_lem 12 (14 ∷ []) n r))) (one_of_lem 8 (12 ∷ 14 ∷ []) n q))
     (one_of_lem 6 (8 ∷ 12 ∷ 14 ∷ []) n p))
     (one_of_lem 4 (6 ∷ 8 ∷ 12 ∷ 14 ∷ []) n e)
 
-pub dt-front : (n : ℕ) → dt_length n ≡ true → front_length Ts n ≡ true
-dt-front n e = ⊎_elim (λ a. ap (front_length Ts) a) (λ p. ⊎_elim (λ a. ap (front_length Ts) a) (λ a. ap (front_length Ts) a) p) (three n 4 6 8 e)
+pub dt_front : (n : ℕ) → dt_length n ≡ true → front_length Ts n ≡ true
+dt_front n e = ⊎_elim (λ a. ap (front_length Ts) a) (λ p. ⊎_elim (λ a. ap (front_length Ts) a) (λ a. ap (front_length Ts) a) p) (three n 4 6 8 e)
 
 -- no front ends between the places where its figures begin
 pub record Gaps (n : ℕ) : Type 0 where
@@ -125,9 +125,9 @@ clock_gaps_at n (inr (inr e)) = record { hour = λ h. omega arith; minute = λ h
 -- ---- the front is told by the date and the clock
 
 module _ (l l' t t' : List ℕ) (e : all_digits l ≡ true) (e' : all_digits l' ≡ true) where
-  dated-front : front_length Ts (length l) ≡ true → front_length Ts (length l') ≡ true → date_of l ≡ date_of l' → clock_of l 8 t ≡ clock_of l' 8 t' → l ≡ l'
+  dated_front : front_length Ts (length l) ≡ true → front_length Ts (length l') ≡ true → date_of l ≡ date_of l' → clock_of l 8 t ≡ clock_of l' 8 t' → l ≡ l'
   unfolding date_of clock_of
-  dated-front f f' d c =
+  dated_front f f' d c =
       let g = dated_gaps (length l) f in
       let g' = dated_gaps (length l') f' in
       let a = step l l' e e' 0 4 g.year g'.year (ap (λ (x : Date). x.year) d) refl in
@@ -138,9 +138,9 @@ module _ (l l' t t' : List ℕ) (e : all_digits l ≡ true) (e' : all_digits l' 
       let a6 = step l l' e e' 12 2 g.second g'.second (ap (λ (x : Clock). x.second) c) a5 in
       sym (take_all 14 l g.most) ∙ a6 ∙ take_all 14 l' g'.most
 
-  clock-front : front_length Tm (length l) ≡ true → front_length Tm (length l') ≡ true → clock_of l 0 t ≡ clock_of l' 0 t' → l ≡ l'
+  clock_front : front_length Tm (length l) ≡ true → front_length Tm (length l') ≡ true → clock_of l 0 t ≡ clock_of l' 0 t' → l ≡ l'
   unfolding clock_of
-  clock-front f f' c =
+  clock_front f f' c =
       let g = clock_gaps_at (length l) (three (length l) 2 4 6 f) in
       let g' = clock_gaps_at (length l') (three (length l') 2 4 6 f') in
       let a = step l l' e e' 0 2 g.hour g'.hour (ap (λ (x : Clock). x.hour) c) refl in
@@ -153,10 +153,10 @@ module _ (l l' t t' : List ℕ) (e : all_digits l ≡ true) (e' : all_digits l' 
 tail_same : (t t' : List ℕ) → all_digits (drop 1 t) ≡ true → all_digits (drop 1 t') ≡ true → ((length t ≡ 0 → ⊥) → get_or t 0 0 ≡ 46) → ((length t' ≡ 0 → ⊥) → get_or t' 0 0 ≡ 46)
     → fraction_of t ≡ fraction_of t' → length t - 1 ≡ length t' - 1 → t ≡ t'
 tail_same [] [] d d' h h' q n = refl
-tail_same [] (b ∷ r) d d' h h' q n = absurd (never (sym (fraction-sent (b ∷ r) (λ z. omega arith)) ∙ sym q ∙ fraction-not [] refl))
-tail_same (b ∷ r) [] d d' h h' q n = absurd (never (sym (fraction-sent (b ∷ r) (λ z. omega arith)) ∙ q ∙ fraction-not [] refl))
+tail_same [] (b ∷ r) d d' h h' q n = absurd (never (sym (fraction_sent (b ∷ r) (λ z. omega arith)) ∙ sym q ∙ fraction_not [] refl))
+tail_same (b ∷ r) [] d d' h h' q n = absurd (never (sym (fraction_sent (b ∷ r) (λ z. omega arith)) ∙ q ∙ fraction_not [] refl))
 tail_same (b ∷ r) (b' ∷ r') d d' h h' q n =
-    let k = sent-number (sym (fraction-sent (b ∷ r) (λ z. omega arith)) ∙ q ∙ fraction-sent (b' ∷ r') (λ z. omega arith)) in
+    let k = sent_number (sym (fraction_sent (b ∷ r) (λ z. omega arith)) ∙ q ∙ fraction_sent (b' ∷ r') (λ z. omega arith)) in
     let s = (digits_same 0 0 r r' d d' (omega arith) k).1 in
     let x : b ≡ 46 = h (λ z. omega arith) in
     let x' : b' ≡ 46 = h' (λ z. omega arith) in
@@ -173,8 +173,8 @@ four_same r r' n n' d d' a b =
     let i' = length-take-le 2 r' (omega arith) in
     let j = length-take-le 2 (drop 2 r) (omega arith) in
     let j' = length-take-le 2 (drop 2 r') (omega arith) in
-    let x = (digits_same 0 0 (take 2 r) (take 2 r') (digits-take 2 r d) (digits-take 2 r' d') (omega arith) a).1 in
-    let y = (digits_same 0 0 (take 2 (drop 2 r)) (take 2 (drop 2 r')) (digits-take 2 (drop 2 r) (digits-drop 2 r d)) (digits-take 2 (drop 2 r') (digits-drop 2 r' d')) (omega arith) b).1 in
+    let x = (digits_same 0 0 (take 2 r) (take 2 r') (digits_take 2 r d) (digits_take 2 r' d') (omega arith) a).1 in
+    let y = (digits_same 0 0 (take 2 (drop 2 r)) (take 2 (drop 2 r')) (digits_take 2 (drop 2 r) (digits_drop 2 r d)) (digits_take 2 (drop 2 r') (digits_drop 2 r' d')) (omega arith) b).1 in
     let w = sym (take_all 4 r (omega arith)) ∙ take-add 2 2 r in
     w ∙ ap (λ (z : List ℕ). z ++ take 2 (drop 2 r)) x ∙ ap (λ (z : List ℕ). take 2 r' ++ z) y ∙ sym (take-add 2 2 r') ∙ take_all 4 r' (omega arith)
 
@@ -271,31 +271,31 @@ one_spelling Ts a b e f q =
     let e1 = time_formed Ts a e in
     let f1 = time_formed Ts b f in
     together Ts a b e1 f1 q
-    (dated-front (front_of a) (front_of b) (tail_of a) (tail_of b) (front-digits Ts a e1) (front-digits Ts b f1) (front_length_lem Ts a e1) (front_length_lem Ts b f1)
+    (dated_front (front_of a) (front_of b) (tail_of a) (tail_of b) (front_digits Ts a e1) (front_digits Ts b f1) (front_length_lem Ts a e1) (front_length_lem Ts b f1)
     (ap (λ (t : Time). t.date) q) (ap (λ (t : Time). t.clock) q))
 one_spelling Tm a b e f q =
     let e1 = time_formed Tm a e in
     let f1 = time_formed Tm b f in
     together Tm a b e1 f1 q
-    (clock-front (front_of a) (front_of b) (tail_of a) (tail_of b) (front-digits Tm a e1) (front-digits Tm b f1) (front_length_lem Tm a e1) (front_length_lem Tm b f1)
+    (clock_front (front_of a) (front_of b) (tail_of a) (tail_of b) (front_digits Tm a e1) (front_digits Tm b f1) (front_length_lem Tm a e1) (front_length_lem Tm b f1)
     (ap (λ (t : Time). t.clock) q))
 
 -- and the same of a DT
-pub dt-most : (n : ℕ) → (n ≡ 4) ⊎ ((n ≡ 6) ⊎ (n ≡ 8)) → n ≤ 8
-dt-most n (inl e) = omega arith
-dt-most n (inr (inl e)) = omega arith
-dt-most n (inr (inr e)) = omega arith
+pub dt_most : (n : ℕ) → (n ≡ 4) ⊎ ((n ≡ 6) ⊎ (n ≡ 8)) → n ≤ 8
+dt_most n (inl e) = omega arith
+dt_most n (inr (inl e)) = omega arith
+dt_most n (inr (inr e)) = omega arith
 
 pub one_dt_spelling : (a b : List ℕ) → is_dt a ≡ true → is_dt b ≡ true → dt_time a ≡ dt_time b → a ≡ b
 unfolding dt_time date_of
 one_dt_spelling a b e f q =
     let d = ap (λ (t : Time). t.date) q in
-    let x = dt-digits a e in
-    let y = dt-digits b f in
-    let g = dt_gaps (length a) (dt-length a (dt_formed a e)) in
-    let g' = dt_gaps (length b) (dt-length b (dt_formed b f)) in
-    let m = dt-most (length a) (three (length a) 4 6 8 (dt-length a (dt_formed a e))) in
-    let m' = dt-most (length b) (three (length b) 4 6 8 (dt-length b (dt_formed b f))) in
+    let x = dt_digits a e in
+    let y = dt_digits b f in
+    let g = dt_gaps (length a) (dt_length_lem a (dt_formed a e)) in
+    let g' = dt_gaps (length b) (dt_length_lem b (dt_formed b f)) in
+    let m = dt_most (length a) (three (length a) 4 6 8 (dt_length_lem a (dt_formed a e))) in
+    let m' = dt_most (length b) (three (length b) 4 6 8 (dt_length_lem b (dt_formed b f))) in
     let s = step a b x y 0 4 g.year g'.year (ap (λ (z : Date). z.year) d) refl in
     let s2 = step a b x y 4 2 g.month g'.month (ap (λ (z : Date). z.month) d) s in
     let s3 = step a b x y 6 2 g.day g'.day (ap (λ (z : Date). z.day) d) s2 in

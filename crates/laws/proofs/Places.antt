@@ -11,6 +11,6 @@ abbrev pub EachListed : (ListedStructure → Type 0) → List ListedStructure �
 EachListed P [] = Unit {0}
 EachListed P (x ∷ book) = P x × EachListed P book
 
-pub at-most_64 : EachListed (λ (x : ListedStructure). size x.shape ≤ 64) built_in
+pub at_most_64 : EachListed (λ (x : ListedStructure). size x.shape ≤ 64) built_in
 unfolding built_in
-at-most_64 = (omega arith, (omega arith, (omega arith, (omega arith, (omega arith, (omega arith, tt))))))
+at_most_64 = (omega arith, (omega arith, (omega arith, (omega arith, (omega arith, (omega arith, tt))))))

@@ -18,11 +18,11 @@ use Rattle.reading.specs.Message.{Message}
 use Rattle.reading.specs.Reading.{reading}
 use Rattle.reading.specs.Segments.{segments}
 use Rattle.reading.proofs.Accepted.{accepted as accepted-message}
-use Rattle.reading.proofs.Honest.{reading-numbered}
+use Rattle.reading.proofs.Honest.{reading_numbered}
 use Rattle.structure.specs.Listed.{In}
 use Rattle.structure.specs.SegmentNames.{segment_names}
 use Rattle.structure.specs.Structures.{Choice, chosen, unlisted, structure_for, built_in}
-use Rattle.structure.specs.Judged.{Answers, accepted, refused, unread, read, no-structure, by}
+use Rattle.structure.specs.Judged.{Answers, accepted, refused, unread, read, no_structure, by}
 use Rattle.fault.specs.Faults.{plain}
 use Rattle.fault.specs.declared.FaultRecord.{FaultRecord}
 use Rattle.field_table.specs.Table.{rows}
@@ -31,12 +31,12 @@ use Rattle.verdict.proofs.VerdictLaws.{shaped}
 use Rattle.verdict.specs.Verdicts.{Verdicts}
 use Rattle.verdict.specs.Verdicts.VerdictsBy.{refused as by-structure, judged as by-fields}
 use Rattle.laws.specs.Rejected.{Rejects, unsupported, processing, version, Rejected, Unsupported, StandsOnce, IsOneOf, IsNoneOf, Timed, Identified, processing_ids, versions, RejectedFor, its_type, its_processing, its_version}
-use Rattle.laws.proofs.Chosen.{listed-exactly}
-use Rattle.laws.proofs.FaultNumbers.{FaultNumbered, segments-numbered, fields_number}
+use Rattle.laws.proofs.Chosen.{listed_exactly}
+use Rattle.laws.proofs.FaultNumbers.{FaultNumbered, segments_numbered, fields_number}
 use Rattle.laws.specs.Entries.{of_structure}
 use Rattle.laws.proofs.Among.{apart}
-use Rattle.laws.proofs.EntryNumbers.{structure-numbers}
-use Rattle.laws.proofs.HeaderRows.{timed_found, identified-found, processing-found, version-found, in-header, timed_so, identified-so, processing-so, processing-not, version-not}
+use Rattle.laws.proofs.EntryNumbers.{structure_numbers}
+use Rattle.laws.proofs.HeaderRows.{timed_found, identified_found, processing_found, version_found, in_header, timed_so, identified_so, processing_so, processing_not, version_not}
 
 -- ---- 20
 
@@ -48,14 +48,14 @@ misplaced false = omega arith
 module _ (m : List ℕ) where
   -- what the structure judge refuses with 20 was read, and no structure is chosen for it
   twenty : {r : FaultRecord} → Answers m r → number_of r.kind ≡ 20 → (reading m ≡ Passes) × (structure_for built_in m ≡ unlisted)
-  twenty (unread kind place e) n = absurd (let q = numbered_fails 1 8 (reading m) kind place (reading-numbered m) e in omega (arith, q.1))
-  twenty (read p (no-structure g)) n = (p, g)
+  twenty (unread kind place e) n = absurd (let q = numbered_fails 1 8 (reading m) kind place (reading_numbered m) e in omega (arith, q.1))
+  twenty (read p (no_structure g)) n = (p, g)
   twenty (read p (by x g (accepted y))) n = absurd (omega arith)
   twenty (read p (by x g (refused place ends list a))) n = absurd (let q = misplaced (ltb place (length (segment_names m))) in omega (arith, q))
 
   -- it never refuses with 33
   never_33 : {r : FaultRecord} → Answers m r → number_of r.kind ≡ 33 → ⊥
-  never_33 a n = apart of_structure 33 refl (subst (λ (k : ℕ). In k of_structure) n (structure-numbers m a))
+  never_33 a n = apart of_structure 33 refl (subst (λ (k : ℕ). In k of_structure) n (structure_numbers m a))
 
   -- the field judge never gives 20
   never_20 : number_of (fault_answer (judging rows m)).kind ≡ 20 → ⊥
@@ -65,22 +65,22 @@ module _ (m : List ℕ) where
       at (inl e) = omega arith
       at (inr b) = omega (arith, b.0)
 
-  by-type : {r : FaultRecord} → Verdicts m r → number_of r.kind ≡ 20 → Unsupported m
-  by-type (by-structure r a some) n =
+  by_type : {r : FaultRecord} → Verdicts m r → number_of r.kind ≡ 20 → Unsupported m
+  by_type (by-structure r a some) n =
       let t = twenty a n in
-      record { was_read = t.0; not_listed = λ s l. let c = (listed-exactly m s).1 l in absurd (let e = t.1 in let f = c.1 in let z : ◌≡◌ {A = ℕ} 0 1 = cc in omega arith) }
-  by-type (by-fields r a none) n = absurd (never_20 n)
+      record { was_read = t.0; not_listed = λ s l. let c = (listed_exactly m s).1 l in absurd (let e = t.1 in let f = c.1 in let z : ◌≡◌ {A = ℕ} 0 1 = cc in omega arith) }
+  by_type (by-fields r a none) n = absurd (never_20 n)
 
   -- every message of such a type is rejected
   unsupported_rejected : Unsupported m → Rejected m
   unsupported_rejected u = at (structure_for built_in m) refl
     where
       at : (c : Choice) → structure_for built_in m ≡ c → Rejected m
-      at (chosen x) e = absurd (u.not_listed x.shape ((listed-exactly m x.shape).0 (x, e, refl)))
+      at (chosen x) e = absurd (u.not_listed x.shape ((listed_exactly m x.shape).0 (x, e, refl)))
       at unlisted e =
           record {
             fault = plain NoStructure 0;
-            first = by-structure (plain NoStructure 0) (read u.was_read (no-structure e)) (λ q. let z = ap number_of q in omega arith);
+            first = by-structure (plain NoStructure 0) (read u.was_read (no_structure e)) (λ q. let z = ap number_of q in omega arith);
             rejects = unsupported refl;
           }
 
@@ -96,13 +96,13 @@ module _ (kind : Refusal) (field repetition : ℕ) where
   which (Faulty k segment f r) g e = inl e
 
   -- it is none of a segment behind the first
-  in-first : (m s : List ℕ) (rest : List (List ℕ)) → segments m ≡ s ∷ rest → Here (judging rows m) → Here (segment_fault rows m 0 0 s)
+  in_first : (m s : List ℕ) (rest : List (List ℕ)) → segments m ≡ s ∷ rest → Here (judging rows m) → Here (segment_fault rows m 0 0 s)
   unfolding judging segment_faults first_fault
-  in-first m s rest first found = at (which (segment_fault rows m 0 0 s) (first_fault (segment_faults rows m 1 (0 + length s + 1) rest)) (sym (ap (λ (ss : List (List ℕ)). first_fault (segment_faults rows m 0 0 ss)) first) ∙ found))
+  in_first m s rest first found = at (which (segment_fault rows m 0 0 s) (first_fault (segment_faults rows m 1 (0 + length s + 1) rest)) (sym (ap (λ (ss : List (List ℕ)). first_fault (segment_faults rows m 0 0 ss)) first) ∙ found))
     where
       at : Here (segment_fault rows m 0 0 s) ⊎ Here (first_fault (segment_faults rows m 1 (0 + length s + 1) rest)) → Here (segment_fault rows m 0 0 s)
       at (inl e) = e
-      at (inr e) = absurd (let b = subst (FaultNumbered 1 (1 + length rest)) e (segments-numbered m rows 1 (1 + length rest) (0 + length s + 1) rest (omega arith)) in omega (arith, b.1))
+      at (inr e) = absurd (let b = subst (FaultNumbered 1 (1 + length rest)) e (segments_numbered m rows 1 (1 + length rest) (0 + length s + 1) rest (omega arith)) in omega (arith, b.1))
 
   of_field : (f : ℕ) (c : Check) → Here (located 0 f c) → (c ≡ Fails kind repetition) × (f ≡ field)
   of_field f Passes e = absurd (let z : ◌≡◌ {A = ℕ} 0 1 = cc in omega arith)
@@ -127,20 +127,20 @@ module _ (kind : Refusal) (field repetition : ℕ) where
 module _ (m s : List ℕ) (rest : List (List ℕ)) (first : segments m ≡ s ∷ rest) (four : 4 ≤ length m) (fits : Answers m (plain None 0)) where
   -- from the fault to the bytes
   module _ (kind : Refusal) (repetition : ℕ) (number : number_of kind ≡ 33) where
-    processing-says : judging rows m ≡ Faulty kind 0 11 repetition → RejectedFor m
-    processing-says found =
-        let a = other_row kind 11 repetition 7 (timed_found m s rest first four) _ (λ q. omega arith) (sym (in-header m s rest first four) ∙ in-first kind 11 repetition m s rest first found) in
-        let b = other_row kind 11 repetition 10 (identified-found m s rest first four) _ (λ q. omega arith) a.1 in
-        let c = own_row kind 11 repetition 11 (processing-found m s rest first four) _ (λ e. not_sound kind 11 repetition (other_row kind 11 repetition 12 (version-found m s rest first four) Sound (λ q. omega arith) e).1) b.1 in
-        its_processing fits ((timed_so m s rest first four).0 a.0) ((identified-so m s rest first four).0 b.0) ((processing-not m s rest first four).0 kind repetition number c)
+    processing_says : judging rows m ≡ Faulty kind 0 11 repetition → RejectedFor m
+    processing_says found =
+        let a = other_row kind 11 repetition 7 (timed_found m s rest first four) _ (λ q. omega arith) (sym (in_header m s rest first four) ∙ in_first kind 11 repetition m s rest first found) in
+        let b = other_row kind 11 repetition 10 (identified_found m s rest first four) _ (λ q. omega arith) a.1 in
+        let c = own_row kind 11 repetition 11 (processing_found m s rest first four) _ (λ e. not_sound kind 11 repetition (other_row kind 11 repetition 12 (version_found m s rest first four) Sound (λ q. omega arith) e).1) b.1 in
+        its_processing fits ((timed_so m s rest first four).0 a.0) ((identified_so m s rest first four).0 b.0) ((processing_not m s rest first four).0 kind repetition number c)
 
-    version-says : judging rows m ≡ Faulty kind 0 12 repetition → RejectedFor m
-    version-says found =
-        let a = other_row kind 12 repetition 7 (timed_found m s rest first four) _ (λ q. omega arith) (sym (in-header m s rest first four) ∙ in-first kind 12 repetition m s rest first found) in
-        let b = other_row kind 12 repetition 10 (identified-found m s rest first four) _ (λ q. omega arith) a.1 in
-        let c = other_row kind 12 repetition 11 (processing-found m s rest first four) _ (λ q. omega arith) b.1 in
-        let d = own_row kind 12 repetition 12 (version-found m s rest first four) Sound (not_sound kind 12 repetition) c.1 in
-        its_version fits ((timed_so m s rest first four).0 a.0) ((identified-so m s rest first four).0 b.0) ((processing-so m s rest first four).0 c.0) ((version-not m s rest first four).0 kind repetition number d)
+    version_says : judging rows m ≡ Faulty kind 0 12 repetition → RejectedFor m
+    version_says found =
+        let a = other_row kind 12 repetition 7 (timed_found m s rest first four) _ (λ q. omega arith) (sym (in_header m s rest first four) ∙ in_first kind 12 repetition m s rest first found) in
+        let b = other_row kind 12 repetition 10 (identified_found m s rest first four) _ (λ q. omega arith) a.1 in
+        let c = other_row kind 12 repetition 11 (processing_found m s rest first four) _ (λ q. omega arith) b.1 in
+        let d = own_row kind 12 repetition 12 (version_found m s rest first four) Sound (not_sound kind 12 repetition) c.1 in
+        its_version fits ((timed_so m s rest first four).0 a.0) ((identified_so m s rest first four).0 b.0) ((processing_so m s rest first four).0 c.0) ((version_not m s rest first four).0 kind repetition number d)
 
   -- from the bytes to the fault
   whole : (f : Fault) → segment_fault rows m 0 0 s ≡ f → (f ≡ Sound → ⊥) → judging rows m ≡ f
@@ -150,18 +150,18 @@ module _ (m s : List ℕ) (rest : List (List ℕ)) (first : segments m ≡ s ∷
       ap (λ (ss : List (List ℕ)). first_fault (segment_faults rows m 0 0 ss)) first
       ∙ ap (λ (f : Fault). or_fault f (first_fault (segment_faults rows m 1 (0 + length s + 1) rest))) e
 
-  processing-found-so : Timed m → Identified m → StandsOnce m 11 1 (IsNoneOf processing_ids) → judging rows m ≡ Faulty NotListed 0 11 1
-  processing-found-so t i o =
+  processing_found_so : Timed m → Identified m → StandsOnce m 11 1 (IsNoneOf processing_ids) → judging rows m ≡ Faulty NotListed 0 11 1
+  processing_found_so t i o =
       whole (Faulty NotListed 0 11 1)
-      (in-header m s rest first four
-      ∙ rw ((timed_so m s rest first four).1 t, (identified-so m s rest first four).1 i, (processing-not m s rest first four).1 o) refl)
+      (in_header m s rest first four
+      ∙ rw ((timed_so m s rest first four).1 t, (identified_so m s rest first four).1 i, (processing_not m s rest first four).1 o) refl)
       (λ e. let z : ◌≡◌ {A = ℕ} 0 1 = cc in omega arith)
 
-  version-found-so : Timed m → Identified m → StandsOnce m 11 1 (IsOneOf processing_ids) → StandsOnce m 12 1 (IsNoneOf versions) → judging rows m ≡ Faulty NotListed 0 12 1
-  version-found-so t i p o =
+  version_found_so : Timed m → Identified m → StandsOnce m 11 1 (IsOneOf processing_ids) → StandsOnce m 12 1 (IsNoneOf versions) → judging rows m ≡ Faulty NotListed 0 12 1
+  version_found_so t i p o =
       whole (Faulty NotListed 0 12 1)
-      (in-header m s rest first four
-      ∙ rw ((timed_so m s rest first four).1 t, (identified-so m s rest first four).1 i, (processing-so m s rest first four).1 p, (version-not m s rest first four).1 o) refl)
+      (in_header m s rest first four
+      ∙ rw ((timed_so m s rest first four).1 t, (identified_so m s rest first four).1 i, (processing_so m s rest first four).1 p, (version_not m s rest first four).1 o) refl)
       (λ e. let z : ◌≡◌ {A = ℕ} 0 1 = cc in omega arith)
 
 -- ---- both ways
@@ -185,28 +185,28 @@ module _ (m : List ℕ) where
       message = accepted-message m p
 
       at : (ss : List (List ℕ)) → segments m ≡ ss → Begins
-      at [] q = absurd (let l = message.some-segments in let k = ap length q in omega arith)
-      at (s ∷ rest) q = record { segment = s; others = rest; first = q; four = omega (arith, message.opened.nine-bytes) }
+      at [] q = absurd (let l = message.some_segments in let k = ap length q in omega arith)
+      at (s ∷ rest) q = record { segment = s; others = rest; first = q; four = omega (arith, message.opened.nine_bytes) }
 
-  by-list : (f : Fault) → judging rows m ≡ f → (reading m ≡ Passes) × Answers m (plain None 0) → number_of (fault_answer f).kind ≡ 33 → (fault_answer f).place ≡ 0
+  by_list : (f : Fault) → judging rows m ≡ f → (reading m ≡ Passes) × Answers m (plain None 0) → number_of (fault_answer f).kind ≡ 33 → (fault_answer f).place ≡ 0
       → ((fault_answer f).field ≡ 11) ⊎ ((fault_answer f).field ≡ 12) → RejectedFor m
-  by-list Sound e p n z w = absurd (omega arith)
-  by-list (Faulty kind segment field repetition) e p n z (inl q) =
+  by_list Sound e p n z w = absurd (omega arith)
+  by_list (Faulty kind segment field repetition) e p n z (inl q) =
       let b = begins p.0 in
-      processing-says m b.segment b.others b.first b.four p.1 kind repetition n (e ∙ ap₂ (λ (x y : ℕ). Faulty kind x y repetition) z q)
-  by-list (Faulty kind segment field repetition) e p n z (inr q) =
+      processing_says m b.segment b.others b.first b.four p.1 kind repetition n (e ∙ ap₂ (λ (x y : ℕ). Faulty kind x y repetition) z q)
+  by_list (Faulty kind segment field repetition) e p n z (inr q) =
       let b = begins p.0 in
-      version-says m b.segment b.others b.first b.four p.1 kind repetition n (e ∙ ap₂ (λ (x y : ℕ). Faulty kind x y repetition) z q)
+      version_says m b.segment b.others b.first b.four p.1 kind repetition n (e ∙ ap₂ (λ (x y : ℕ). Faulty kind x y repetition) z q)
 
   outside : {r : FaultRecord} → Verdicts m r → number_of r.kind ≡ 33 → r.place ≡ 0 → (r.field ≡ 11) ⊎ (r.field ≡ 12) → RejectedFor m
   outside (by-structure r a some) n z w = absurd (never_33 m a n)
-  outside (by-fields r a none) n z w = by-list (judging rows m) refl (fitting a none) n z w
+  outside (by-fields r a none) n z w = by_list (judging rows m) refl (fitting a none) n z w
 
   says : Rejected m → RejectedFor m
   says j = at j.rejects
     where
       at : Rejects j.fault → RejectedFor m
-      at (unsupported n) = its_type (by-type m j.first n)
+      at (unsupported n) = its_type (by_type m j.first n)
       at (processing n z f) = outside j.first n z (inl f)
       at (version n z f) = outside j.first n z (inr f)
 
@@ -214,7 +214,7 @@ module _ (m : List ℕ) where
   said (its_type u) = unsupported_rejected m u
   said (its_processing a t i o) =
       let b = begins (fitting a refl).0 in
-      let e = processing-found-so m b.segment b.others b.first b.four a t i o in
+      let e = processing_found_so m b.segment b.others b.first b.four a t i o in
       record {
         fault = fault_answer (judging rows m);
         first = by-fields (plain None 0) a refl;
@@ -222,7 +222,7 @@ module _ (m : List ℕ) where
       }
   said (its_version a t i p o) =
       let b = begins (fitting a refl).0 in
-      let e = version-found-so m b.segment b.others b.first b.four a t i p o in
+      let e = version_found_so m b.segment b.others b.first b.four a t i p o in
       record {
         fault = fault_answer (judging rows m);
         first = by-fields (plain None 0) a refl;

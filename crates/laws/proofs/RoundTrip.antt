@@ -9,9 +9,9 @@ use lib.Dec.{ltb}
 use lib.ListN.{length, get_or, take, length-append}
 use lib.Seq.{take-append_seam, drop-append-add}
 use borrow.Author.Tests.{eq-eqb, ne_eqb, lt-ltb, le-ltb, ltb-true, ltb-false}
-use Rattle.alphabet.proofs.BoolLaws.{false-true}
-use Rattle.alphabet.proofs.ListLaws.{find_is, find-own}
-use Rattle.alphabet.proofs.DelimiterLaws.{delimiter-permitted}
+use Rattle.alphabet.proofs.BoolLaws.{false_true}
+use Rattle.alphabet.proofs.ListLaws.{find_is, find_own}
+use Rattle.alphabet.proofs.DelimiterLaws.{delimiter_permitted}
 use Rattle.alphabet.proofs.NullLaws.{two_quotes_lem}
 use Rattle.alphabet.specs.Lists.{first, find}
 use Rattle.alphabet.specs.Bytes.{printable, hex_of, hex_digit, is_null}
@@ -22,18 +22,18 @@ use Rattle.text.specs.Unescape.{known, meaning, Sequences, plain_text, before, s
 use Rattle.escaping.specs.Outcomes.{text}
 use Rattle.escaping.specs.Outcomes.{fitting}
 use Rattle.text.specs.Unescape.{unescaping}
-use Rattle.escaping.proofs.PieceLaws.{written-letter, written-plain, written-hex}
-use Rattle.escaping.proofs.OutcomeLaws.{escape-null, escape-other}
-use Rattle.text.proofs.StepLaws.{step-known, step-plain, scan-emit, scan-skip}
-use Rattle.laws.proofs.EscapeTable.{letter_back, digit_back, escape-not}
+use Rattle.escaping.proofs.PieceLaws.{written_letter, written_plain, written_hex}
+use Rattle.escaping.proofs.OutcomeLaws.{escape_null, escape_other}
+use Rattle.text.proofs.StepLaws.{step_known, step_plain, scan_emit, scan_skip}
+use Rattle.laws.proofs.EscapeTable.{letter_back, digit_back, escape_not}
 
-find-other : (b x : ℕ) (r : List ℕ) → (b ≡ x → ⊥) → find b (x ∷ r) ≡ suc (find b r)
+find_other : (b x : ℕ) (r : List ℕ) → (b ≡ x → ⊥) → find b (x ∷ r) ≡ suc (find b r)
 unfolding first
-find-other b x r n = rw (ne_eqb b x n)
+find_other b x r n = rw (ne_eqb b x n)
 
-find-same : (b : ℕ) (r : List ℕ) → find b (b ∷ r) ≡ 0
+find_same : (b : ℕ) (r : List ℕ) → find b (b ∷ r) ≡ 0
 unfolding first
-find-same b r = rw (eq-eqb b b refl)
+find_same b r = rw (eq-eqb b b refl)
 
 -- a whole sequence: c stands between two escape delimiters
 pub sequence_back : {A : Type 0} (q : Sequences A) (ds : List ℕ) (at : ℕ) (c r : List ℕ) (xs : List A)
@@ -45,29 +45,29 @@ sequence_back {A} q ds at c r xs f k m =
     let n = length c in
     let t : take n s ≡ c = take-append_seam c (e ∷ r) in
     let l : length s ≡ n + suc (length r) = length-append c (e ∷ r) in
-    let p = step-known q ds e s n refl f (omega arith) (ap q.known t ∙ k) in
-    scan-emit q ds at e s (q.meaning ds (take n s)) (n + 1) p
+    let p = step_known q ds e s n refl f (omega arith) (ap q.known t ∙ k) in
+    scan_emit q ds at e s (q.meaning ds (take n s)) (n + 1) p
     ∙ ap (λ (ys : List A). before ys (scan q ds (at + 1) (n + 1) s)) (ap (q.meaning ds) t ∙ m)
-    ∙ ap (before xs) (scan-skip q ds (at + 1) (n + 1) s
+    ∙ ap (before xs) (scan_skip q ds (at + 1) (n + 1) s
     ∙ ap (λ (l : List ℕ). scan q ds ((at + 1) + (n + 1)) 0 l) (drop-append-add c (e ∷ r) 1)
     ∙ ap (λ (n : ℕ). scan q ds n 0 r) (omega arith))
 
-hex-known : (h l : ℕ) → hex_of h < 16 → hex_of l < 16 → known (88 ∷ h ∷ l ∷ []) ≡ true
+hex_known : (h l : ℕ) → hex_of h < 16 → hex_of l < 16 → known (88 ∷ h ∷ l ∷ []) ≡ true
 unfolding known all_hex
-hex-known h l p q = rw (lt-ltb (hex_of h) 16 p) (rw (lt-ltb (hex_of l) 16 q))
+hex_known h l p q = rw (lt-ltb (hex_of h) 16 p) (rw (lt-ltb (hex_of l) 16 q))
 
-hex-meaning : (ds : List ℕ) (h l b : ℕ) → hex_of h ≡ b / 16 → hex_of l ≡ b % 16 → meaning ds (88 ∷ h ∷ l ∷ []) ≡ b ∷ []
+hex_meaning : (ds : List ℕ) (h l b : ℕ) → hex_of h ≡ b / 16 → hex_of l ≡ b % 16 → meaning ds (88 ∷ h ∷ l ∷ []) ≡ b ∷ []
 unfolding meaning pairs_of
-hex-meaning ds h l b p q = let e : hex_of h * 16 + hex_of l ≡ b = omega arith in ap (λ (x : ℕ). x ∷ []) e
+hex_meaning ds h l b p q = let e : hex_of h * 16 + hex_of l ≡ b = omega arith in ap (λ (x : ℕ). x ∷ []) e
 
 -- a list of bytes, as every slice of them is
 abbrev pub AreBytes : List ℕ → Type 0
 AreBytes t = (i : ℕ) → get_or t i 0 < 256
 
 -- what is no delimiter is not the escape delimiter
-pub no-delimiter : (ds : List ℕ) → length ds ≡ 5 → (b : ℕ) → 5 ≤ find b ds → b ≡ escape_of ds → ⊥
-no-delimiter ds five b h e =
-    let z = find-own ds 3 (omega arith) in
+pub no_delimiter : (ds : List ℕ) → length ds ≡ 5 → (b : ℕ) → 5 ≤ find b ds → b ≡ escape_of ds → ⊥
+no_delimiter ds five b h e =
+    let z = find_own ds 3 (omega arith) in
     let q : find b ds ≡ find (escape_of ds) ds = ap (λ (x : ℕ). find x ds) e in
     omega arith
 
@@ -75,12 +75,12 @@ no-delimiter ds five b h e =
 abbrev pub HoldsPlainText : {A : Type 0} → Sequences A → List ℕ → Type 0
 HoldsPlainText q ds = (c : List ℕ) → known c ≡ true → (q.known c ≡ true) × (q.meaning ds c ≡ map q.plain (meaning ds c))
 
-plain-holds : (ds : List ℕ) → HoldsPlainText plain_text ds
-plain-holds ds c k = (k, sym (map-id (meaning ds c)))
+plain_holds : (ds : List ℕ) → HoldsPlainText plain_text ds
+plain_holds ds c k = (k, sym (map-id (meaning ds c)))
 
 module _ (ds : List ℕ) (five : length ds ≡ 5) (fine : first_wrong_delimiter ds ≡ 5) where
-  escape-at : (x : ℕ) (r : List ℕ) → permitted x ≡ false → find (escape_of ds) (x ∷ r) ≡ suc (find (escape_of ds) r)
-  escape-at x r f = find-other (escape_of ds) x r (escape-not ds five fine x f)
+  escape_at : (x : ℕ) (r : List ℕ) → permitted x ≡ false → find (escape_of ds) (x ∷ r) ≡ suc (find (escape_of ds) r)
+  escape_at x r f = find_other (escape_of ds) x r (escape_not ds five fine x f)
 
   -- a byte that may not be a delimiter is none
   pub absent : (x : ℕ) → permitted x ≡ false → 5 ≤ find x ds
@@ -89,43 +89,43 @@ module _ (ds : List ℕ) (five : length ds ≡ 5) (fine : first_wrong_delimiter 
       by : (t : Bool) → ltb (find x ds) 5 ≡ t → 5 ≤ find x ds
       by true e =
           let h = ltb-true (find x ds) 5 e in
-          let z : true ≡ false = sym (delimiter-permitted ds five fine (find x ds) h) ∙ ap permitted (find_is x ds (omega arith)) ∙ f in
-          false-true (sym z)
+          let z : true ≡ false = sym (delimiter_permitted ds five fine (find x ds) h) ∙ ap permitted (find_is x ds (omega arith)) ∙ f in
+          false_true (sym z)
       by false e = ltb-false (find x ds) 5 e
 
   module _ {A : Type 0} (q : Sequences A) where
     abbrev Back : ℕ → ℕ → List ℕ → List ℕ → Type 0
     Back b at r w = scan q ds at 0 (w ++ r) ≡ before (q.plain b ∷ []) (scan q ds (at + length w) 0 r)
 
-    plain-read : (b at : ℕ) (r : List ℕ) → 5 ≤ find b ds → printable b ≡ true → Back b at r (b ∷ [])
-    plain-read b at r h a = scan-emit q ds at b r (q.plain b ∷ []) 0 (step-plain q ds b r (no-delimiter ds five b h) a h)
+    plain_read : (b at : ℕ) (r : List ℕ) → 5 ≤ find b ds → printable b ≡ true → Back b at r (b ∷ [])
+    plain_read b at r h a = scan_emit q ds at b r (q.plain b ∷ []) 0 (step_plain q ds b r (no_delimiter ds five b h) a h)
 
     module _ (holds : HoldsPlainText q ds) where
       known_back : (at : ℕ) (c r t : List ℕ) → find (escape_of ds) (c ++ escape_of ds ∷ r) ≡ length c → known c ≡ true → meaning ds c ≡ t
           → scan q ds at 0 (escape_of ds ∷ (c ++ escape_of ds ∷ r)) ≡ before (map q.plain t) (scan q ds (at + (length c + 2)) 0 r)
       known_back at c r t f k m = sequence_back q ds at c r (map q.plain t) f (holds c k).0 ((holds c k).1 ∙ ap (map q.plain) m)
 
-      letter-read : (b at : ℕ) (r : List ℕ) → find b ds < 5 → Back b at r (escape_of ds ∷ get_or letters (find b ds) 0 ∷ escape_of ds ∷ [])
+      letter_read : (b at : ℕ) (r : List ℕ) → find b ds < 5 → Back b at r (escape_of ds ∷ get_or letters (find b ds) 0 ∷ escape_of ds ∷ [])
       unfolding known meaning
-      letter-read b at r h =
+      letter_read b at r h =
           let L = get_or letters (find b ds) 0 in
           let o = letter_back (find b ds) h in
           known_back at (L ∷ []) r (b ∷ [])
-          (escape-at L (escape_of ds ∷ r) o.0 ∙ ap suc (find-same (escape_of ds) r))
+          (escape_at L (escape_of ds ∷ r) o.0 ∙ ap suc (find_same (escape_of ds) r))
           (lt-ltb (find L letters) 5 (omega arith))
           (ap (λ (x : ℕ). get_or ds x 0 ∷ []) o.1 ∙ ap (λ (x : ℕ). x ∷ []) (find_is b ds (omega arith)))
 
-      hex-read : (b at : ℕ) (r : List ℕ) → b < 256 → Back b at r (escape_of ds ∷ 88 ∷ hex_digit (b / 16) ∷ hex_digit (b % 16) ∷ escape_of ds ∷ [])
-      hex-read b at r h =
+      hex_read : (b at : ℕ) (r : List ℕ) → b < 256 → Back b at r (escape_of ds ∷ 88 ∷ hex_digit (b / 16) ∷ hex_digit (b % 16) ∷ escape_of ds ∷ [])
+      hex_read b at r h =
           let e = escape_of ds in
           let x = hex_digit (b / 16) in
           let y = hex_digit (b % 16) in
           let p = digit_back (b / 16) (omega arith) in
           let o = digit_back (b % 16) (omega arith) in
           known_back at (88 ∷ x ∷ y ∷ []) r (b ∷ [])
-          (escape-at 88 (x ∷ y ∷ e ∷ r) refl ∙ ap suc (escape-at x (y ∷ e ∷ r) p.0 ∙ ap suc (escape-at y (e ∷ r) o.0 ∙ ap suc (find-same e r))))
-          (hex-known x y (omega arith) (omega arith))
-          (hex-meaning ds x y b p.1 o.1)
+          (escape_at 88 (x ∷ y ∷ e ∷ r) refl ∙ ap suc (escape_at x (y ∷ e ∷ r) p.0 ∙ ap suc (escape_at y (e ∷ r) o.0 ∙ ap suc (find_same e r))))
+          (hex_known x y (omega arith) (omega arith))
+          (hex_meaning ds x y b p.1 o.1)
 
       -- one byte, whatever follows
       byte_back : (b at : ℕ) (r : List ℕ) → b < 256 → Back b at r (escape_byte ds b)
@@ -134,13 +134,13 @@ module _ (ds : List ℕ) (five : length ds ≡ 5) (fine : first_wrong_delimiter 
           by : (t : Bool) → ltb (find b ds) 5 ≡ t → (u : Bool) → printable b ≡ u → Back b at r (escape_byte ds b)
           by true p u o =
               let h = ltb-true (find b ds) 5 p in
-              subst⁻¹ (Back b at r) (written-letter ds b (find b ds) refl h) (letter-read b at r h)
+              subst⁻¹ (Back b at r) (written_letter ds b (find b ds) refl h) (letter_read b at r h)
           by false p true o =
               let h = ltb-false (find b ds) 5 p in
-              subst⁻¹ (Back b at r) (written-plain ds b h o) (plain-read b at r h o)
+              subst⁻¹ (Back b at r) (written_plain ds b h o) (plain_read b at r h o)
           by false p false o =
               let h = ltb-false (find b ds) 5 p in
-              subst⁻¹ (Back b at r) (written-hex ds b h o) (hex-read b at r small)
+              subst⁻¹ (Back b at r) (written_hex ds b h o) (hex_read b at r small)
 
       bytes_back : (t : List ℕ) (at : ℕ) → AreBytes t → scan q ds at 0 (escape_bytes ds t) ≡ text (map q.plain t)
       unfolding escape_bytes scan
@@ -153,12 +153,12 @@ module _ (ds : List ℕ) (five : length ds ≡ 5) (fine : first_wrong_delimiter 
       quotes_back =
           let e = escape_of ds in
           known_back 0 (88 ∷ 50 ∷ 50 ∷ 50 ∷ 50 ∷ []) [] (34 ∷ 34 ∷ [])
-          (escape-at 88 (50 ∷ 50 ∷ 50 ∷ 50 ∷ e ∷ []) refl
-          ∙ ap suc (escape-at 50 (50 ∷ 50 ∷ 50 ∷ e ∷ []) refl
-          ∙ ap suc (escape-at 50 (50 ∷ 50 ∷ e ∷ []) refl
-          ∙ ap suc (escape-at 50 (50 ∷ e ∷ []) refl
-          ∙ ap suc (escape-at 50 (e ∷ []) refl
-          ∙ ap suc (find-same e []))))))
+          (escape_at 88 (50 ∷ 50 ∷ 50 ∷ 50 ∷ e ∷ []) refl
+          ∙ ap suc (escape_at 50 (50 ∷ 50 ∷ 50 ∷ e ∷ []) refl
+          ∙ ap suc (escape_at 50 (50 ∷ 50 ∷ e ∷ []) refl
+          ∙ ap suc (escape_at 50 (50 ∷ e ∷ []) refl
+          ∙ ap suc (escape_at 50 (e ∷ []) refl
+          ∙ ap suc (find_same e []))))))
           refl
           refl
 
@@ -167,31 +167,31 @@ module _ (ds : List ℕ) (five : length ds ≡ 5) (fine : first_wrong_delimiter 
       scan_back t small = by (is_null t) refl
         where
           by : (u : Bool) → is_null t ≡ u → scan q ds 0 0 (escape ds t) ≡ text (map q.plain t)
-          by true e = ap (scan q ds 0 0) (escape-null ds t e) ∙ quotes_back ∙ ap (λ (l : List ℕ). text (map q.plain l)) (sym (two_quotes_lem t e))
-          by false e = ap (scan q ds 0 0) (escape-other ds t e) ∙ bytes_back t 0 small
+          by true e = ap (scan q ds 0 0) (escape_null ds t e) ∙ quotes_back ∙ ap (λ (l : List ℕ). text (map q.plain l)) (sym (two_quotes_lem t e))
+          by false e = ap (scan q ds 0 0) (escape_other ds t e) ∙ bytes_back t 0 small
 
   -- in plain text it is the text
   pub plain_back : (t : List ℕ) → AreBytes t → scan plain_text ds 0 0 (escape ds t) ≡ text t
-  plain_back t small = scan_back plain_text (plain-holds ds) t small ∙ ap text (map-id t)
+  plain_back t small = scan_back plain_text (plain_holds ds) t small ∙ ap text (map-id t)
 
   quotes_plain : scan plain_text ds 0 0 (34 ∷ 34 ∷ []) ≡ text (34 ∷ 34 ∷ [])
   unfolding scan
   quotes_plain =
-      plain-read plain_text 34 0 (34 ∷ []) (absent 34 refl) refl
-      ∙ ap (before (34 ∷ [])) (plain-read plain_text 34 (0 + 1) [] (absent 34 refl) refl)
+      plain_read plain_text 34 0 (34 ∷ []) (absent 34 refl) refl
+      ∙ ap (before (34 ∷ [])) (plain_read plain_text 34 (0 + 1) [] (absent 34 refl) refl)
 
   -- what is written is not null
   pub never_null : (t : List ℕ) → AreBytes t → is_null (escape ds t) ≡ false
   never_null t small = by (is_null t) refl (is_null (escape_bytes ds t)) refl
     where
       by : (u : Bool) → is_null t ≡ u → (v : Bool) → is_null (escape_bytes ds t) ≡ v → is_null (escape ds t) ≡ false
-      by true e v f = ap is_null (escape-null ds t e)
-      by false e false f = ap is_null (escape-other ds t e) ∙ f
+      by true e v f = ap is_null (escape_null ds t e)
+      by false e false f = ap is_null (escape_other ds t e) ∙ f
       by false e true f =
           let w : text t ≡ text (34 ∷ 34 ∷ []) =
-          sym (plain_back t small) ∙ ap (scan plain_text ds 0 0) (escape-other ds t e ∙ two_quotes_lem (escape_bytes ds t) f) ∙ quotes_plain in
+          sym (plain_back t small) ∙ ap (scan plain_text ds 0 0) (escape_other ds t e ∙ two_quotes_lem (escape_bytes ds t) f) ∙ quotes_plain in
           let z : t ≡ 34 ∷ 34 ∷ [] = cc in
-          false-true (sym e ∙ ap is_null z)
+          false_true (sym e ∙ ap is_null z)
 
   -- unescaping what was escaped gives the text again, where there is room for it
   pub round_trip : (t : List ℕ) (room : ℕ) → AreBytes t → unescaping ds (escape ds t) room ≡ fitting room (text t)

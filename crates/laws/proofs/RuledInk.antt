@@ -6,7 +6,7 @@ use Prim.Native.Nat.{ℕ, zero, suc, ◌+◌, ◌-◌, ◌/◌}
 use native.Mathlib.Omega.{arith}
 use lib.Dec.{leb, eqb}
 use lib.ListN.{length, replicate}
-use Rattle.alphabet.proofs.BoolLaws.{false-true}
+use Rattle.alphabet.proofs.BoolLaws.{false_true}
 use Rattle.format_commands.specs.Commands.{order_of}
 use Rattle.format_commands.specs.declared.orders.Order.{Order}
 use Rattle.format_commands.specs.declared.orders.Order.TheVariants.{Unknown, Highlight, Break, Centre, Fill, Unfill, Down, Across, Margin, Once}
@@ -14,42 +14,42 @@ use Rattle.format_commands.specs.Items.{Item, byte, order}
 use Rattle.formatting.specs.Sheet.{Sheet, at_first, Laid, laid, unfit, then_laid, blanks, is_empty, shown, end_line, lead, put, end_word, position, note_cr, add_byte, owe, set_left, set_margin, empty_lines, natural, fits, moved, down, obey, of_word, space, quiet, obeyed, move, moves, lines, written, lines_from, lines_of}
 use Rattle.laws.specs.Ruled.{ink, bytes_of}
 
-ink-append : (a b : List ℕ) → ink (a ++ b) ≡ ink a ++ ink b
+ink_append : (a b : List ℕ) → ink (a ++ b) ≡ ink a ++ ink b
 unfolding ink
-ink-append [] b = refl
-ink-append (x ∷ a) b = at (of_word x) (ink-append a b)
+ink_append [] b = refl
+ink_append (x ∷ a) b = at (of_word x) (ink_append a b)
   where
     at : (t : Bool) → ink (a ++ b) ≡ ink a ++ ink b → cond t (x ∷ ink (a ++ b)) (ink (a ++ b)) ≡ cond t (x ∷ ink a) (ink a) ++ ink b
     at true e = ap (λ (k : List ℕ). x ∷ k) e
     at false e = e
 
-ink-blanks : (n : ℕ) → ink (blanks n) ≡ []
+ink_blanks : (n : ℕ) → ink (blanks n) ≡ []
 unfolding ink
-ink-blanks zero = refl
-ink-blanks (suc n) = ink-blanks n
+ink_blanks zero = refl
+ink_blanks (suc n) = ink_blanks n
 
-ink-ends : (n : ℕ) → ink (replicate n 10) ≡ []
+ink_ends : (n : ℕ) → ink (replicate n 10) ≡ []
 unfolding ink
-ink-ends zero = refl
-ink-ends (suc n) = ink-ends n
+ink_ends zero = refl
+ink_ends (suc n) = ink_ends n
 
-ink-end : ink (10 ∷ []) ≡ []
+ink_end : ink (10 ∷ []) ≡ []
 unfolding ink
-ink-end = refl
+ink_end = refl
 
-ink-none : ink [] ≡ []
+ink_none : ink [] ≡ []
 unfolding ink
-ink-none = refl
+ink_none = refl
 
-ink-shown : (s : Sheet) → ink (shown s) ≡ ink s.line
+ink_shown : (s : Sheet) → ink (shown s) ≡ ink s.line
 unfolding shown
-ink-shown s = at (s.centre && not (is_empty s.line))
+ink_shown s = at (s.centre && not (is_empty s.line))
   where
     w : ℕ
     w = (200 - length s.line) / 2
 
     at : (t : Bool) → ink (cond t (blanks w ++ s.line) s.line) ≡ ink s.line
-    at true = ink-append (blanks w) s.line ∙ ap (λ (k : List ℕ). k ++ ink s.line) (ink-blanks w)
+    at true = ink_append (blanks w) s.line ∙ ap (λ (k : List ℕ). k ++ ink s.line) (ink_blanks w)
     at false = refl
 
 -- ---- the state
@@ -62,26 +62,26 @@ abbrev Keeps : List ℕ → Laid → Type 0
 Keeps xs (laid s) = sofar s ≡ xs
 Keeps xs unfit = Unit {0}
 
-line-ink : (o h l w : List ℕ) → ink h ≡ ink l → ink (o ++ h ++ 10 ∷ []) ++ (ink [] ++ ink w) ≡ ink o ++ (ink l ++ ink w)
-line-ink o h l w e =
+line_ink : (o h l w : List ℕ) → ink h ≡ ink l → ink (o ++ h ++ 10 ∷ []) ++ (ink [] ++ ink w) ≡ ink o ++ (ink l ++ ink w)
+line_ink o h l w e =
     let a : ink (o ++ h ++ 10 ∷ []) ≡ ink o ++ ink l =
-    ink-append (o ++ h) (10 ∷ []) ∙ ap (λ (k : List ℕ). ink (o ++ h) ++ k) ink-end ∙ append-nil (ink (o ++ h)) ∙ ink-append o h ∙ ap (λ (k : List ℕ). ink o ++ k) e in
-    ap (λ (k : List ℕ). k ++ (ink [] ++ ink w)) a ∙ ap (λ (k : List ℕ). (ink o ++ ink l) ++ (k ++ ink w)) ink-none ∙ append_assoc (ink o) (ink l) (ink w)
+    ink_append (o ++ h) (10 ∷ []) ∙ ap (λ (k : List ℕ). ink (o ++ h) ++ k) ink_end ∙ append-nil (ink (o ++ h)) ∙ ink_append o h ∙ ap (λ (k : List ℕ). ink o ++ k) e in
+    ap (λ (k : List ℕ). k ++ (ink [] ++ ink w)) a ∙ ap (λ (k : List ℕ). (ink o ++ ink l) ++ (k ++ ink w)) ink_none ∙ append_assoc (ink o) (ink l) (ink w)
 
-put-ink : (n : ℕ) (o l w : List ℕ) → ink o ++ (ink (l ++ blanks n ++ w) ++ ink []) ≡ ink o ++ (ink l ++ ink w)
-put-ink n o l w =
+put_ink : (n : ℕ) (o l w : List ℕ) → ink o ++ (ink (l ++ blanks n ++ w) ++ ink []) ≡ ink o ++ (ink l ++ ink w)
+put_ink n o l w =
     let a : ink (l ++ blanks n ++ w) ≡ ink l ++ ink w =
-    ink-append (l ++ blanks n) w
-    ∙ ap (λ (k : List ℕ). k ++ ink w) (ink-append l (blanks n) ∙ ap (λ (k : List ℕ). ink l ++ k) (ink-blanks n) ∙ append-nil (ink l)) in
-    ap (λ (k : List ℕ). ink o ++ k) (ap (λ (k : List ℕ). ink (l ++ blanks n ++ w) ++ k) ink-none ∙ append-nil (ink (l ++ blanks n ++ w)) ∙ a)
+    ink_append (l ++ blanks n) w
+    ∙ ap (λ (k : List ℕ). k ++ ink w) (ink_append l (blanks n) ∙ ap (λ (k : List ℕ). ink l ++ k) (ink_blanks n) ∙ append-nil (ink l)) in
+    ap (λ (k : List ℕ). ink o ++ k) (ap (λ (k : List ℕ). ink (l ++ blanks n ++ w) ++ k) ink_none ∙ append-nil (ink (l ++ blanks n ++ w)) ∙ a)
 
 keep_line : (s : Sheet) → sofar (end_line s) ≡ sofar s
 unfolding end_line sofar
-keep_line s = line-ink s.out (shown s) s.line s.word (ink-shown s)
+keep_line s = line_ink s.out (shown s) s.line s.word (ink_shown s)
 
 keep_put : (n : ℕ) (s : Sheet) → sofar (put n s) ≡ sofar s
 unfolding put sofar
-keep_put n s = put-ink n s.out s.line s.word
+keep_put n s = put_ink n s.out s.line s.word
 
 keep_word : (s : Sheet) → Keeps (sofar s) (end_word s)
 unfolding end_word
@@ -97,7 +97,7 @@ keep_word s = at (is_empty s.word) (leb (length s.line + lead s + length s.word)
 
 keep_empty : (n : ℕ) (s : Sheet) → sofar (empty_lines n s) ≡ sofar s
 unfolding sofar
-keep_empty n s = simp (ink-append, ink-ends, append-nil)
+keep_empty n s = simp (ink_append, ink_ends, append-nil)
 
 keep_left : (n : ℕ) (s : Sheet) → sofar (set_left n s) ≡ sofar s
 unfolding sofar
@@ -151,7 +151,7 @@ sofar_note s = refl
 
 sofar_add : (b : ℕ) (s : Sheet) → sofar (add_byte b s) ≡ sofar s ++ ink (b ∷ [])
 unfolding sofar
-sofar_add b s = simp (ink-append, append_assoc)
+sofar_add b s = simp (ink_append, append_assoc)
 
 keep_move : (s : Sheet) (x : Item) → Keeps (sofar s ++ ink (bytes_of (x ∷ []))) (move s x)
 unfolding move obeyed bytes_of
@@ -165,32 +165,32 @@ keep_move s (byte b) = at (of_word b) refl
         keep_space b s.after_cr y ∙ k ∙ sofar_note s ∙ sym (append-nil (sofar s)) ∙ ap (λ (z : List ℕ). sofar s ++ z) (sym (of_byte b false e)))
 keep_move s (order c) = at (quiet (order_of c))
   where
-    nothing-more : sofar s ++ ink [] ≡ sofar s
-    nothing-more = ap (λ (z : List ℕ). sofar s ++ z) ink-none ∙ append-nil (sofar s)
+    nothing_more : sofar s ++ ink [] ≡ sofar s
+    nothing_more = ap (λ (z : List ℕ). sofar s ++ z) ink_none ∙ append-nil (sofar s)
 
     at : (u : Bool) → Keeps (sofar s ++ ink []) (cond u (laid s) (then_laid (end_word (note_cr false s)) (obey (order_of c))))
-    at true = sym nothing-more
+    at true = sym nothing_more
     at false =
         keep_then (end_word (note_cr false s)) (obey (order_of c)) (sofar (note_cr false s)) (sofar s ++ ink []) (keep_word (note_cr false s))
-        (λ (y : Sheet) (k : sofar y ≡ sofar (note_cr false s)). subst (λ (z : List ℕ). Keeps z (obey (order_of c) y)) (k ∙ sofar_note s ∙ sym nothing-more) (keep_obey (order_of c) y))
+        (λ (y : Sheet) (k : sofar y ≡ sofar (note_cr false s)). subst (λ (z : List ℕ). Keeps z (obey (order_of c) y)) (k ∙ sofar_note s ∙ sym nothing_more) (keep_obey (order_of c) y))
 
-bytes-cons : (x : Item) (r : List Item) → ink (bytes_of (x ∷ r)) ≡ ink (bytes_of (x ∷ [])) ++ ink (bytes_of r)
+bytes_cons : (x : Item) (r : List Item) → ink (bytes_of (x ∷ r)) ≡ ink (bytes_of (x ∷ [])) ++ ink (bytes_of r)
 unfolding bytes_of
-bytes-cons (byte b) r = ink-append (b ∷ []) (bytes_of r)
-bytes-cons (order o) r = ap (λ (z : List ℕ). z ++ ink (bytes_of r)) (sym ink-none)
+bytes_cons (byte b) r = ink_append (b ∷ []) (bytes_of r)
+bytes_cons (order o) r = ap (λ (z : List ℕ). z ++ ink (bytes_of r)) (sym ink_none)
 
-bytes-none : bytes_of [] ≡ []
+bytes_none : bytes_of [] ≡ []
 unfolding bytes_of
-bytes-none = refl
+bytes_none = refl
 
 keep_moves : (s : Sheet) (r : List Item) → Keeps (sofar s ++ ink (bytes_of r)) (moves s r)
 unfolding moves
-keep_moves s [] = sym (ap (λ (z : List ℕ). sofar s ++ ink z) bytes-none ∙ ap (λ (z : List ℕ). sofar s ++ z) ink-none ∙ append-nil (sofar s))
+keep_moves s [] = sym (ap (λ (z : List ℕ). sofar s ++ ink z) bytes_none ∙ ap (λ (z : List ℕ). sofar s ++ z) ink_none ∙ append-nil (sofar s))
 keep_moves s (x ∷ r) =
     keep_then (move s x) (λ (u : Sheet). moves u r) (sofar s ++ ink (bytes_of (x ∷ []))) (sofar s ++ ink (bytes_of (x ∷ r))) (keep_move s x)
     (λ (y : Sheet) (k : sofar y ≡ sofar s ++ ink (bytes_of (x ∷ []))).
     subst (λ (z : List ℕ). Keeps z (moves y r))
-    (ap (λ (z : List ℕ). z ++ ink (bytes_of r)) k ∙ append_assoc (sofar s) (ink (bytes_of (x ∷ []))) (ink (bytes_of r)) ∙ ap (λ (z : List ℕ). sofar s ++ z) (sym (bytes-cons x r)))
+    (ap (λ (z : List ℕ). z ++ ink (bytes_of r)) k ∙ append_assoc (sofar s) (ink (bytes_of (x ∷ []))) (ink (bytes_of r)) ∙ ap (λ (z : List ℕ). sofar s ++ z) (sym (bytes_cons x r)))
     (keep_moves y r))
 
 -- ---- the end
@@ -199,18 +199,18 @@ abbrev Shows : List ℕ → Laid → Type 0
 Shows xs (laid s) = ink (s.out ++ shown s) ≡ xs
 Shows xs unfit = Unit {0}
 
-empty-ink : (w : List ℕ) → is_empty w ≡ true → ink w ≡ []
+empty_ink : (w : List ℕ) → is_empty w ≡ true → ink w ≡ []
 unfolding is_empty ink
-empty-ink [] e = refl
-empty-ink (b ∷ r) e = false-true e
+empty_ink [] e = refl
+empty_ink (b ∷ r) e = false_true e
 
 shows_put : (n : ℕ) (s : Sheet) → ink ((put n s).out ++ shown (put n s)) ≡ sofar (put n s)
 unfolding put sofar
-shows_put n s = simp (ink-append, ink-shown, ink-none, append-nil)
+shows_put n s = simp (ink_append, ink_shown, ink_none, append-nil)
 
 shows_empty : (s : Sheet) → is_empty s.word ≡ true → ink (s.out ++ shown s) ≡ sofar s
 unfolding sofar
-shows_empty s e = simp (ink-append, ink-shown, empty-ink s.word e, append-nil)
+shows_empty s e = simp (ink_append, ink_shown, empty_ink s.word e, append-nil)
 
 shows_word : (s : Sheet) (xs : List ℕ) → sofar s ≡ xs → Shows xs (end_word s)
 unfolding end_word

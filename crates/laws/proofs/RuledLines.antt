@@ -10,8 +10,8 @@ use borrow.Author.Tests.{leb-true, eq-eqb, ne_eqb}
 use Rattle.alphabet.specs.Bytes.{ascii}
 use Rattle.alphabet.specs.Lists.{first, find}
 use Rattle.alphabet.specs.Parts.{split}
-use Rattle.alphabet.proofs.BoolLaws.{false-true, and_both, both_and}
-use Rattle.alphabet.proofs.PartLaws.{split-cons, split-last}
+use Rattle.alphabet.proofs.BoolLaws.{false_true, and_both, both_and}
+use Rattle.alphabet.proofs.PartLaws.{split_cons, split_last}
 use Rattle.format_commands.specs.declared.orders.Order.{Order}
 use Rattle.format_commands.specs.declared.orders.Order.TheVariants.{Unknown, Highlight, Break, Centre, Fill, Unfill, Down, Across, Margin, Once}
 use Rattle.format_commands.specs.Commands.{order_of}
@@ -27,50 +27,50 @@ of_word_lem b = at (eqb b 32) (eqb b 13) (eqb b 10)
   where
     at : (t u v : Bool) → not (t || (u || v)) ≡ true → (t ≡ false) × ((v || u) ≡ false)
     at false false false e = (refl, refl)
-    at false false true e = false-true e
-    at false true v e = false-true e
-    at true u v e = false-true e
+    at false false true e = false_true e
+    at false true v e = false_true e
+    at true u v e = false_true e
 
-clear-append : (a b : List ℕ) → clear a ≡ true → clear b ≡ true → clear (a ++ b) ≡ true
+clear_append : (a b : List ℕ) → clear a ≡ true → clear b ≡ true → clear (a ++ b) ≡ true
 unfolding clear
-clear-append [] b e f = f
-clear-append (x ∷ a) b e f =
+clear_append [] b e f = f
+clear_append (x ∷ a) b e f =
     let z = and_both (not (eqb x 10 || eqb x 13)) (clear a) e in
-    both_and z.0 (clear-append a b z.1 f)
+    both_and z.0 (clear_append a b z.1 f)
 
-clear-blanks : (n : ℕ) → clear (blanks n) ≡ true
+clear_blanks : (n : ℕ) → clear (blanks n) ≡ true
 unfolding clear
-clear-blanks zero = refl
-clear-blanks (suc n) = clear-blanks n
+clear_blanks zero = refl
+clear_blanks (suc n) = clear_blanks n
 
-clear-word : (w : List ℕ) → inked w ≡ true → clear w ≡ true
+clear_word : (w : List ℕ) → inked w ≡ true → clear w ≡ true
 unfolding clear inked
-clear-word [] e = refl
-clear-word (b ∷ r) e =
+clear_word [] e = refl
+clear_word (b ∷ r) e =
     let z = and_both (of_word b) (inked r) e in
-    both_and (ap not (of_word_lem b z.0).1) (clear-word r z.1)
+    both_and (ap not (of_word_lem b z.0).1) (clear_word r z.1)
 
-firm-word : (w : List ℕ) → inked w ≡ true → firm w ≡ true
+firm_word : (w : List ℕ) → inked w ≡ true → firm w ≡ true
 unfolding firm inked
-firm-word [] e = refl
-firm-word (b ∷ []) e = ap not (of_word_lem b (and_both (of_word b) true e).0).0
-firm-word (b ∷ c ∷ r) e = firm-word (c ∷ r) (and_both (of_word b) (of_word c && inked r) e).1
+firm_word [] e = refl
+firm_word (b ∷ []) e = ap not (of_word_lem b (and_both (of_word b) true e).0).0
+firm_word (b ∷ c ∷ r) e = firm_word (c ∷ r) (and_both (of_word b) (of_word c && inked r) e).1
 
-firm-append : (a : List ℕ) (b : ℕ) (w : List ℕ) → firm (b ∷ w) ≡ true → firm (a ++ b ∷ w) ≡ true
+firm_append : (a : List ℕ) (b : ℕ) (w : List ℕ) → firm (b ∷ w) ≡ true → firm (a ++ b ∷ w) ≡ true
 unfolding firm
-firm-append [] b w e = e
-firm-append (x ∷ []) b w e = e
-firm-append (x ∷ y ∷ a) b w e = firm-append (y ∷ a) b w e
+firm_append [] b w e = e
+firm_append (x ∷ []) b w e = e
+firm_append (x ∷ y ∷ a) b w e = firm_append (y ∷ a) b w e
 
-firm-behind : (a w : List ℕ) → is_empty w ≡ false → firm w ≡ true → firm (a ++ w) ≡ true
+firm_behind : (a w : List ℕ) → is_empty w ≡ false → firm w ≡ true → firm (a ++ w) ≡ true
 unfolding is_empty
-firm-behind a [] n e = false-true (sym n)
-firm-behind a (b ∷ w) n e = firm-append a b w e
+firm_behind a [] n e = false_true (sym n)
+firm_behind a (b ∷ w) n e = firm_append a b w e
 
-pub inked-append : (w : List ℕ) (b : ℕ) → inked w ≡ true → of_word b ≡ true → inked (w ++ b ∷ []) ≡ true
+pub inked_append : (w : List ℕ) (b : ℕ) → inked w ≡ true → of_word b ≡ true → inked (w ++ b ∷ []) ≡ true
 unfolding inked
-inked-append [] b e f = both_and f refl
-inked-append (x ∷ w) b e f = let z = and_both (of_word x) (inked w) e in both_and z.0 (inked-append w b z.1 f)
+inked_append [] b e f = both_and f refl
+inked_append (x ∷ w) b e f = let z = and_both (of_word x) (inked w) e in both_and z.0 (inked_append w b z.1 f)
 
 -- ---- lines put together
 
@@ -78,31 +78,31 @@ not_end : (b : ℕ) → not (eqb b 10 || eqb b 13) ≡ true → eqb 10 b ≡ fal
 not_end b e = ne_eqb 10 b (λ (q : 10 ≡ b). at (eqb b 10) (eqb b 13) (eq-eqb b 10 (sym q)) e)
   where
     at : (t u : Bool) → t ≡ true → not (t || u) ≡ true → ⊥
-    at true u p f = false-true f
-    at false u p f = false-true p
+    at true u p f = false_true f
+    at false u p f = false_true p
 
-clear-free : (l : List ℕ) → clear l ≡ true → find 10 l ≡ length l
+clear_free : (l : List ℕ) → clear l ≡ true → find 10 l ≡ length l
 unfolding clear first
-clear-free [] e = refl
-clear-free (b ∷ r) e =
+clear_free [] e = refl
+clear_free (b ∷ r) e =
     let z = and_both (not (eqb b 10 || eqb b 13)) (clear r) e in
-    rw (not_end b z.0) (ap suc (clear-free r z.1))
+    rw (not_end b z.0) (ap suc (clear_free r z.1))
 
 -- a good line, with its LF and with good lines behind it
 line_ruled : (l r : List ℕ) → GoodLine l → Ruled r → Ruled (l ++ 10 ∷ r)
 unfolding Ruled GoodLines
-line_ruled l r g h = rw (split-cons 10 l r (clear-free l g.is_clear)) (g, h)
+line_ruled l r g h = rw (split_cons 10 l r (clear_free l g.is_clear)) (g, h)
 
 last_ruled : (l : List ℕ) → GoodLine l → Ruled l
 unfolding Ruled GoodLines
-last_ruled l g = let e = clear-free l g.is_clear in rw (split-last 10 l (omega arith)) (g, tt)
+last_ruled l g = let e = clear_free l g.is_clear in rw (split_last 10 l (omega arith)) (g, tt)
 
 -- what was written ends in LF, or is nothing: good lines behind it stay such
 abbrev Ended : List ℕ → Type 0
 Ended o = (r : List ℕ) → Ruled r → Ruled (o ++ r)
 
-ended-line : (o l : List ℕ) → Ended o → GoodLine l → Ended (o ++ l ++ 10 ∷ [])
-ended-line o l e g r h =
+ended_line : (o l : List ℕ) → Ended o → GoodLine l → Ended (o ++ l ++ 10 ∷ [])
+ended_line o l e g r h =
     let q : o ++ (l ++ 10 ∷ r) ≡ (o ++ l ++ 10 ∷ []) ++ r = simp append_assoc in
     subst Ruled q (e (l ++ 10 ∷ r) (line_ruled l r g h))
 
@@ -110,9 +110,9 @@ good_nothing : GoodLine []
 unfolding clear firm
 good_nothing = record { width = omega arith; is_clear = refl; is_firm = refl }
 
-ended-empty : (n : ℕ) (o : List ℕ) → Ended o → Ended (o ++ replicate n 10)
-ended-empty zero o e r h = subst (λ (k : List ℕ). Ruled (k ++ r)) (sym (append-nil o)) (e r h)
-ended-empty (suc n) o e r h =
+ended_empty : (n : ℕ) (o : List ℕ) → Ended o → Ended (o ++ replicate n 10)
+ended_empty zero o e r h = subst (λ (k : List ℕ). Ruled (k ++ r)) (sym (append-nil o)) (e r h)
+ended_empty (suc n) o e r h =
     subst Ruled (sym (append_assoc o (replicate (suc n) 10) r)) (e (replicate (suc n) 10 ++ r) (more (suc n)))
   where
     more : (k : ℕ) → Ruled (replicate k 10 ++ r)
@@ -149,8 +149,8 @@ shown_good s t = at s.centre (is_empty s.line) refl
               let h = t.fits in
               let l : length (blanks n ++ s.line) ≡ n + length s.line = simp (length-append, length-replicate) refl in
               omega arith;
-          is_clear = clear-append (blanks n) s.line (clear-blanks n) t.is_clear;
-          is_firm = firm-behind (blanks n) s.line e t.is_firm;
+          is_clear = clear_append (blanks n) s.line (clear_blanks n) t.is_clear;
+          is_firm = firm_behind (blanks n) s.line e t.is_firm;
         }
     at true true e = itself
     at false v e = itself
@@ -159,7 +159,7 @@ tidy_line : (s : Sheet) → Tidy s → Tidy (end_line s)
 unfolding end_line clear firm
 tidy_line s t =
     record {
-      ended = ended-line s.out (shown s) t.ended (shown_good s t);
+      ended = ended_line s.out (shown s) t.ended (shown_good s t);
       fits = omega arith;
       is_clear = refl;
       is_firm = refl;
@@ -173,14 +173,14 @@ tidy_put n s t e h =
     record {
       ended = t.ended;
       fits = omega arith;
-      is_clear = clear-append (s.line ++ blanks n) s.word (clear-append s.line (blanks n) t.is_clear (clear-blanks n)) (clear-word s.word t.is_inked);
-      is_firm = firm-behind (s.line ++ blanks n) s.word e (firm-word s.word t.is_inked);
+      is_clear = clear_append (s.line ++ blanks n) s.word (clear_append s.line (blanks n) t.is_clear (clear_blanks n)) (clear_word s.word t.is_inked);
+      is_firm = firm_behind (s.line ++ blanks n) s.word e (firm_word s.word t.is_inked);
       is_inked = refl;
     }
 
-line-parts : (s : Sheet) → (length (end_line s).line ≡ 0) × ((end_line s).word ≡ s.word)
+line_parts : (s : Sheet) → (length (end_line s).line ≡ 0) × ((end_line s).word ≡ s.word)
 unfolding end_line
-line-parts s = (refl, refl)
+line_parts s = (refl, refl)
 
 tidy_word : (s : Sheet) → Tidy s → TidyLaid (end_word s)
 unfolding end_word
@@ -191,7 +191,7 @@ tidy_word s t = at (is_empty s.word) refl (leb (length s.line + lead s + length 
     at true ea b eb c d ed = t
     at false ea true eb c d ed = tidy_put (lead s) s t ea (leb-true _ 200 eb)
     at false ea false eb true true ed =
-        let z = line-parts s in
+        let z = line_parts s in
         let z0 = z.0 in
         let z1 = ap length z.1 in
         let h = leb-true (s.margin + length s.word) 200 ed in
@@ -223,7 +223,7 @@ tidy_down n s t = at (eqb n 0)
     at true = t
     at false =
         record {
-          ended = ended-empty (n - 1) (end_line s).out u.ended;
+          ended = ended_empty (n - 1) (end_line s).out u.ended;
           fits = u.fits;
           is_clear = u.is_clear;
           is_firm = u.is_firm;
@@ -265,7 +265,7 @@ unfolding move obeyed
 tidy_move s (byte b) t = at (of_word b) refl
   where
     at : (u : Bool) → of_word b ≡ u → TidyLaid (cond u (laid (add_byte b s)) (then_laid (end_word (note_cr false s)) (λ (y : Sheet). laid (space b s.after_cr y))))
-    at true e = record { ended = t.ended; fits = t.fits; is_clear = t.is_clear; is_firm = t.is_firm; is_inked = inked-append s.word b t.is_inked e }
+    at true e = record { ended = t.ended; fits = t.fits; is_clear = t.is_clear; is_firm = t.is_firm; is_inked = inked_append s.word b t.is_inked e }
     at false e =
         tidy_then (end_word (note_cr false s)) (λ (y : Sheet). laid (space b s.after_cr y)) (tidy_word (note_cr false s) (tidy_as s _ t refl refl refl))
         (λ (y : Sheet) (k : Tidy y). tidy_space b s.after_cr y k)
@@ -298,14 +298,14 @@ laid_ruled r t e = ruled_of (then_laid (moves at_first r) end_word) t (tidy_then
 
 -- ---- and not every text is so: too long, a blank at a line's end, or a CR
 
-pub long-not_ruled : Ruled (replicate 201 120) → ⊥
+pub long_not_ruled : Ruled (replicate 201 120) → ⊥
 unfolding Ruled GoodLines split
-long-not_ruled g = let h : 201 ≤ 200 = g.0.width in omega arith
+long_not_ruled g = let h : 201 ≤ 200 = g.0.width in omega arith
 
-pub blank-not_ruled : Ruled (ascii "a \nb") → ⊥
+pub blank_not_ruled : Ruled (ascii "a \nb") → ⊥
 unfolding Ruled GoodLines split firm
-blank-not_ruled g = false-true g.0.is_firm
+blank_not_ruled g = false_true g.0.is_firm
 
 pub cr_not_ruled : Ruled (ascii "a\n\rb") → ⊥
 unfolding Ruled GoodLines split clear
-cr_not_ruled g = false-true g.1.0.is_clear
+cr_not_ruled g = false_true g.1.0.is_clear

@@ -10,19 +10,19 @@ use Rattle.alphabet.specs.Bytes.{carriage_return, printable, allowed}
 use Rattle.alphabet.specs.Delimiters.{permitted}
 use Rattle.alphabet.specs.Lists.{find}
 use Rattle.alphabet.specs.Parts.{split}
-use Rattle.alphabet.proofs.BoolLaws.{false-true}
-use Rattle.alphabet.proofs.DelimiterLaws.{delimiter-permitted, delimiters_differ}
-use Rattle.laws.proofs.EachLaws.{Each, Every, at_each, each_take, each_both, each_weaken, each-split, split-each, every-at}
+use Rattle.alphabet.proofs.BoolLaws.{false_true}
+use Rattle.alphabet.proofs.DelimiterLaws.{delimiter_permitted, delimiters_differ}
+use Rattle.laws.proofs.EachLaws.{Each, Every, at_each, each_take, each_both, each_weaken, each_split, split_each, every_at}
 use Rattle.reading.specs.Segments.{segments, delimiters_of, field_separator}
 use Rattle.reading.specs.Message.{Opened}
 use Rattle.element.proofs.RawLaws.{raw_component}
-use Rattle.laws.proofs.Clean.{permitted-printable}
+use Rattle.laws.proofs.Clean.{permitted_printable}
 use Rattle.laws.proofs.LineLaws.{Printable, Not, Clean}
 use Rattle.acknowledgement.specs.Acknowledgement.{sent, type_part}
-use Rattle.acknowledgement.proofs.FieldLaws.{split-header, segments-header as one-segment, sent_is as sent-part}
+use Rattle.acknowledgement.proofs.FieldLaws.{split_header, segments_header as one-segment, sent_is as sent-part}
 
-plain-allowed : (b : ℕ) → allowed b ≡ true → Not carriage_return b → Printable b
-plain-allowed b e n = subst (λ (t : Bool). (t || printable b) ≡ true) (ne_eqb b carriage_return n) e
+plain_allowed : (b : ℕ) → allowed b ≡ true → Not carriage_return b → Printable b
+plain_allowed b e n = subst (λ (t : Bool). (t || printable b) ≡ true) (ne_eqb b carriage_return n) e
 
 module _ (h : List ℕ) (o : Opened h) (one : find carriage_return h + 1 ≡ length h) where
   abbrev pub ds : List ℕ
@@ -36,19 +36,19 @@ module _ (h : List ℕ) (o : Opened h) (one : find carriage_return h + 1 ≡ len
   line = take (find carriage_return h) h
 
   long : 4 ≤ length h
-  long = let n = o.nine-bytes in omega arith
+  long = let n = o.nine_bytes in omega arith
 
-  pub segments-header : segments h ≡ line ∷ []
-  segments-header = one-segment h long one
+  pub segments_header : segments h ≡ line ∷ []
+  segments_header = one-segment h long one
 
   no_return : Each (Not carriage_return) line
   unfolding Every
-  no_return = (subst (Every (Each (Not carriage_return))) (split-header h long one) (split-each carriage_return h)).0
+  no_return = (subst (Every (Each (Not carriage_return))) (split_header h long one) (split_each carriage_return h)).0
 
-  line-printable : Each Printable line
-  line-printable =
-      let fine : Each (λ (b : ℕ). allowed b ≡ true) line = each_take (λ (b : ℕ). allowed b ≡ true) (find carriage_return h) h (at_each (λ (b : ℕ). allowed b ≡ true) h o.all-allowed) in
-      each_weaken (λ (b : ℕ). (allowed b ≡ true) × Not carriage_return b) Printable (λ b p. plain-allowed b p.0 p.1) line
+  line_printable : Each Printable line
+  line_printable =
+      let fine : Each (λ (b : ℕ). allowed b ≡ true) line = each_take (λ (b : ℕ). allowed b ≡ true) (find carriage_return h) h (at_each (λ (b : ℕ). allowed b ≡ true) h o.all_allowed) in
+      each_weaken (λ (b : ℕ). (allowed b ≡ true) × Not carriage_return b) Printable (λ b p. plain_allowed b p.0 p.1) line
       (each_both (λ (b : ℕ). allowed b ≡ true) (Not carriage_return) line fine no_return)
 
   -- ---- fields
@@ -60,10 +60,10 @@ module _ (h : List ℕ) (o : Opened h) (one : find carriage_return h + 1 ≡ len
   part_each : (P : ℕ → Type 0) (x : ℕ) (l : List ℕ) (k : ℕ) → Each P l → Each (λ (b : ℕ). P b × Not x b) (get_or (split x l) k [])
   unfolding Each
   part_each P x l k p =
-      each_both P (Not x) (get_or (split x l) k []) (every-at (Each P) (split x l) tt (each-split P x l p) k) (every-at (Each (Not x)) (split x l) tt (split-each x l) k)
+      each_both P (Not x) (get_or (split x l) k []) (every_at (Each P) (split x l) tt (each_split P x l p) k) (every_at (Each (Not x)) (split x l) tt (split_each x l) k)
 
   pub field_clean : (f : ℕ) → (f ≡ 1 → ⊥) → Each (Clean sep) (sent h f)
-  field_clean f n = subst (Each (Clean sep)) (sym (sent_is f n)) (part_each Printable sep line (f - 1) line-printable)
+  field_clean f n = subst (Each (Clean sep)) (sym (sent_is f n)) (part_each Printable sep line (f - 1) line_printable)
 
   -- ---- the event
 
@@ -76,15 +76,15 @@ module _ (h : List ℕ) (o : Opened h) (one : find carriage_return h + 1 ≡ len
 
   -- ---- the delimiters, and signs that are none
 
-  pub delimiter-printable : (i : ℕ) → i < 5 → Printable (get_or ds i 0)
-  delimiter-printable i l = permitted-printable (get_or ds i 0) (delimiter-permitted ds refl o.delimiters_right i l)
+  pub delimiter_printable : (i : ℕ) → i < 5 → Printable (get_or ds i 0)
+  delimiter_printable i l = permitted_printable (get_or ds i 0) (delimiter_permitted ds refl o.delimiters_right i l)
 
   pub delimiters_apart : (i j : ℕ) → i < 5 → j < 5 → (i ≡ j → ⊥) → Not (get_or ds j 0) (get_or ds i 0)
   delimiters_apart i j a b n e = n (delimiters_differ ds refl o.delimiters_right i j a b e)
 
   -- a sign that is no delimiter of any sender
-  pub no-delimiter : (x i : ℕ) → i < 5 → permitted x ≡ false → Not (get_or ds i 0) x
-  no-delimiter x i l f e = false-true (sym f ∙ ap permitted e ∙ delimiter-permitted ds refl o.delimiters_right i l)
+  pub no_delimiter : (x i : ℕ) → i < 5 → permitted x ≡ false → Not (get_or ds i 0) x
+  no_delimiter x i l f e = false_true (sym f ∙ ap permitted e ∙ delimiter_permitted ds refl o.delimiters_right i l)
 
   pub sign_clean : (x : ℕ) → Printable x → permitted x ≡ false → Clean sep x
-  sign_clean x p f = (p, no-delimiter x 0 (omega arith) f)
+  sign_clean x p f = (p, no_delimiter x 0 (omega arith) f)

@@ -14,12 +14,12 @@ use Rattle.escaping.specs.Escape.{escape}
 use Rattle.escaping.specs.Outcomes.{text, fault}
 use Rattle.escaping.specs.Outcomes.{fitting, escaping, answer, filled}
 
-over-length : (t d : List ℕ) → length t ≤ length d → length (over t d) ≡ length d
-over-length t d h = let a = length-append t (drop (length t) d) in let n = length-drop (length t) d in omega arith
+over_length : (t d : List ℕ) → length t ≤ length d → length (over t d) ≡ length d
+over_length t d h = let a = length-append t (drop (length t) d) in let n = length-drop (length t) d in omega arith
 
-pub escape-within : (ds t d : List ℕ) → (answer (escaping ds t (length d))).length ≤ length (filled (escaping ds t (length d)) d)
+pub escape_within : (ds t d : List ℕ) → (answer (escaping ds t (length d))).length ≤ length (filled (escaping ds t (length d)) d)
 unfolding escaping fitting answer filled
-escape-within ds t d = at (ltb (first_wrong_delimiter ds) 5) (leb (length (escape ds t)) (length d)) refl
+escape_within ds t d = at (ltb (first_wrong_delimiter ds) 5) (leb (length (escape ds t)) (length d)) refl
   where
     nothing : (n : ℕ) → 0 ≤ n
     nothing n = omega arith
@@ -31,5 +31,5 @@ escape-within ds t d = at (ltb (first_wrong_delimiter ds) 5) (leb (length (escap
     at false false e = nothing (length d)
     at false true e =
         let h = leb-true (length (escape ds t)) (length d) e in
-        let o = over-length (escape ds t) d h in
+        let o = over_length (escape ds t) d h in
         omega arith

@@ -15,39 +15,39 @@ use Rattle.alphabet.specs.Digits.{all_digits}
 use Rattle.alphabet.specs.Delimiters.{permitted}
 use Rattle.alphabet.specs.Lists.{find}
 use Rattle.alphabet.proofs.BoolLaws.{and_both, from_to_lem}
-use Rattle.alphabet.proofs.ListLaws.{drop-next, find_is}
+use Rattle.alphabet.proofs.ListLaws.{drop_next, find_is}
 use Rattle.laws.proofs.EachLaws.{Each, each_append, at_each}
 use Rattle.numbers.specs.Numbers.{some_digits, unsigned, before_point, has_point, fraction, nm_form, is_si}
 use Rattle.forms.specs.declared.layouts.Form.{Form}
 use Rattle.forms.specs.Forms.{body_of, zone_of, front_of, tail_of}
-use Rattle.forms.proofs.FormLaws.{front-digits, tail_holds, zone_held}
+use Rattle.forms.proofs.FormLaws.{front_digits, tail_holds, zone_held}
 use Rattle.times.specs.Times.{is_dt, is_time}
 use Rattle.acknowledgement.specs.Acknowledgement.{version}
-use Rattle.times.proofs.TimeLaws.{dt-digits, time_formed}
+use Rattle.times.proofs.TimeLaws.{dt_digits, time_formed}
 
 module _ (P : ℕ → Type 0) (digits : (b : ℕ) → digit b ≡ true → P b) where
-  digits-each : (l : List ℕ) → all_digits l ≡ true → Each P l
+  digits_each : (l : List ℕ) → all_digits l ≡ true → Each P l
   unfolding Each all_digits
-  digits-each [] e = tt
-  digits-each (d ∷ l) e = let b = and_both (digit d) (all_digits l) e in (digits d b.0, digits-each l b.1)
+  digits_each [] e = tt
+  digits_each (d ∷ l) e = let b = and_both (digit d) (all_digits l) e in (digits d b.0, digits_each l b.1)
 
   -- one byte, where there is one, and digits behind it
   sign_each : (x : List ℕ) → (1 ≤ length x → P (get_or x 0 0)) → all_digits (drop 1 x) ≡ true → Each P x
   unfolding Each
   sign_each [] h e = tt
-  sign_each (b ∷ x) h e = (h (omega arith), digits-each x e)
+  sign_each (b ∷ x) h e = (h (omega arith), digits_each x e)
 
   from : (l : List ℕ) (i : ℕ) → (i < length l → P (get_or l i 0)) → 1 ≤ length (drop i l) → P (get_or (drop i l) 0 0)
   from l i h k =
       let n = length-drop i l in
       let j : i < length l = omega arith in
-      subst P (sym (ap (λ (x : List ℕ). get_or x 0 0) (drop-next l i j))) (h j)
+      subst P (sym (ap (λ (x : List ℕ). get_or x 0 0) (drop_next l i j))) (h j)
 
   pub time_each : P 43 → P 45 → P 46 → (form : Form) (l : List ℕ) → is_time form l ≡ true → Each P l
   time_each plus minus point form l e =
       let f = time_formed form l e in
       let body = body_of l in
-      let front = digits-each (front_of l) (front-digits form l f) in
+      let front = digits_each (front_of l) (front_digits form l f) in
       let tail = sign_each (tail_of l) (from body (find 46 body) (λ h. subst P (sym (find_is 46 body h)) point)) (tail_holds form l f).0 in
       let zone = sign_each (zone_of l) (from l (min (find 43 l) (find 45 l)) sign) (zone_held form l f).0 in
       subst (Each P) (take-append-drop (min (find 43 l) (find 45 l)) l)
@@ -75,22 +75,22 @@ module _ (P : ℕ → Type 0) (digits : (b : ℕ) → digit b ≡ true → P b) 
       let d = (and_both (leb 1 (length (fraction u))) (all_digits (fraction u)) e).1 in
       sign_each (drop f u) (from u f (λ h. subst P (sym (find_is 46 u h)) point)) (ap all_digits (drop-drop 1 f u) ∙ d)
 
-  unsigned-each : P 46 → (l : List ℕ) → nm_form l ≡ true → Each P (unsigned l)
+  unsigned_each : P 46 → (l : List ℕ) → nm_form l ≡ true → Each P (unsigned l)
   unfolding nm_form
-  unsigned-each point l e =
+  unsigned_each point l e =
       let u = unsigned l in
       let b = and_both (some_digits (before_point u)) (not (has_point u) || some_digits (fraction u)) e in
       let digits-before = (and_both (leb 1 (length (before_point u))) (all_digits (before_point u)) b.0).1 in
       subst (Each P) (take-append-drop (find 46 u) u)
-      (each_append P (before_point u) (drop (find 46 u) u) (digits-each (before_point u) digits-before) (point_each point u (either (has_point u) (some_digits (fraction u)) b.1)))
+      (each_append P (before_point u) (drop (find 46 u) u) (digits_each (before_point u) digits-before) (point_each point u (either (has_point u) (some_digits (fraction u)) b.1)))
     where
       either : (x y : Bool) → (not x || y) ≡ true → (x ≡ false) ⊎ (y ≡ true)
       either true y q = inr q
       either false y q = inl refl
 
-  pub number-each : P 43 → P 45 → P 46 → (l : List ℕ) → nm_form l ≡ true → Each P l
+  pub number_each : P 43 → P 45 → P 46 → (l : List ℕ) → nm_form l ≡ true → Each P l
   unfolding unsigned Each
-  number-each plus minus point l e = at l (eqb (get_or l 0 0) 43) refl (eqb (get_or l 0 0) 45) refl (unsigned-each point l e)
+  number_each plus minus point l e = at l (eqb (get_or l 0 0) 43) refl (eqb (get_or l 0 0) 45) refl (unsigned_each point l e)
     where
       at : (l : List ℕ) (t : Bool) → eqb (get_or l 0 0) 43 ≡ t → (u : Bool) → eqb (get_or l 0 0) 45 ≡ u → Each P (cond (eqb (get_or l 0 0) 43 || eqb (get_or l 0 0) 45) (drop 1 l) l) → Each P l
       at [] t p u q h = tt
@@ -104,28 +104,28 @@ module _ (P : ℕ → Type 0) (digits : (b : ℕ) → digit b ≡ true → P b) 
 abbrev pub NoDelimiter : ℕ → Type 0
 NoDelimiter b = permitted b ≡ false
 
-pub digit-none : (b : ℕ) → digit b ≡ true → NoDelimiter b
-digit-none b e =
+pub digit_none : (b : ℕ) → digit b ≡ true → NoDelimiter b
+digit_none b e =
     let d = from_to_lem 48 57 b e in
     rw (le-leb 33 b (omega arith), lt-leb b 47 (omega arith)) (rw (lt-leb 58 b (omega arith), lt-leb 91 b (omega arith), lt-leb 123 b (omega arith)))
 
-pub number-no-delimiter : (l : List ℕ) → nm_form l ≡ true → Each NoDelimiter l
-number-no-delimiter l e = number-each NoDelimiter digit-none refl refl refl l e
+pub number_no_delimiter : (l : List ℕ) → nm_form l ≡ true → Each NoDelimiter l
+number_no_delimiter l e = number_each NoDelimiter digit_none refl refl refl l e
 
-pub time_no-delimiter : (form : Form) (l : List ℕ) → is_time form l ≡ true → Each NoDelimiter l
-time_no-delimiter form l e = time_each NoDelimiter digit-none refl refl refl form l e
+pub time_no_delimiter : (form : Form) (l : List ℕ) → is_time form l ≡ true → Each NoDelimiter l
+time_no_delimiter form l e = time_each NoDelimiter digit_none refl refl refl form l e
 
 -- an SI and a DT are digits
-digits-no-delimiter : (l : List ℕ) → all_digits l ≡ true → Each NoDelimiter l
-digits-no-delimiter l e = digits-each NoDelimiter digit-none l e
+digits_no_delimiter : (l : List ℕ) → all_digits l ≡ true → Each NoDelimiter l
+digits_no_delimiter l e = digits_each NoDelimiter digit_none l e
 
-pub si-no-delimiter : (l : List ℕ) → is_si l ≡ true → Each NoDelimiter l
+pub si_no_delimiter : (l : List ℕ) → is_si l ≡ true → Each NoDelimiter l
 unfolding is_si
-si-no-delimiter l e = digits-no-delimiter l (and_both (leb 1 (length l)) (all_digits l) (and_both (some_digits l) (leb (length l) 4) e).0).1
+si_no_delimiter l e = digits_no_delimiter l (and_both (leb 1 (length l)) (all_digits l) (and_both (some_digits l) (leb (length l) 4) e).0).1
 
-pub dt-no-delimiter : (l : List ℕ) → is_dt l ≡ true → Each NoDelimiter l
-dt-no-delimiter l e = digits-no-delimiter l (dt-digits l e)
+pub dt_no_delimiter : (l : List ℕ) → is_dt l ≡ true → Each NoDelimiter l
+dt_no_delimiter l e = digits_no_delimiter l (dt_digits l e)
 
-pub version-no-delimiter : Each NoDelimiter version
+pub version_no_delimiter : Each NoDelimiter version
 unfolding Each
-version-no-delimiter = (refl, (refl, (refl, tt)))
+version_no_delimiter = (refl, (refl, (refl, tt)))

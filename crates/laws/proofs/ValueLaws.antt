@@ -7,7 +7,7 @@ use lib.IntN.{pos}
 use Rattle.alphabet.specs.Bytes.{from_to}
 use Rattle.alphabet.specs.Digits.{counted, decimal}
 use Rattle.alphabet.proofs.BoolLaws.{and_both, from_to_lem}
-use Rattle.alphabet.proofs.DigitLaws.{counted-append}
+use Rattle.alphabet.proofs.DigitLaws.{counted_append}
 use Rattle.numbers.specs.Numbers.{signed}
 use Rattle.calendar.specs.Calendar.{in_range, number_in, leap, days_in, valid_date}
 use Rattle.calendar.specs.declared.figures.Figure.TheVariants.{Sent}
@@ -29,9 +29,9 @@ month_exists d n e q =
     from_to_lem 1 12 n (ap (in_range 1 12) (sym q) ∙ b)
 
 -- 29 February exists exactly in the leap years of the Gregorian rule
-pub leap-day : (year : ℕ) → valid_date (record { year = Sent year; month = Sent 2; day = Sent 29 }) ≡ (from_to 1 9999 year && leap year)
+pub leap_day : (year : ℕ) → valid_date (record { year = Sent year; month = Sent 2; day = Sent 29 }) ≡ (from_to 1 9999 year && leap year)
 unfolding valid_date
-leap-day year = ap (λ (t : Bool). from_to 1 9999 year && t) (at (leap year))
+leap_day year = ap (λ (t : Bool). from_to 1 9999 year && t) (at (leap year))
   where
     at : (t : Bool) → from_to 1 (cond t 29 28) 29 ≡ t
     at true = refl
@@ -40,10 +40,10 @@ leap-day year = ap (λ (t : Bool). from_to 1 9999 year && t) (at (leap year))
 -- ---- the number that digits say
 
 -- one digit more is ten times the number and the digit
-pub digit-more : (l : List ℕ) (d : ℕ) → decimal (l ++ d ∷ []) ≡ decimal l * 10 + (d - 48)
+pub digit_more : (l : List ℕ) (d : ℕ) → decimal (l ++ d ∷ []) ≡ decimal l * 10 + (d - 48)
 unfolding counted
-digit-more l d = counted-append 0 l (d ∷ [])
+digit_more l d = counted_append 0 l (d ∷ [])
 
 -- minus zero is zero
-pub minus-zero : signed true 0 ≡ pos 0
-minus-zero = refl
+pub minus_zero : signed true 0 ≡ pos 0
+minus_zero = refl

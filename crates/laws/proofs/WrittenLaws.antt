@@ -16,19 +16,19 @@ use Rattle.alphabet.specs.Lists.{find, same}
 use Rattle.alphabet.specs.Parts.{split, join}
 use Rattle.alphabet.specs.declared.answers.Check.TheVariants.{Passes}
 use Rattle.alphabet.proofs.BoolLaws.{from_to_lem}
-use Rattle.alphabet.proofs.DelimiterLaws.{delimiter-own}
+use Rattle.alphabet.proofs.DelimiterLaws.{delimiter_own}
 use Rattle.alphabet.proofs.LimitLaws.{segment_limit_three}
 use Rattle.laws.proofs.EachLaws.{Each, Every, each_append, at_each, each_weaken, each_free}
-use Rattle.alphabet.proofs.PartLaws.{split-cons, split-last}
+use Rattle.alphabet.proofs.PartLaws.{split_cons, split_last}
 use Rattle.reading.specs.Segments.{segments, delimiters_of, field_separator, named, is_header, name, name_of}
 use Rattle.reading.specs.Reading.{reading}
 use Rattle.reading.specs.Message.{ended, Opened, Message}
 use Rattle.reading.proofs.Accepted.{accepting}
 use Rattle.element.specs.Finding.{raw_bytes}
-use Rattle.element.proofs.RawLaws.{raw_component, raw_component-other}
+use Rattle.element.proofs.RawLaws.{raw_component, raw_component_other}
 use Rattle.forms.specs.declared.layouts.Form.TheVariants.{Ts}
 use Rattle.times.specs.Times.{is_ts}
-use Rattle.laws.proofs.ValueBytes.{time_each, digit-none}
+use Rattle.laws.proofs.ValueBytes.{time_each, digit_none}
 use Rattle.escaping.specs.Escape.{escape}
 use Rattle.laws.proofs.RoundTrip.{AreBytes}
 use Rattle.laws.proofs.Clean.{MayStand, never_separator}
@@ -45,8 +45,8 @@ use Rattle.acknowledgement.specs.Acknowledgement.{field_address, sent, type_part
 use Rattle.acknowledgement_code.specs.Codes.{letters_of}
 use Rattle.acknowledgement_code.specs.declared.Code.{Code}
 use Rattle.acknowledgement_code.specs.declared.Code.TheVariants.{Accept, Error, Reject}
-use Rattle.laws.proofs.LineLaws.{or-true, Printable, Not, Clean, Lines, lines-segments, lines_message, lines-header_field, lines_field, joined_printable, joined_parts}
-use Rattle.laws.proofs.SenderLaws.{field_clean, event_clean, delimiter-printable, delimiters_apart, no-delimiter, sign_clean}
+use Rattle.laws.proofs.LineLaws.{or_true, Printable, Not, Clean, Lines, lines_segments, lines_message, lines_header_field, lines_field, joined_printable, joined_parts}
+use Rattle.laws.proofs.SenderLaws.{field_clean, event_clean, delimiter_printable, delimiters_apart, no_delimiter, sign_clean}
 
 -- what the lines behind MSA are: none, or one of the name ERR; they are printable and have good names
 pub record Behind (sep : ℕ) (es : List (List ℕ)) : Type 0 where
@@ -77,7 +77,7 @@ module _ (h : List ℕ) (o : Opened h) (one : find carriage_return h + 1 ≡ len
   -- ---- each part
 
   delimiter_fine : (i : ℕ) → i < 5 → (i ≡ 0 → ⊥) → Fine (get_or ds i 0)
-  delimiter_fine i l n = (delimiter-printable h o one i l, delimiters_apart h o one i 0 l (omega arith) n)
+  delimiter_fine i l n = (delimiter_printable h o one i l, delimiters_apart h o one i 0 l (omega arith) n)
 
   encoding_fine : Each Fine (encoding h)
   unfolding Each
@@ -96,7 +96,7 @@ module _ (h : List ℕ) (o : Opened h) (one : find carriage_return h + 1 ≡ len
   digit_fine b e =
       let d = from_to_lem 48 57 b e in
       let p : Printable b = rw (le-leb 32 b (omega arith)) (rw (le-leb b 126 (omega arith))) in
-      sign b p (digit-none b e)
+      sign b p (digit_none b e)
 
   time_fine : (time : List ℕ) → is_ts time ≡ true → Each Fine time
   time_fine time e = time_each Fine digit_fine (sign 43 refl refl) (sign 45 refl refl) (sign 46 refl refl) Ts time e
@@ -108,17 +108,17 @@ module _ (h : List ℕ) (o : Opened h) (one : find carriage_return h + 1 ≡ len
       stands b s = (
         s.0,
         λ e.
-            let own = delimiter-own ds refl o.delimiters_right 0 (omega arith) in
+            let own = delimiter_own ds refl o.delimiters_right 0 (omega arith) in
             let here : find b ds ≡ 0 = ap (λ (x : ℕ). find x ds) e ∙ own in
             delimiters_apart h o one 0 3 (omega arith) (omega arith) (λ z. omega arith) (sym e ∙ s.1 (omega arith)),
       )
 
-  ack-letters : Each (λ (b : ℕ). Fine b × Not (get_or ds 2 0) b) (ascii "ACK")
+  ack_letters : Each (λ (b : ℕ). Fine b × Not (get_or ds 2 0) b) (ascii "ACK")
   unfolding Each
-  ack-letters = (letter 65 refl refl, (letter 67 refl refl, (letter 75 refl refl, tt)))
+  ack_letters = (letter 65 refl refl, (letter 67 refl refl, (letter 75 refl refl, tt)))
     where
       letter : (x : ℕ) → Printable x → permitted x ≡ false → Fine x × Not (get_or ds 2 0) x
-      letter x p f = (sign x p f, no-delimiter h o one x 2 (omega arith) f)
+      letter x p f = (sign x p f, no_delimiter h o one x 2 (omega arith) f)
 
   type_fine : Each (λ (b : ℕ). Fine b × Not (get_or ds 2 0) b) (type_sent h)
   unfolding type_sent Each
@@ -126,9 +126,9 @@ module _ (h : List ℕ) (o : Opened h) (one : find carriage_return h + 1 ≡ len
     where
       at : (t : Bool) → Each (λ (b : ℕ). Fine b × Not (get_or ds 2 0) b) (ascii "ACK" ++ cond t (get_or h 4 0 ∷ type_part h 2) [])
       at true =
-          each_append (λ (b : ℕ). Fine b × Not (get_or ds 2 0) b) (ascii "ACK") (get_or h 4 0 ∷ type_part h 2) ack-letters
+          each_append (λ (b : ℕ). Fine b × Not (get_or ds 2 0) b) (ascii "ACK") (get_or h 4 0 ∷ type_part h 2) ack_letters
           ((delimiter_fine 1 (omega arith) (λ e. omega arith), delimiters_apart h o one 1 2 (omega arith) (omega arith) (λ e. omega arith)), event_clean h o one)
-      at false = each_append (λ (b : ℕ). Fine b × Not (get_or ds 2 0) b) (ascii "ACK") [] ack-letters tt
+      at false = each_append (λ (b : ℕ). Fine b × Not (get_or ds 2 0) b) (ascii "ACK") [] ack_letters tt
 
   field : (f : ℕ) → (f ≡ 1 → ⊥) → Each Fine (sent h f)
   field = field_clean h o one
@@ -192,21 +192,21 @@ module _ (h : List ℕ) (o : Opened h) (one : find carriage_return h + 1 ≡ len
     abbrev pub written : List ℕ
     written = acknowledgement h time id letters es
 
-    first-parts : split sep first ≡ header_parts h time id
+    first_parts : split sep first ≡ header_parts h time id
     unfolding header_parts
-    first-parts = joined_parts sep (header_parts h time id) (omega arith) header_fine
+    first_parts = joined_parts sep (header_parts h time id) (omega arith) header_fine
 
     second_parts : split sep second ≡ answer_parts h letters
     unfolding answer_parts
     second_parts = joined_parts sep (answer_parts h letters) (omega arith) answer_fine
 
-    first-named : named sep first ≡ true
+    first_named : named sep first ≡ true
     unfolding header_parts join
-    first-named = rw (eq-eqb sep sep refl) (or-true (eqb (length first) 3))
+    first_named = rw (eq-eqb sep sep refl) (or_true (eqb (length first) 3))
 
-    second-named : named sep second ≡ true
+    second_named : named sep second ≡ true
     unfolding answer_parts join
-    second-named = rw (eq-eqb sep sep refl) (or-true (eqb (length second) 3))
+    second_named = rw (eq-eqb sep sep refl) (or_true (eqb (length second) 3))
 
     -- they are the lines of a message with the sender's delimiters
     all_lines : Lines ds (first ∷ second ∷ es)
@@ -215,21 +215,21 @@ module _ (h : List ℕ) (o : Opened h) (one : find carriage_return h + 1 ≡ len
       some = omega arith;
       most = let n = few behind in omega (arith, segment_limit_three);
       printed = (
-        joined_printable sep (delimiter-printable h o one 0 (omega arith)) (header_parts h time id) header_fine,
-        (joined_printable sep (delimiter-printable h o one 0 (omega arith)) (answer_parts h letters) answer_fine, behind.printed),
+        joined_printable sep (delimiter_printable h o one 0 (omega arith)) (header_parts h time id) header_fine,
+        (joined_printable sep (delimiter_printable h o one 0 (omega arith)) (answer_parts h letters) answer_fine, behind.printed),
       );
-      named_well = (first-named, (second-named, behind.named_well));
+      named_well = (first_named, (second_named, behind.named_well));
       long = omega arith;
       header = refl;
       delimiters = refl;
-      behind = rw (eq-eqb sep sep refl) (or-true (eqb (length first) 8));
+      behind = rw (eq-eqb sep sep refl) (or_true (eqb (length first) 8));
       no_other = (refl, behind.no_other);
       right = o.delimiters_right;
     }
 
-    pub segments-written : segments written ≡ first ∷ second ∷ es
+    pub segments_written : segments written ≡ first ∷ second ∷ es
     unfolding acknowledgement
-    segments-written = lines-segments all_lines
+    segments_written = lines_segments all_lines
 
     -- ---- it begins as the sender's does
 
@@ -257,7 +257,7 @@ module _ (h : List ℕ) (o : Opened h) (one : find carriage_return h + 1 ≡ len
     -- "fields 3, 4, 5, 6 are the sender's 5, 6, 3, 4": field f of its MSH is the part of that number
     pub header_field : (f : ℕ) → (f ≡ 1 → ⊥) → raw_bytes written (field_address f) ≡ get_or (header_parts h time id) (f - 1) []
     unfolding acknowledgement
-    header_field f n = lines-header_field all_lines f n ∙ ap (λ (ps : List (List ℕ)). get_or ps (f - 1) []) first-parts
+    header_field f n = lines_header_field all_lines f n ∙ ap (λ (ps : List (List ℕ)). get_or ps (f - 1) []) first_parts
 
     answer_field : (f : ℕ) → raw_bytes written (record { segment = 1; field = f; repetition = 0; component = 0; subcomponent = 0 }) ≡ get_or (answer_parts h letters) f []
     unfolding acknowledgement
@@ -271,7 +271,7 @@ module _ (h : List ℕ) (o : Opened h) (one : find carriage_return h + 1 ≡ len
     pub error_component : (c : ℕ) → 1 ≤ c
         → raw_bytes written (record { segment = 2; field = 1; repetition = 1; component = c; subcomponent = 0 }) ≡ get_or (split (get_or ds 1 0) (get_or (split (get_or ds 2 0) (get_or (split sep (get_or es 0 [])) 1 [])) 0 [])) (c - 1) []
     error_component c l =
-        raw_component-other written (let n = is_long in omega arith) 2 1 c (λ e. omega arith) l
+        raw_component_other written (let n = is_long in omega arith) 2 1 c (λ e. omega arith) l
         ∙ ap₂ (λ (d x : List ℕ). get_or (split (get_or d 1 0) (get_or (split (get_or d 2 0) x) 0 [])) (c - 1) []) same_delimiters error_field
 
     -- "carries the sender's own control ID": MSA-2 is the sender's MSH-10, byte for byte
@@ -308,58 +308,58 @@ module _ (h : List ℕ) (o : Opened h) (one : find carriage_return h + 1 ≡ len
     )
 
     -- how many parts its segments have: the name of MSH and 11 fields behind its separator, the name of MSA and two fields
-    pub parts-counted : (length (split (field_separator written) (get_or (segments written) 0 [])) ≡ 12) × (length (split (field_separator written) (get_or (segments written) 1 [])) ≡ 3)
+    pub parts_counted : (length (split (field_separator written) (get_or (segments written) 0 [])) ≡ 12) × (length (split (field_separator written) (get_or (segments written) 1 [])) ≡ 3)
     unfolding header_parts answer_parts
-    parts-counted =
+    parts_counted =
         let same = ap (λ (l : List ℕ). get_or l 0 0) same_delimiters in (
-          ap₂ (λ (x : ℕ) (ss : List (List ℕ)). length (split x (get_or ss 0 []))) same segments-written ∙ ap length first-parts,
-          ap₂ (λ (x : ℕ) (ss : List (List ℕ)). length (split x (get_or ss 1 []))) same segments-written ∙ ap length second_parts,
+          ap₂ (λ (x : ℕ) (ss : List (List ℕ)). length (split x (get_or ss 0 []))) same segments_written ∙ ap length first_parts,
+          ap₂ (λ (x : ℕ) (ss : List (List ℕ)). length (split x (get_or ss 1 []))) same segments_written ∙ ap length second_parts,
         )
 
     -- ---- it fits ACK
 
-    type-free : find (get_or ds 2 0) (type_sent h) ≡ length (type_sent h)
-    type-free = each_free (get_or ds 2 0) (type_sent h) (each_weaken (λ (b : ℕ). Fine b × Not (get_or ds 2 0) b) (Not (get_or ds 2 0)) (λ b p. p.1) (type_sent h) type_fine)
+    type_free : find (get_or ds 2 0) (type_sent h) ≡ length (type_sent h)
+    type_free = each_free (get_or ds 2 0) (type_sent h) (each_weaken (λ (b : ℕ). Fine b × Not (get_or ds 2 0) b) (Not (get_or ds 2 0)) (λ b p. p.1) (type_sent h) type_fine)
 
-    ack-free : find (get_or ds 1 0) (ascii "ACK") ≡ 3
+    ack_free : find (get_or ds 1 0) (ascii "ACK") ≡ 3
     unfolding Each
-    ack-free =
+    ack_free =
         each_free (get_or ds 1 0) (ascii "ACK")
-        (no-delimiter h o one 65 1 (omega arith) refl, (no-delimiter h o one 67 1 (omega arith) refl, (no-delimiter h o one 75 1 (omega arith) refl, tt)))
+        (no_delimiter h o one 65 1 (omega arith) refl, (no_delimiter h o one 67 1 (omega arith) refl, (no_delimiter h o one 75 1 (omega arith) refl, tt)))
 
-    first-component : get_or (split (get_or ds 1 0) (type_sent h)) 0 [] ≡ ascii "ACK"
+    first_component : get_or (split (get_or ds 1 0) (type_sent h)) 0 [] ≡ ascii "ACK"
     unfolding type_sent
-    first-component = at (present h (type_part h 2))
+    first_component = at (present h (type_part h 2))
       where
         at : (t : Bool) → get_or (split (get_or ds 1 0) (ascii "ACK" ++ cond t (get_or h 4 0 ∷ type_part h 2) [])) 0 [] ≡ ascii "ACK"
-        at true = ap (λ (ps : List (List ℕ)). get_or ps 0 []) (split-cons (get_or ds 1 0) (ascii "ACK") (type_part h 2) ack-free)
-        at false = let n = ack-free in ap (λ (ps : List (List ℕ)). get_or ps 0 []) (split-last (get_or ds 1 0) (ascii "ACK") (omega arith))
+        at true = ap (λ (ps : List (List ℕ)). get_or ps 0 []) (split_cons (get_or ds 1 0) (ascii "ACK") (type_part h 2) ack_free)
+        at false = let n = ack_free in ap (λ (ps : List (List ℕ)). get_or ps 0 []) (split_last (get_or ds 1 0) (ascii "ACK") (omega arith))
 
-    type-written : raw_bytes written (type_address 1) ≡ ascii "ACK"
+    type_written : raw_bytes written (type_address 1) ≡ ascii "ACK"
     unfolding header_parts
-    type-written =
-        let n = type-free in
+    type_written =
+        let n = type_free in
         raw_component written (let n = is_long in omega arith) 9 1 (omega arith) (omega arith)
         ∙ ap₂ (λ (d x : List ℕ). get_or (split (get_or d 1 0) (get_or (split (get_or d 2 0) x) 0 [])) 0 []) same_delimiters (header_field 9 (λ e. omega arith))
-        ∙ ap (λ (ps : List (List ℕ)). get_or (split (get_or ds 1 0) (get_or ps 0 [])) 0 []) (split-last (get_or ds 2 0) (type_sent h) (omega arith)) ∙ first-component
+        ∙ ap (λ (ps : List (List ℕ)). get_or (split (get_or ds 1 0) (get_or ps 0 [])) 0 []) (split_last (get_or ds 2 0) (type_sent h) (omega arith)) ∙ first_component
 
-    pub structure-written : structure_for built_in written ≡ chosen ackListed
+    pub structure_written : structure_for built_in written ≡ chosen ackListed
     unfolding structure_for same
-    structure-written = is_acknowledgement (raw_bytes written (type_address 1)) (raw_bytes written (type_address 2)) (ap (λ (x : List ℕ). same x (ascii "ACK")) type-written)
+    structure_written = is_acknowledgement (raw_bytes written (type_address 1)) (raw_bytes written (type_address 2)) (ap (λ (x : List ℕ). same x (ascii "ACK")) type_written)
 
-    pub names-written : segment_names written ≡ name "MSH" ∷ name "MSA" ∷ map name_of es
+    pub names_written : segment_names written ≡ name "MSH" ∷ name "MSA" ∷ map name_of es
     unfolding segment_names name_of header_parts answer_parts join
-    names-written = ap (map name_of) segments-written
+    names_written = ap (map name_of) segments_written
 
     -- "fits the ACK structure": it yields the names
-    pub fits-ack : Judged ack (segment_names written) (plain None 0)
+    pub fits_ack : Judged ack (segment_names written) (plain None 0)
     unfolding kept passed_over among
-    fits-ack =
+    fits_ack =
         ⊎_elim (λ q. fits q (stand (stand (skip ended-shape)))) (λ q. fits q (stand (stand (once (stand ended-shape) ended-shape)))) behind.told
       where
         fits : {l : List ℕ} → map name_of es ≡ l → Yields ack (kept (names ack) (name "MSH" ∷ name "MSA" ∷ l)) → Judged ack (segment_names written) (plain None 0)
-        fits q y = accepted (subst (λ (ns : List ℕ). Yields ack (kept (names ack) ns)) (sym (names-written ∙ ap (λ (l : List ℕ). name "MSH" ∷ name "MSA" ∷ l) q)) y)
+        fits q y = accepted (subst (λ (ns : List ℕ). Yields ack (kept (names ack) ns)) (sym (names_written ∙ ap (λ (l : List ℕ). name "MSH" ∷ name "MSA" ∷ l) q)) y)
 
     -- the structure judge accepts it
-    pub judged-written : length written ≤ message_limit → Answers written (plain None 0)
-    judged-written fits = read (reads_back fits) (by ackListed structure-written fits-ack)
+    pub judged_written : length written ≤ message_limit → Answers written (plain None 0)
+    judged_written fits = read (reads_back fits) (by ackListed structure_written fits_ack)

@@ -16,8 +16,8 @@ address s f r c u = record { segment = s; field = f; repetition = r; component =
 -- the whole, and after a 0 only 0 may stand)."
 pub data Asks : Address → Type 0 where
   whole_field : (s f : ℕ) → 1 ≤ f → Asks (address s f 0 0 0)
-  whole-repetition : (s f r : ℕ) → 1 ≤ f → 1 ≤ r → Asks (address s f r 0 0)
-  whole-component : (s f r c : ℕ) → 1 ≤ f → 1 ≤ r → 1 ≤ c → Asks (address s f r c 0)
+  whole_repetition : (s f r : ℕ) → 1 ≤ f → 1 ≤ r → Asks (address s f r 0 0)
+  whole_component : (s f r c : ℕ) → 1 ≤ f → 1 ≤ r → 1 ≤ c → Asks (address s f r c 0)
   subcomponent : (s f r c u : ℕ) → 1 ≤ f → 1 ≤ r → 1 ≤ c → 1 ≤ u → Asks (address s f r c u)
 
 -- ---- the parts of each level
@@ -86,9 +86,9 @@ start_of m a = component_start m a + before_level (get_or (delimiters_of m) 4 0)
 -- none": below it all is absent
 pub data Past (m : List ℕ) (a : Address) : Type 0 where
   no_field : length (split (field_separator m) (segment_bytes m a)) ≤ field_place a → Past m a
-  no-repetition : length (split (get_or (delimiters_of m) 2 0) (field_bytes m a)) < a.repetition → Past m a
-  no-component : length (split (get_or (delimiters_of m) 1 0) (repetition_bytes m a)) < a.component → Past m a
-  no-subcomponent : length (split (get_or (delimiters_of m) 4 0) (component_bytes m a)) < a.subcomponent → Past m a
+  no_repetition : length (split (get_or (delimiters_of m) 2 0) (field_bytes m a)) < a.repetition → Past m a
+  no_component : length (split (get_or (delimiters_of m) 1 0) (repetition_bytes m a)) < a.component → Past m a
+  no_subcomponent : length (split (get_or (delimiters_of m) 4 0) (component_bytes m a)) < a.subcomponent → Past m a
 
 -- ---- the first two fields of MSH
 

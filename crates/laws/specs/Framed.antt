@@ -14,9 +14,9 @@ use Rattle.frames.specs.Wired.{Wired, out}
 pub data Framed : Fed → Type 0 where
   used_up : (n : ℕ) (t : FrameState) → Framed (given None 0 n S.More t)
   a_frame : (size n : ℕ) (t : FrameState) → Framed (given None size n S.Frame t)
-  broken-frame : (n : ℕ) (t : FrameState) → Framed (given BrokenFrame 0 n S.Drop t)
-  long-frame : (n : ℕ) (t : FrameState) → Framed (given FrameTooLong 0 n S.Drop t)
-  foreign-state : (t : FrameState) → Framed (given NoRoom 0 0 S.Refused t)
+  broken_frame : (n : ℕ) (t : FrameState) → Framed (given BrokenFrame 0 n S.Drop t)
+  long_frame : (n : ℕ) (t : FrameState) → Framed (given FrameTooLong 0 n S.Drop t)
+  foreign_state : (t : FrameState) → Framed (given NoRoom 0 0 S.Refused t)
 
 -- what the grammar says of a line, from outside a frame with n bytes dropped before: it is wired so, and the buffer x is
 -- d with the line's bodies laid over it

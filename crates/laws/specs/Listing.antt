@@ -17,7 +17,7 @@ pub data In (l : Leaf) : List Leaf → Type 0 where
 pub record FoundAt (m : List ℕ) (l : Leaf) : Type 0 where
   pub full : 1 ≤ l.address.subcomponent
   pub looked_up : found m l.address ≡ record { answer = answered Passes; element = l.element }
-  pub not-absent : l.element.state ≡ Absent → ⊥
+  pub not_absent : l.element.state ≡ Absent → ⊥
 
 -- none begins before `from`, and each begins behind the place where the one before it does: they stand in the message's
 -- own order, and none stands twice

@@ -49,10 +49,10 @@ pub record Located (m : List ℕ) (place : ℕ) (name : List ℕ) (n : ℕ) : Ty
 -- segment ID, sequence and field position of a fault
 pub data TellsPlace (m : List ℕ) (r : FaultRecord) : (segment sequence field : List ℕ) → Type 0 where
   -- "For 22 and reading faults the first three components stay empty."
-  not-read : 1 ≤ number_of r.kind → number_of r.kind ≤ 8 → TellsPlace m r [] [] []
-  at-the-end : number_of r.kind ≡ 22 → TellsPlace m r [] [] []
+  not_read : 1 ≤ number_of r.kind → number_of r.kind ≤ 8 → TellsPlace m r [] [] []
+  at_the_end : number_of r.kind ≡ 22 → TellsPlace m r [] [] []
   -- "20 points to field 9 of MSH"
-  at-the-type : number_of r.kind ≡ 20 → TellsPlace m r (ascii "MSH") (ascii "1") (ascii "9")
+  at_the_type : number_of r.kind ≡ 20 → TellsPlace m r (ascii "MSH") (ascii "1") (ascii "9")
   -- "for 21 the field position is empty"
   at_a_segment : {name : List ℕ} {n : ℕ} → number_of r.kind ≡ 21 → Located m r.place name n
       → TellsPlace m r name (numeral n) []

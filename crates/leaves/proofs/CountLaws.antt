@@ -8,49 +8,49 @@ use lib.Dec.{eqb}
 use lib.ListN.{length, get_or, length-append}
 use Rattle.alphabet.specs.Parts.{split, join}
 use Rattle.alphabet.specs.declared.answers.Check.TheVariants.{Passes}
-use Rattle.alphabet.proofs.PartLaws.{join-split, split-some}
+use Rattle.alphabet.proofs.PartLaws.{join_split, split_some}
 use Rattle.reading.specs.Segments.{segments, delimiters_of}
 use Rattle.reading.specs.Reading.{reading}
 use Rattle.reading.specs.Message.{ended}
 use Rattle.reading.proofs.Accepted.{accepted}
 use Rattle.leaves.specs.Leaves.{Leaf, addressed, leaf_at, each, subcomponent_leaf, in_component, in_repetition, in_field, in_part, in_segment, leaves_of, rows}
-use Rattle.leaves.proofs.RowLaws.{rows-length}
+use Rattle.leaves.proofs.RowLaws.{rows_length}
 
 -- each of the parts has at most one leaf for each of its bytes, and one more
-each-most : (sep : ℕ) (inner : ℕ → ℕ → List ℕ → List Leaf) → ((k at : ℕ) (p : List ℕ) → length (inner k at p) ≤ length p + 1)
+each_most : (sep : ℕ) (inner : ℕ → ℕ → List ℕ → List Leaf) → ((k at : ℕ) (p : List ℕ) → length (inner k at p) ≤ length p + 1)
     → (k at : ℕ) (ps : List (List ℕ)) → 1 ≤ length ps → length (each inner k at ps) ≤ length (join sep ps) + 1
 unfolding each join
-each-most sep inner h k at [] n = absurd (omega arith)
-each-most sep inner h k at (p ∷ []) n =
+each_most sep inner h k at [] n = absurd (omega arith)
+each_most sep inner h k at (p ∷ []) n =
     let a = length-append (inner k at p) [] in
     let b = h k at p in
     omega arith
-each-most sep inner h k at (p ∷ q ∷ ps) n =
+each_most sep inner h k at (p ∷ q ∷ ps) n =
     let a = length-append (inner k at p) (each inner (k + 1) (at + length p + 1) (q ∷ ps)) in
     let b = h k at p in
-    let c = each-most sep inner h (k + 1) (at + length p + 1) (q ∷ ps) (omega arith) in
+    let c = each_most sep inner h (k + 1) (at + length p + 1) (q ∷ ps) (omega arith) in
     let d = length-append p (sep ∷ join sep (q ∷ ps)) in
     omega arith
 
-level-most : (sep : ℕ) (inner : ℕ → ℕ → List ℕ → List Leaf) → ((k at : ℕ) (p : List ℕ) → length (inner k at p) ≤ length p + 1)
+level_most : (sep : ℕ) (inner : ℕ → ℕ → List ℕ → List Leaf) → ((k at : ℕ) (p : List ℕ) → length (inner k at p) ≤ length p + 1)
     → (k at : ℕ) (l : List ℕ) → length (each inner k at (split sep l)) ≤ length l + 1
-level-most sep inner h k at l =
-    let m = each-most sep inner h k at (split sep l) (split-some sep l) in
-    let e = ap length (join-split sep l) in
+level_most sep inner h k at l =
+    let m = each_most sep inner h k at (split sep l) (split_some sep l) in
+    let e = ap length (join_split sep l) in
     omega arith
 
 module _ (ds : List ℕ) where
-  component-most : (s f r c at : ℕ) (l : List ℕ) → length (in_component ds s f r c at l) ≤ length l + 1
+  component_most : (s f r c at : ℕ) (l : List ℕ) → length (in_component ds s f r c at l) ≤ length l + 1
   unfolding in_component
-  component-most s f r c at l = level-most (get_or ds 4 0) (subcomponent_leaf ds s f r c) (λ k a p. omega arith) 1 at l
+  component_most s f r c at l = level_most (get_or ds 4 0) (subcomponent_leaf ds s f r c) (λ k a p. omega arith) 1 at l
 
-  repetition-most : (s f r at : ℕ) (l : List ℕ) → length (in_repetition ds s f r at l) ≤ length l + 1
+  repetition_most : (s f r at : ℕ) (l : List ℕ) → length (in_repetition ds s f r at l) ≤ length l + 1
   unfolding in_repetition
-  repetition-most s f r at l = level-most (get_or ds 1 0) (in_component ds s f r) (component-most s f r) 1 at l
+  repetition_most s f r at l = level_most (get_or ds 1 0) (in_component ds s f r) (component_most s f r) 1 at l
 
   field_most : (s f at : ℕ) (l : List ℕ) → length (in_field ds s f at l) ≤ length l + 1
   unfolding in_field
-  field_most s f at l = level-most (get_or ds 2 0) (in_repetition ds s f) (repetition-most s f) 1 at l
+  field_most s f at l = level_most (get_or ds 2 0) (in_repetition ds s f) (repetition_most s f) 1 at l
 
   part_most : (s f at : ℕ) (l : List ℕ) → length (in_part ds s f at l) ≤ length l + 1
   unfolding in_part
@@ -63,25 +63,25 @@ module _ (ds : List ℕ) where
       by false u v true xs ys x y h k = omega arith
       by false u v false xs ys x y h k = k
 
-  segment-most : (s at : ℕ) (l : List ℕ) → length (in_segment ds s at l) ≤ length l + 1
+  segment_most : (s at : ℕ) (l : List ℕ) → length (in_segment ds s at l) ≤ length l + 1
   unfolding in_segment
-  segment-most s at l = level-most (get_or ds 0 0) (in_part ds s) (part_most s) (cond (eqb s 0) 1 0) at l
+  segment_most s at l = level_most (get_or ds 0 0) (in_part ds s) (part_most s) (cond (eqb s 0) 1 0) at l
 
-  segments-most : (k at : ℕ) (ss : List (List ℕ)) → length (each (in_segment ds) k at ss) ≤ length (ended ss)
+  segments_most : (k at : ℕ) (ss : List (List ℕ)) → length (each (in_segment ds) k at ss) ≤ length (ended ss)
   unfolding each ended
-  segments-most k at [] = omega arith
-  segments-most k at (s ∷ ss) =
+  segments_most k at [] = omega arith
+  segments_most k at (s ∷ ss) =
       let a = length-append (in_segment ds k at s) (each (in_segment ds) (k + 1) (at + length s + 1) ss) in
-      let b = segment-most k at s in
-      let c = segments-most (k + 1) (at + length s + 1) ss in
+      let b = segment_most k at s in
+      let c = segments_most (k + 1) (at + length s + 1) ss in
       let d = length-append s (13 ∷ ended ss) in
       omega arith
 
 -- eight numbers for each byte are enough
-pub rows-most : (m : List ℕ) → reading m ≡ Passes → length (rows (leaves_of m)) ≤ 8 * length m
+pub rows_most : (m : List ℕ) → reading m ≡ Passes → length (rows (leaves_of m)) ≤ 8 * length m
 unfolding leaves_of
-rows-most m ok =
-    let a = segments-most (delimiters_of m) 0 0 (segments m) in
-    let e = ap length (accepted m ok).all-ended in
-    let n = rows-length (each (in_segment (delimiters_of m)) 0 0 (segments m)) in
+rows_most m ok =
+    let a = segments_most (delimiters_of m) 0 0 (segments m) in
+    let e = ap length (accepted m ok).all_ended in
+    let n = rows_length (each (in_segment (delimiters_of m)) 0 0 (segments m)) in
     omega arith

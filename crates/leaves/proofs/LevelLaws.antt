@@ -10,9 +10,9 @@ use borrow.Author.Tests.{eq-eqb, ne_eqb, le-leb, lt-leb}
 use Rattle.alphabet.specs.Bytes.{carriage_return}
 use Rattle.alphabet.specs.Lists.{first, find}
 use Rattle.alphabet.specs.Parts.{grown, split}
-use Rattle.alphabet.proofs.PartLaws.{split-cons, split-last, split-some, more_parts}
+use Rattle.alphabet.proofs.PartLaws.{split_cons, split_last, split_some, more_parts}
 use Rattle.reading.specs.Segments.{all_but_last}
-use Rattle.reading.proofs.SegmentLaws.{but_last-cons}
+use Rattle.reading.proofs.SegmentLaws.{but_last_cons}
 use Rattle.element.specs.declared.address.Address.{Address}
 use Rattle.leaves.specs.Leaves.{Leaf, addressed, leaf_at, each, subcomponent_leaf, in_component, in_repetition, in_field, header_part, in_part, in_segment}
 use Rattle.leaves.specs.Walks.{resume, rest_component, rest_repetition, rest_field, whole, rest_part, rest_segment, rest_from, here_of}
@@ -39,19 +39,19 @@ split_onto sep (b ∷ q) l e = at (eqb sep b) (split_onto sep q l) e
     at : (t : Bool) → (find sep q ≡ length q → split sep (q ++ l) ≡ onto q (split sep l)) → cond t 0 (suc (find sep q)) ≡ suc (length q)
         → cond t ([] ∷ split sep (q ++ l)) (grown b (split sep (q ++ l))) ≡ onto (b ∷ q) (split sep l)
     at true ih e = absurd (omega arith)
-    at false ih e = ap (grown b) (ih (omega arith)) ∙ grow (split sep l) (split-some sep l)
+    at false ih e = ap (grown b) (ih (omega arith)) ∙ grow (split sep l) (split_some sep l)
 
 -- the first of some parts is met at its beginning
-pub each-resume : (inner : ℕ → List ℕ → List Leaf) (next : ℕ → ℕ → List ℕ → List Leaf) (k at : ℕ) (ps : List (List ℕ))
+pub each_resume : (inner : ℕ → List ℕ → List Leaf) (next : ℕ → ℕ → List ℕ → List Leaf) (k at : ℕ) (ps : List (List ℕ))
     → ((at : ℕ) (p : List ℕ) → next k at p ≡ inner at p) → each next k at ps ≡ resume inner next (k + 1) at ps
 unfolding each resume
-each-resume inner next k at [] h = refl
-each-resume inner next k at (p ∷ ps) h = ap (λ (xs : List Leaf). xs ++ each next (k + 1) (at + length p + 1) ps) (h at p)
+each_resume inner next k at [] h = refl
+each_resume inner next k at (p ∷ ps) h = ap (λ (xs : List Leaf). xs ++ each next (k + 1) (at + length p + 1) ps) (h at p)
 
-pub find-behind : (sep : ℕ) (p : List ℕ) (b : ℕ) → find sep p ≡ length p → eqb sep b ≡ false → find sep (p ++ b ∷ []) ≡ length (p ++ b ∷ [])
+pub find_behind : (sep : ℕ) (p : List ℕ) (b : ℕ) → find sep p ≡ length p → eqb sep b ≡ false → find sep (p ++ b ∷ []) ≡ length (p ++ b ∷ [])
 unfolding first
-find-behind sep [] b e o = rw o
-find-behind sep (x ∷ p) b e o = at (eqb sep x) (λ h. find-behind sep p b h o) e
+find_behind sep [] b e o = rw o
+find_behind sep (x ∷ p) b e o = at (eqb sep x) (λ h. find_behind sep p b h o) e
   where
     at : (t : Bool) → (find sep p ≡ length p → find sep (p ++ b ∷ []) ≡ length (p ++ b ∷ [])) → cond t 0 (suc (find sep p)) ≡ suc (length p)
         → cond t 0 (suc (find sep (p ++ b ∷ []))) ≡ suc (length (p ++ b ∷ []))
@@ -62,13 +62,13 @@ module _ (sep : ℕ) (next : ℕ → ℕ → List ℕ → List Leaf) (k at : ℕ
   -- the part is the last
   pub level_alone : (inner : ℕ → List ℕ → List Leaf) → inner at p ≡ xs → resume inner next k at (split sep p) ≡ xs
   unfolding each resume
-  level_alone inner e = rw (split-last sep p (omega arith)) (append-nil (inner at p) ∙ e)
+  level_alone inner e = rw (split_last sep p (omega arith)) (append-nil (inner at p) ∙ e)
 
   -- the separator of this level ends it
-  pub level-own : (inner inner' : ℕ → List ℕ → List Leaf) (l : List ℕ) → inner at p ≡ xs → ((at : ℕ) (p : List ℕ) → next k at p ≡ inner' at p)
+  pub level_own : (inner inner' : ℕ → List ℕ → List Leaf) (l : List ℕ) → inner at p ≡ xs → ((at : ℕ) (p : List ℕ) → next k at p ≡ inner' at p)
       → resume inner next k at (split sep (p ++ sep ∷ l)) ≡ xs ++ resume inner' next (k + 1) (at + length p + 1) (split sep l)
   unfolding resume
-  level-own inner inner' l e h = rw (split-cons sep p l clear) (ap₂ (λ (a b : List Leaf). a ++ b) e (each-resume inner' next k (at + length p + 1) (split sep l) h))
+  level_own inner inner' l e h = rw (split_cons sep p l clear) (ap₂ (λ (a b : List Leaf). a ++ b) e (each_resume inner' next k (at + length p + 1) (split sep l) h))
 
 -- a byte of a level below ends a leaf in the first of some parts
 pub resume_past : (inner inner' : ℕ → List ℕ → List Leaf) (next : ℕ → ℕ → List ℕ → List Leaf) (k at : ℕ) (p : List ℕ) (b : ℕ) (xs : List Leaf) (ps : List (List ℕ)) → 1 ≤ length ps
@@ -89,22 +89,22 @@ pub level_past : (sep : ℕ) (inner inner' : ℕ → List ℕ → List Leaf) (ne
     → resume inner next k at (split sep (p ++ b ∷ l)) ≡ xs ++ resume inner' next k (at + length p + 1) (split sep l)
 level_past sep inner inner' next k at p b xs l e o h =
     ap (λ (x : List ℕ). resume inner next k at (split sep x)) (sym (append_assoc p (b ∷ []) l))
-    ∙ ap (resume inner next k at) (split_onto sep (p ++ b ∷ []) l (find-behind sep p b e o))
-    ∙ resume_past inner inner' next k at p b xs (split sep l) (split-some sep l) h
+    ∙ ap (resume inner next k at) (split_onto sep (p ++ b ∷ []) l (find_behind sep p b e o))
+    ∙ resume_past inner inner' next k at p b xs (split sep l) (split_some sep l) h
 
 -- ---- each level of a field, with the separators apart
 
 -- the four separators, and CR, are all different
 pub record Apart (ds : List ℕ) : Type 0 where
   pub comp_sub : eqb (get_or ds 1 0) (get_or ds 4 0) ≡ false
-  pub rep-sub : eqb (get_or ds 2 0) (get_or ds 4 0) ≡ false
+  pub rep_sub : eqb (get_or ds 2 0) (get_or ds 4 0) ≡ false
   pub rep_comp : eqb (get_or ds 2 0) (get_or ds 1 0) ≡ false
   pub field_sub : eqb (get_or ds 0 0) (get_or ds 4 0) ≡ false
   pub field_comp : eqb (get_or ds 0 0) (get_or ds 1 0) ≡ false
   pub field_rep : eqb (get_or ds 0 0) (get_or ds 2 0) ≡ false
-  pub end-sub : eqb carriage_return (get_or ds 4 0) ≡ false
+  pub end_sub : eqb carriage_return (get_or ds 4 0) ≡ false
   pub end_comp : eqb carriage_return (get_or ds 1 0) ≡ false
-  pub end-rep : eqb carriage_return (get_or ds 2 0) ≡ false
+  pub end_rep : eqb carriage_return (get_or ds 2 0) ≡ false
   pub end_field : eqb carriage_return (get_or ds 0 0) ≡ false
 
 -- bytes that no separator and no CR is among
@@ -117,17 +117,17 @@ pub record Clear (ds p : List ℕ) : Type 0 where
 
 module _ (ds : List ℕ) (s f : ℕ) where
   -- what begins is what is to come from its first leaf on
-  pub component-begins : (r c at : ℕ) (l : List ℕ) → in_component ds s f r c at l ≡ rest_component ds s f r c 1 at l
+  pub component_begins : (r c at : ℕ) (l : List ℕ) → in_component ds s f r c at l ≡ rest_component ds s f r c 1 at l
   unfolding in_component rest_component
-  component-begins r c at l = each-resume (subcomponent_leaf ds s f r c 1) (subcomponent_leaf ds s f r c) 1 at (split (get_or ds 4 0) l) (λ a p. refl)
+  component_begins r c at l = each_resume (subcomponent_leaf ds s f r c 1) (subcomponent_leaf ds s f r c) 1 at (split (get_or ds 4 0) l) (λ a p. refl)
 
-  pub repetition-begins : (r at : ℕ) (l : List ℕ) → in_repetition ds s f r at l ≡ rest_repetition ds s f r 1 1 at l
+  pub repetition_begins : (r at : ℕ) (l : List ℕ) → in_repetition ds s f r at l ≡ rest_repetition ds s f r 1 1 at l
   unfolding in_repetition rest_repetition
-  repetition-begins r at l = each-resume (rest_component ds s f r 1 1) (in_component ds s f r) 1 at (split (get_or ds 1 0) l) (λ a p. component-begins r 1 a p)
+  repetition_begins r at l = each_resume (rest_component ds s f r 1 1) (in_component ds s f r) 1 at (split (get_or ds 1 0) l) (λ a p. component_begins r 1 a p)
 
   pub field_begins : (at : ℕ) (l : List ℕ) → in_field ds s f at l ≡ rest_field ds s f 1 1 1 at l
   unfolding in_field rest_field
-  field_begins at l = each-resume (rest_repetition ds s f 1 1 1) (in_repetition ds s f) 1 at (split (get_or ds 2 0) l) (λ a p. repetition-begins 1 a p)
+  field_begins at l = each_resume (rest_repetition ds s f 1 1 1) (in_repetition ds s f) 1 at (split (get_or ds 2 0) l) (λ a p. repetition_begins 1 a p)
 
   module _ (r c u at : ℕ) (p : List ℕ) (clear : Clear ds p) where
     abbrev one : List Leaf
@@ -137,9 +137,9 @@ module _ (ds : List ℕ) (s f : ℕ) where
     unfolding rest_component
     component_alone = level_alone (get_or ds 4 0) _ (u + 1) at p one clear.of_sub _ refl
 
-    component-sub : (l : List ℕ) → rest_component ds s f r c u at (p ++ get_or ds 4 0 ∷ l) ≡ one ++ rest_component ds s f r c (u + 1) (at + length p + 1) l
+    component_sub : (l : List ℕ) → rest_component ds s f r c u at (p ++ get_or ds 4 0 ∷ l) ≡ one ++ rest_component ds s f r c (u + 1) (at + length p + 1) l
     unfolding rest_component
-    component-sub l = level-own (get_or ds 4 0) _ (u + 1) at p one clear.of_sub _ _ l refl (λ a q. refl)
+    component_sub l = level_own (get_or ds 4 0) _ (u + 1) at p one clear.of_sub _ _ l refl (λ a q. refl)
 
     repetition_alone : rest_repetition ds s f r c u at p ≡ one
     unfolding rest_repetition
@@ -147,24 +147,24 @@ module _ (ds : List ℕ) (s f : ℕ) where
 
     repetition_comp : (l : List ℕ) → rest_repetition ds s f r c u at (p ++ get_or ds 1 0 ∷ l) ≡ one ++ rest_repetition ds s f r (c + 1) 1 (at + length p + 1) l
     unfolding rest_repetition
-    repetition_comp l = level-own (get_or ds 1 0) _ (c + 1) at p one clear.of_comp _ _ l component_alone (λ a q. component-begins r (c + 1) a q)
+    repetition_comp l = level_own (get_or ds 1 0) _ (c + 1) at p one clear.of_comp _ _ l component_alone (λ a q. component_begins r (c + 1) a q)
 
-    repetition-sub : Apart ds → (l : List ℕ) → rest_repetition ds s f r c u at (p ++ get_or ds 4 0 ∷ l) ≡ one ++ rest_repetition ds s f r c (u + 1) (at + length p + 1) l
+    repetition_sub : Apart ds → (l : List ℕ) → rest_repetition ds s f r c u at (p ++ get_or ds 4 0 ∷ l) ≡ one ++ rest_repetition ds s f r c (u + 1) (at + length p + 1) l
     unfolding rest_repetition
-    repetition-sub w l = level_past (get_or ds 1 0) _ _ _ (c + 1) at p (get_or ds 4 0) one l clear.of_comp w.comp_sub component-sub
+    repetition_sub w l = level_past (get_or ds 1 0) _ _ _ (c + 1) at p (get_or ds 4 0) one l clear.of_comp w.comp_sub component_sub
 
     pub field_alone : rest_field ds s f r c u at p ≡ one
     unfolding rest_field
     field_alone = level_alone (get_or ds 2 0) _ (r + 1) at p one clear.of_rep _ repetition_alone
 
-    pub field_rep-on : (l : List ℕ) → rest_field ds s f r c u at (p ++ get_or ds 2 0 ∷ l) ≡ one ++ rest_field ds s f (r + 1) 1 1 (at + length p + 1) l
+    pub field_rep_on : (l : List ℕ) → rest_field ds s f r c u at (p ++ get_or ds 2 0 ∷ l) ≡ one ++ rest_field ds s f (r + 1) 1 1 (at + length p + 1) l
     unfolding rest_field
-    field_rep-on l = level-own (get_or ds 2 0) _ (r + 1) at p one clear.of_rep _ _ l repetition_alone (λ a q. repetition-begins (r + 1) a q)
+    field_rep_on l = level_own (get_or ds 2 0) _ (r + 1) at p one clear.of_rep _ _ l repetition_alone (λ a q. repetition_begins (r + 1) a q)
 
     pub field_comp_on : Apart ds → (l : List ℕ) → rest_field ds s f r c u at (p ++ get_or ds 1 0 ∷ l) ≡ one ++ rest_field ds s f r (c + 1) 1 (at + length p + 1) l
     unfolding rest_field
     field_comp_on w l = level_past (get_or ds 2 0) _ _ _ (r + 1) at p (get_or ds 1 0) one l clear.of_rep w.rep_comp repetition_comp
 
-    pub field_sub-on : Apart ds → (l : List ℕ) → rest_field ds s f r c u at (p ++ get_or ds 4 0 ∷ l) ≡ one ++ rest_field ds s f r c (u + 1) (at + length p + 1) l
+    pub field_sub_on : Apart ds → (l : List ℕ) → rest_field ds s f r c u at (p ++ get_or ds 4 0 ∷ l) ≡ one ++ rest_field ds s f r c (u + 1) (at + length p + 1) l
     unfolding rest_field
-    field_sub-on w l = level_past (get_or ds 2 0) _ _ _ (r + 1) at p (get_or ds 4 0) one l clear.of_rep w.rep-sub (repetition-sub w)
+    field_sub_on w l = level_past (get_or ds 2 0) _ _ _ (r + 1) at p (get_or ds 4 0) one l clear.of_rep w.rep_sub (repetition_sub w)

@@ -15,15 +15,15 @@ use Rattle.reading.specs.Reading.{reading}
 use Rattle.leaves.specs.Leaves.{listing}
 
 module _ (m : List ℕ) (room : ℕ) where
-  pub listing-unread : (kind : Refusal) (place : ℕ) → reading m ≡ Fails kind place → listing m room ≡ Fails kind place
+  pub listing_unread : (kind : Refusal) (place : ℕ) → reading m ≡ Fails kind place → listing m room ≡ Fails kind place
   unfolding listing
-  listing-unread kind place e = rw e
+  listing_unread kind place e = rw e
 
   module _ (ok : reading m ≡ Passes) where
-    pub listing-short : room / 8 < length m → listing m room ≡ Fails NoRoom 0
+    pub listing_short : room / 8 < length m → listing m room ≡ Fails NoRoom 0
     unfolding listing
-    listing-short h = rw (ok, lt-ltb (room / 8) (length m) h)
+    listing_short h = rw (ok, lt-ltb (room / 8) (length m) h)
 
-    pub listing-fits : length m ≤ room / 8 → listing m room ≡ Passes
+    pub listing_fits : length m ≤ room / 8 → listing m room ≡ Passes
     unfolding listing
-    listing-fits h = rw (ok, le-ltb (room / 8) (length m) h)
+    listing_fits h = rw (ok, le-ltb (room / 8) (length m) h)

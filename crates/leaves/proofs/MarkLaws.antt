@@ -12,7 +12,7 @@ use lib.Bits.{bit_and, and_step, and_self}
 use lib.ListN.{length, get_or, take, drop, set, drop_of_length-le}
 use lib.Dec.{eqb}
 use Rattle.alphabet.specs.Lists.{first}
-use Rattle.alphabet.proofs.ListLaws.{drop-next}
+use Rattle.alphabet.proofs.ListLaws.{drop_next}
 use borrow.Author.Tests.{eqb-true, eqb-false}
 use Rattle.leaves.specs.Walks.{marked, marked_from, Weighs, Light, sum_of}
 
@@ -55,33 +55,33 @@ module _ (test : ℕ → Bool) where
   -- one byte more in front
   pub marked_next : (l : List ℕ) (i : ℕ) → i < length l → marked test (drop i l) ≡ cond (test (get_or l i 0)) 1 0 + 2 * marked test (drop (i + 1) l)
   unfolding marked
-  marked_next l i h = rw (drop-next l i h)
+  marked_next l i h = rw (drop_next l i h)
 
-  pub marked-nothing : marked test [] ≡ 0
+  pub marked_nothing : marked test [] ≡ 0
   unfolding marked
-  marked-nothing = refl
+  marked_nothing = refl
 
   -- no mark, no byte that passes
-  pub marked-none : (l : List ℕ) → marked test l ≡ 0 → first test l ≡ length l
+  pub marked_none : (l : List ℕ) → marked test l ≡ 0 → first test l ≡ length l
   unfolding marked first
-  marked-none [] e = refl
-  marked-none (b ∷ l) e = at (test b) (marked-none l) e
+  marked_none [] e = refl
+  marked_none (b ∷ l) e = at (test b) (marked_none l) e
     where
       at : (t : Bool) → (marked test l ≡ 0 → first test l ≡ length l) → cond t 1 0 + 2 * marked test l ≡ 0 → cond t 0 (suc (first test l)) ≡ suc (length l)
       at true ih e = absurd (omega arith)
       at false ih e = ap suc (ih (omega arith))
 
-  pub marked-some : (l : List ℕ) → (marked test l ≡ 0 → ⊥) → first test l < length l
+  pub marked_some : (l : List ℕ) → (marked test l ≡ 0 → ⊥) → first test l < length l
   unfolding marked first
-  marked-some [] n = absurd (n refl)
-  marked-some (b ∷ l) n = at (test b) (marked-some l) n
+  marked_some [] n = absurd (n refl)
+  marked_some (b ∷ l) n = at (test b) (marked_some l) n
     where
       at : (t : Bool) → ((marked test l ≡ 0 → ⊥) → first test l < length l) → (cond t 1 0 + 2 * marked test l ≡ 0 → ⊥) → cond t 0 (suc (first test l)) < suc (length l)
       at true ih n = omega arith
       at false ih n = let h = ih (λ e. n (omega arith)) in omega arith
 
-  marked-some_if : (l : List ℕ) → first test l < length l → 0 < marked test l
-  marked-some_if l h = positive (marked test l) (λ e. let q = marked-none l e in omega arith)
+  marked_some_if : (l : List ℕ) → first test l < length l → 0 < marked test l
+  marked_some_if l h = positive (marked test l) (λ e. let q = marked_none l e in omega arith)
 
   odd : (x : ℕ) → (1 + 2 * x) % 2 ≡ 1
   odd x = omega arith
@@ -94,11 +94,11 @@ module _ (test : ℕ → Bool) where
   half false x = omega arith
 
   -- the lowest mark is the first byte that passes
-  pub marked-first : (k : ℕ) (l : List ℕ) → first test l < length l → length l ≤ k → count_trailing_zeros k (marked test l) ≡ first test l
+  pub marked_first : (k : ℕ) (l : List ℕ) → first test l < length l → length l ≤ k → count_trailing_zeros k (marked test l) ≡ first test l
   unfolding marked first count_trailing_zeros
-  marked-first k [] h n = absurd (omega arith)
-  marked-first zero (b ∷ l) h n = absurd (omega arith)
-  marked-first (suc k) (b ∷ l) h n = at (test b) (marked-first k l) h
+  marked_first k [] h n = absurd (omega arith)
+  marked_first zero (b ∷ l) h n = absurd (omega arith)
+  marked_first (suc k) (b ∷ l) h n = at (test b) (marked_first k l) h
     where
       at : (t : Bool) → (first test l < length l → length l ≤ k → count_trailing_zeros k (marked test l) ≡ first test l) → cond t 0 (suc (first test l)) < suc (length l)
           → under ((cond t 1 0 + 2 * marked test l) % 2) (count_trailing_zeros k ((cond t 1 0 + 2 * marked test l) / 2)) ≡ cond t 0 (suc (first test l))
@@ -109,13 +109,13 @@ module _ (test : ℕ → Bool) where
   -- without those of the first k bytes: none is left, or the lowest is the first byte that passes behind them
   pub from_none : (k : ℕ) (l : List ℕ) → marked_from test k l ≡ 0 → first test (drop k l) ≡ length (drop k l)
   unfolding marked_from first
-  from_none zero l e = marked-none l e
+  from_none zero l e = marked_none l e
   from_none (suc k) [] e = refl
   from_none (suc k) (b ∷ l) e = from_none k l (omega arith)
 
   pub from_some : (k : ℕ) (l : List ℕ) → (marked_from test k l ≡ 0 → ⊥) → first test (drop k l) < length (drop k l)
   unfolding marked_from
-  from_some zero l n = marked-some l n
+  from_some zero l n = marked_some l n
   from_some (suc k) [] n = absurd (n refl)
   from_some (suc k) (b ∷ l) n = from_some k l (λ e. n (ap (λ (x : ℕ). 2 * x) e))
 
@@ -124,7 +124,7 @@ module _ (test : ℕ → Bool) where
 
   pub from_first : (w k : ℕ) (l : List ℕ) → first test (drop k l) < length (drop k l) → length l ≤ w → count_trailing_zeros w (marked_from test k l) ≡ k + first test (drop k l)
   unfolding marked_from count_trailing_zeros
-  from_first w zero l h n = marked-first w l h n ∙ sym (zero-add (first test l))
+  from_first w zero l h n = marked_first w l h n ∙ sym (zero-add (first test l))
   from_first w (suc k) [] h n = absurd (omega arith)
   from_first zero (suc k) (b ∷ l) h n = absurd (omega arith)
   from_first (suc w) (suc k) (b ∷ l) h n =
@@ -132,10 +132,10 @@ module _ (test : ℕ → Bool) where
       ∙ ap suc (from_first w k l h (omega arith)) ∙ sym (suc-add k (first test (drop k l)))
 
   -- one less has the lowest mark gone, and lower ones in its place
-  pub marked-clear : (l : List ℕ) → first test l < length l → bit_and (marked test l) (marked test l - 1) ≡ marked_from test (suc (first test l)) l
+  pub marked_clear : (l : List ℕ) → first test l < length l → bit_and (marked test l) (marked test l - 1) ≡ marked_from test (suc (first test l)) l
   unfolding marked marked_from first
-  marked-clear [] h = absurd (omega arith)
-  marked-clear (b ∷ l) h = at (test b) (marked-some_if l) (marked-clear l) h
+  marked_clear [] h = absurd (omega arith)
+  marked_clear (b ∷ l) h = at (test b) (marked_some_if l) (marked_clear l) h
     where
       at : (t : Bool) → (first test l < length l → 0 < marked test l)
           → (first test l < length l → bit_and (marked test l) (marked test l - 1) ≡ marked_from test (suc (first test l)) l) → cond t 0 (suc (first test l)) < suc (length l)
@@ -150,7 +150,7 @@ module _ (test : ℕ → Bool) where
   unfolding marked_from
   from_clear zero l h =
       let e : suc (first test l) ≡ 0 + first test l + 1 = omega arith in
-      marked-clear l h ∙ ap (λ (i : ℕ). marked_from test i l) e
+      marked_clear l h ∙ ap (λ (i : ℕ). marked_from test i l) e
   from_clear (suc k) [] h = absurd (omega arith)
   from_clear (suc k) (b ∷ l) h =
       let e : suc (k + first test (drop k l) + 1) ≡ suc k + first test (drop k l) + 1 = omega arith in
@@ -176,9 +176,9 @@ weight_bit : (t : Bool) (n : ℕ) → cond t n 0 ≡ n * cond t 1 0
 weight_bit true n = omega arith
 weight_bit false n = omega arith
 
-bit-most : (t : Bool) → cond t 1 0 ≤ 1
-bit-most true = omega arith
-bit-most false = omega arith
+bit_most : (t : Bool) → cond t 1 0 ≤ 1
+bit_most true = omega arith
+bit_most false = omega arith
 
 module _ (test : ℕ → Bool) (l ws : List ℕ) (n : ℕ) (w : Weighs test l n ws) (whole : n ≡ length l) where
   -- the weight of byte k of eight
@@ -196,14 +196,14 @@ module _ (test : ℕ → Bool) (l ws : List ℕ) (n : ℕ) (w : Weighs test l n 
   module _ (at : ℕ) (z : at % 8 ≡ 0) (i : at + 8 ≤ n) where
     pub light : length ws ≡ n → Light ws at
     light e =
-        let b0 = bit-most (test (get_or l at 0)) in
-        let b1 = bit-most (test (get_or l (at + 1) 0)) in
-        let b2 = bit-most (test (get_or l (at + 2) 0)) in
-        let b3 = bit-most (test (get_or l (at + 3) 0)) in
-        let b4 = bit-most (test (get_or l (at + 4) 0)) in
-        let b5 = bit-most (test (get_or l (at + 5) 0)) in
-        let b6 = bit-most (test (get_or l (at + 6) 0)) in
-        let b7 = bit-most (test (get_or l (at + 7) 0)) in
+        let b0 = bit_most (test (get_or l at 0)) in
+        let b1 = bit_most (test (get_or l (at + 1) 0)) in
+        let b2 = bit_most (test (get_or l (at + 2) 0)) in
+        let b3 = bit_most (test (get_or l (at + 3) 0)) in
+        let b4 = bit_most (test (get_or l (at + 4) 0)) in
+        let b5 = bit_most (test (get_or l (at + 5) 0)) in
+        let b6 = bit_most (test (get_or l (at + 6) 0)) in
+        let b7 = bit_most (test (get_or l (at + 7) 0)) in
         let w0 = first_weight at z (omega arith) in
         let w1 = weight at 1 2 z (omega arith) (omega arith) refl in
         let w2 = weight at 2 4 z (omega arith) (omega arith) refl in
@@ -215,8 +215,8 @@ module _ (test : ℕ → Bool) (l ws : List ℕ) (n : ℕ) (w : Weighs test l n 
         (omega arith, omega arith, omega arith, omega arith, omega arith, omega arith, omega arith, omega arith, omega arith)
 
     -- eight bytes and what is behind them
-    pub eight-marked : marked test (drop at l) ≡ sum_of ws at + 256 * marked test (drop (at + 8) l)
-    eight-marked =
+    pub eight_marked : marked test (drop at l) ≡ sum_of ws at + 256 * marked test (drop (at + 8) l)
+    eight_marked =
         let w0 = first_weight at z (omega arith) in
         let w1 = weight at 1 2 z (omega arith) (omega arith) refl in
         let w2 = weight at 2 4 z (omega arith) (omega arith) refl in
@@ -242,21 +242,21 @@ module _ (test : ℕ → Bool) (l ws : List ℕ) (n : ℕ) (w : Weighs test l n 
 pub block_marked : (test : ℕ → Bool) (l ws : List ℕ) → Weighs test l 48 ws → length l ≡ 48
     → sum_of ws 0 + 256 * sum_of ws 8 + 65536 * (sum_of ws 16 + 256 * sum_of ws 24) + 4294967296 * (sum_of ws 32 + 256 * sum_of ws 40) ≡ marked test l
 block_marked test l ws w n =
-    let a = eight-marked test l ws 48 w (sym n) 0 refl (omega arith) in
-    let b = eight-marked test l ws 48 w (sym n) 8 refl (omega arith) in
-    let c = eight-marked test l ws 48 w (sym n) 16 refl (omega arith) in
-    let d = eight-marked test l ws 48 w (sym n) 24 refl (omega arith) in
-    let f = eight-marked test l ws 48 w (sym n) 32 refl (omega arith) in
-    let g = eight-marked test l ws 48 w (sym n) 40 refl (omega arith) in
+    let a = eight_marked test l ws 48 w (sym n) 0 refl (omega arith) in
+    let b = eight_marked test l ws 48 w (sym n) 8 refl (omega arith) in
+    let c = eight_marked test l ws 48 w (sym n) 16 refl (omega arith) in
+    let d = eight_marked test l ws 48 w (sym n) 24 refl (omega arith) in
+    let f = eight_marked test l ws 48 w (sym n) 32 refl (omega arith) in
+    let g = eight_marked test l ws 48 w (sym n) 40 refl (omega arith) in
     let h : length l ≤ 48 = omega arith in
-    let e = ap (marked test) (drop_of_length-le l h) ∙ marked-nothing test in
+    let e = ap (marked test) (drop_of_length-le l h) ∙ marked_nothing test in
     omega arith
 
 pub light_block : (test : ℕ → Bool) (l ws : List ℕ) → Weighs test l 48 ws → length l ≡ 48 → length ws ≡ 48 → (at : ℕ) → at ≤ 40 → at % 8 ≡ 0 → Light ws at
 light_block test l ws w n k at h z = light test l ws 48 w (sym n) at z (omega arith) k
 
-pub sum-most : (ws : List ℕ) (at : ℕ) → Light ws at → sum_of ws at ≤ 255
-sum-most ws at h =
+pub sum_most : (ws : List ℕ) (at : ℕ) → Light ws at → sum_of ws at ≤ 255
+sum_most ws at h =
     let h1 = h.1 in
     let h2 = h.2 in
     let h3 = h.3 in

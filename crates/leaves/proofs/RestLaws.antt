@@ -11,14 +11,14 @@ use borrow.Author.Tests.{eq-eqb, ne_eqb, eqb-true, eqb-false, le-leb, lt-leb, le
 use Rattle.alphabet.specs.Bytes.{carriage_return}
 use Rattle.alphabet.specs.Lists.{first, find, among}
 use Rattle.alphabet.specs.Parts.{split}
-use Rattle.alphabet.proofs.BoolLaws.{false-true}
-use Rattle.alphabet.proofs.PartLaws.{split-cons, split-some, more_parts}
+use Rattle.alphabet.proofs.BoolLaws.{false_true}
+use Rattle.alphabet.proofs.PartLaws.{split_cons, split_some, more_parts}
 use Rattle.reading.specs.Segments.{all_but_last}
-use Rattle.reading.proofs.SegmentLaws.{but_last-cons}
+use Rattle.reading.proofs.SegmentLaws.{but_last_cons}
 use Rattle.element.specs.declared.address.Address.{Address}
 use Rattle.leaves.specs.Leaves.{Leaf, addressed, leaf_at, each, subcomponent_leaf, in_field, in_part, in_segment}
 use Rattle.leaves.specs.Walks.{resume, rest_field, whole, rest_part, rest_segment, rest_from, here_of, passed}
-use Rattle.leaves.proofs.LevelLaws.{onto, split_onto, each-resume, find-behind, level_alone, level-own, level_past, resume_past, Apart, Clear, field_begins, field_alone, field_rep-on, field_comp_on, field_sub-on}
+use Rattle.leaves.proofs.LevelLaws.{onto, split_onto, each_resume, find_behind, level_alone, level_own, level_past, resume_past, Apart, Clear, field_begins, field_alone, field_rep_on, field_comp_on, field_sub_on}
 
 -- ---- a part of a segment: its name, or a field
 
@@ -26,8 +26,8 @@ name_part : (ds : List ℕ) (s r c u at : ℕ) (l : List ℕ) → 1 ≤ s → re
 unfolding rest_part in_part
 name_part ds s r c u at l h = rw (ne_eqb s 0 (λ e. omega arith))
 
-split-whole : (s f : ℕ) → 3 ≤ s * 3 + f → (f ≡ 0 → ⊥) → whole s f ≡ false
-split-whole s f h n = at (eqb s 0) refl
+split_whole : (s f : ℕ) → 3 ≤ s * 3 + f → (f ≡ 0 → ⊥) → whole s f ≡ false
+split_whole s f h n = at (eqb s 0) refl
   where
     at : (t : Bool) → eqb s 0 ≡ t → cond t (leb f 2) (eqb f 0) ≡ false
     at true e = let z = eqb-true s 0 e in lt-leb f 2 (omega arith)
@@ -35,10 +35,10 @@ split-whole s f h n = at (eqb s 0) refl
 
 split_part : (ds : List ℕ) (s f r c u at : ℕ) (l : List ℕ) → 3 ≤ s * 3 + f → (f ≡ 0 → ⊥) → rest_part ds s f r c u at l ≡ rest_field ds s f r c u at l
 unfolding rest_part
-split_part ds s f r c u at l h n = rw (split-whole s f h n)
+split_part ds s f r c u at l h n = rw (split_whole s f h n)
 
-whole-not : (s f : ℕ) → whole s f ≡ false → 3 ≤ s * 3 + f × (f ≡ 0 → ⊥)
-whole-not s f h = at (eqb s 0) refl h
+whole_not : (s f : ℕ) → whole s f ≡ false → 3 ≤ s * 3 + f × (f ≡ 0 → ⊥)
+whole_not s f h = at (eqb s 0) refl h
   where
     at : (t : Bool) → eqb s 0 ≡ t → cond t (leb f 2) (eqb f 0) ≡ false → 3 ≤ s * 3 + f × (f ≡ 0 → ⊥)
     at true e h = let z = eqb-true s 0 e in let g = leb-false f 2 h in (omega arith, λ n. omega arith)
@@ -49,7 +49,7 @@ unfolding in_part
 field_part_lem ds s f at l h = by (eqb s 0) refl
   where
     w : 3 ≤ s * 3 + f × (f ≡ 0 → ⊥)
-    w = whole-not s f h
+    w = whole_not s f h
 
     by : (t : Bool) → eqb s 0 ≡ t → in_part ds s f at l ≡ in_field ds s f at l
     by true e =
@@ -83,11 +83,11 @@ module _ (ds : List ℕ) (s : ℕ) where
 
 -- ---- a segment
 
-pub segment-begins : (ds : List ℕ) (s at : ℕ) (l : List ℕ) → in_segment ds (s + 1) at l ≡ rest_segment ds (s + 1) 0 1 1 1 at l
+pub segment_begins : (ds : List ℕ) (s at : ℕ) (l : List ℕ) → in_segment ds (s + 1) at l ≡ rest_segment ds (s + 1) 0 1 1 1 at l
 unfolding in_segment rest_segment
-segment-begins ds s at l =
+segment_begins ds s at l =
     rw (ne_eqb (s + 1) 0 (λ e. omega arith))
-    (each-resume (rest_part ds (s + 1) 0 1 1 1) (in_part ds (s + 1)) 0 at (split (get_or ds 0 0) l) (λ a p. part_begins ds (s + 1) 0 a p))
+    (each_resume (rest_part ds (s + 1) 0 1 1 1) (in_part ds (s + 1)) 0 at (split (get_or ds 0 0) l) (λ a p. part_begins ds (s + 1) 0 a p))
 
 module _ (ds : List ℕ) (w : Apart ds) (s f r c u at : ℕ) (p : List ℕ) (clear : Clear ds p) (h : 3 ≤ s * 3 + f) where
   abbrev here : List Leaf
@@ -99,13 +99,13 @@ module _ (ds : List ℕ) (w : Apart ds) (s f r c u at : ℕ) (p : List ℕ) (cle
 
   segment_field : (l : List ℕ) → rest_segment ds s f r c u at (p ++ get_or ds 0 0 ∷ l) ≡ here ++ rest_segment ds s (f + 1) 1 1 1 (at + length p + 1) l
   unfolding rest_segment
-  segment_field l = level-own (get_or ds 0 0) _ (f + 1) at p here clear.of_field _ _ l (part_alone ds s f r c u at p h clear) (λ a q. part_begins ds s (f + 1) a q)
+  segment_field l = level_own (get_or ds 0 0) _ (f + 1) at p here clear.of_field _ _ l (part_alone ds s f r c u at p h clear) (λ a q. part_begins ds s (f + 1) a q)
 
-  segment-rep : (l : List ℕ) → rest_segment ds s f r c u at (p ++ get_or ds 2 0 ∷ l) ≡ here ++ rest_segment ds s f (r + 1) 1 1 (at + length p + 1) l
+  segment_rep : (l : List ℕ) → rest_segment ds s f r c u at (p ++ get_or ds 2 0 ∷ l) ≡ here ++ rest_segment ds s f (r + 1) 1 1 (at + length p + 1) l
   unfolding rest_segment
-  segment-rep l =
+  segment_rep l =
       level_past (get_or ds 0 0) _ _ _ (f + 1) at p (get_or ds 2 0) here l clear.of_field w.field_rep
-      (λ q. part_on ds s f r c u (r + 1) 1 1 at (at + length p + 1) p (p ++ get_or ds 2 0 ∷ q) q h (field_rep-on ds s f r c u at p clear q))
+      (λ q. part_on ds s f r c u (r + 1) 1 1 at (at + length p + 1) p (p ++ get_or ds 2 0 ∷ q) q h (field_rep_on ds s f r c u at p clear q))
 
   segment_comp : (l : List ℕ) → rest_segment ds s f r c u at (p ++ get_or ds 1 0 ∷ l) ≡ here ++ rest_segment ds s f r (c + 1) 1 (at + length p + 1) l
   unfolding rest_segment
@@ -113,21 +113,21 @@ module _ (ds : List ℕ) (w : Apart ds) (s f r c u at : ℕ) (p : List ℕ) (cle
       level_past (get_or ds 0 0) _ _ _ (f + 1) at p (get_or ds 1 0) here l clear.of_field w.field_comp
       (λ q. part_on ds s f r c u r (c + 1) 1 at (at + length p + 1) p (p ++ get_or ds 1 0 ∷ q) q h (field_comp_on ds s f r c u at p clear w q))
 
-  segment-sub : (l : List ℕ) → rest_segment ds s f r c u at (p ++ get_or ds 4 0 ∷ l) ≡ here ++ rest_segment ds s f r c (u + 1) (at + length p + 1) l
+  segment_sub : (l : List ℕ) → rest_segment ds s f r c u at (p ++ get_or ds 4 0 ∷ l) ≡ here ++ rest_segment ds s f r c (u + 1) (at + length p + 1) l
   unfolding rest_segment
-  segment-sub l =
+  segment_sub l =
       level_past (get_or ds 0 0) _ _ _ (f + 1) at p (get_or ds 4 0) here l clear.of_field w.field_sub
-      (λ q. part_on ds s f r c u r c (u + 1) at (at + length p + 1) p (p ++ get_or ds 4 0 ∷ q) q h (field_sub-on ds s f r c u at p clear w q))
+      (λ q. part_on ds s f r c u r c (u + 1) at (at + length p + 1) p (p ++ get_or ds 4 0 ∷ q) q h (field_sub_on ds s f r c u at p clear w q))
 
 -- ---- the message
 
 but_last_onto : (q : List ℕ) (ps : List (List ℕ)) → 1 < length ps → all_but_last (onto q ps) ≡ onto q (all_but_last ps)
 but_last_onto q [] h = absurd (omega arith)
-but_last_onto q (p ∷ ps) h = but_last-cons (q ++ p) ps (omega arith) ∙ ap (onto q) (sym (but_last-cons p ps (omega arith)))
+but_last_onto q (p ∷ ps) h = but_last_cons (q ++ p) ps (omega arith) ∙ ap (onto q) (sym (but_last_cons p ps (omega arith)))
 
-but_last-some : (ps : List (List ℕ)) → 1 < length ps → 1 ≤ length (all_but_last ps)
-but_last-some [] h = absurd (omega arith)
-but_last-some (p ∷ ps) h = let e = ap length (but_last-cons p ps (omega arith)) in omega arith
+but_last_some : (ps : List (List ℕ)) → 1 < length ps → 1 ≤ length (all_but_last ps)
+but_last_some [] h = absurd (omega arith)
+but_last_some (p ∷ ps) h = let e = ap length (but_last_cons p ps (omega arith)) in omega arith
 
 -- CR ends the segment, and the next begins
 pub message_own : (next : ℕ → ℕ → List ℕ → List Leaf) (inner inner' : ℕ → List ℕ → List Leaf) (k at : ℕ) (p l : List ℕ) (xs : List Leaf) → find carriage_return p ≡ length p → inner at p ≡ xs
@@ -135,8 +135,8 @@ pub message_own : (next : ℕ → ℕ → List ℕ → List Leaf) (inner inner' 
     → resume inner next k at (all_but_last (split carriage_return (p ++ carriage_return ∷ l))) ≡ xs ++ resume inner' next (k + 1) (at + length p + 1) (all_but_last (split carriage_return l))
 unfolding resume
 message_own next inner inner' k at p l xs clear e h =
-    rw (split-cons carriage_return p l clear, but_last-cons p (split carriage_return l) (split-some carriage_return l))
-    (ap₂ (λ (a b : List Leaf). a ++ b) e (each-resume inner' next k (at + length p + 1) (all_but_last (split carriage_return l)) h))
+    rw (split_cons carriage_return p l clear, but_last_cons p (split carriage_return l) (split_some carriage_return l))
+    (ap₂ (λ (a b : List Leaf). a ++ b) e (each_resume inner' next k (at + length p + 1) (all_but_last (split carriage_return l)) h))
 
 -- another byte ends a leaf in it, and a CR is still to come
 pub message_past : (next : ℕ → ℕ → List ℕ → List Leaf) (inner inner' : ℕ → List ℕ → List Leaf) (k at : ℕ) (p : List ℕ) (b : ℕ) (l : List ℕ) (xs : List Leaf) → find carriage_return p ≡ length p
@@ -145,9 +145,9 @@ pub message_past : (next : ℕ → ℕ → List ℕ → List Leaf) (inner inner'
 message_past next inner inner' k at p b l xs clear o more h =
     let n : 1 < length (split carriage_return l) = ltb-true 1 (length (split carriage_return l)) (more_parts carriage_return l ∙ lt-ltb (find carriage_return l) (length l) more) in
     ap (λ (x : List ℕ). resume inner next k at (all_but_last (split carriage_return x))) (sym (append_assoc p (b ∷ []) l))
-    ∙ ap (λ (ps : List (List ℕ)). resume inner next k at (all_but_last ps)) (split_onto carriage_return (p ++ b ∷ []) l (find-behind carriage_return p b clear o))
+    ∙ ap (λ (ps : List (List ℕ)). resume inner next k at (all_but_last ps)) (split_onto carriage_return (p ++ b ∷ []) l (find_behind carriage_return p b clear o))
     ∙ ap (resume inner next k at) (but_last_onto (p ++ b ∷ []) (split carriage_return l) n)
-    ∙ resume_past inner inner' next k at p b xs (all_but_last (split carriage_return l)) (but_last-some (split carriage_return l) n) h
+    ∙ resume_past inner inner' next k at p b xs (all_but_last (split carriage_return l)) (but_last_some (split carriage_return l) n) h
 
 -- ---- one byte that ends a leaf
 
@@ -155,23 +155,23 @@ message_past next inner inner' k at p b l xs clear o more h =
 abbrev pub ends_by : List ℕ → List ℕ
 ends_by ds = carriage_return ∷ get_or ds 0 0 ∷ get_or ds 1 0 ∷ get_or ds 2 0 ∷ get_or ds 4 0 ∷ []
 
-among-last : (ds : List ℕ) (b : ℕ) → among (ends_by ds) b ≡ true → eqb b (get_or ds 0 0) ≡ false → eqb b (get_or ds 1 0) ≡ false → eqb b carriage_return ≡ false → eqb b (get_or ds 2 0) ≡ false → b ≡ get_or ds 4 0
+among_last : (ds : List ℕ) (b : ℕ) → among (ends_by ds) b ≡ true → eqb b (get_or ds 0 0) ≡ false → eqb b (get_or ds 1 0) ≡ false → eqb b carriage_return ≡ false → eqb b (get_or ds 2 0) ≡ false → b ≡ get_or ds 4 0
 unfolding first
-among-last ds b e e₁ e₂ e₀ e₃ = at (eqb b (get_or ds 4 0)) refl (rw (e₀, e₁, e₂, e₃) at e)
+among_last ds b e e₁ e₂ e₀ e₃ = at (eqb b (get_or ds 4 0)) refl (rw (e₀, e₁, e₂, e₃) at e)
   where
     at : (t : Bool) → eqb b (get_or ds 4 0) ≡ t → ltb (suc (suc (suc (suc (cond t 0 1))))) 5 ≡ true → b ≡ get_or ds 4 0
     at true q h = eqb-true b (get_or ds 4 0) q
-    at false q h = absurd (false-true h)
+    at false q h = absurd (false_true h)
 
 module _ (ds : List ℕ) (w : Apart ds) (a : Address) (at : ℕ) (p : List ℕ) (clear : Clear ds p) (h : 3 ≤ a.segment * 3 + a.field) (l : List ℕ) where
   abbrev Next : ℕ → Address → Type 0
   Next b a' = rest_from ds a at (p ++ b ∷ l) ≡ here_of ds a at p ++ rest_from ds a' (at + length p + 1) l
 
-  on-end : Next carriage_return (addressed (a.segment + 1) 0 1 1 1)
+  on_end : Next carriage_return (addressed (a.segment + 1) 0 1 1 1)
   unfolding rest_from
-  on-end =
+  on_end =
       message_own (in_segment ds) (rest_segment ds a.segment a.field a.repetition a.component a.subcomponent) (rest_segment ds (a.segment + 1) 0 1 1 1) (a.segment + 1) at p l (here_of ds a at p) clear.of_end (segment_alone ds w a.segment a.field a.repetition a.component a.subcomponent at p clear h)
-      (λ i q. segment-begins ds a.segment i q)
+      (λ i q. segment_begins ds a.segment i q)
 
   module _ (more : find carriage_return l < length l) where
     on_field : Next (get_or ds 0 0) (addressed a.segment (a.field + 1) 1 1 1)
@@ -179,33 +179,33 @@ module _ (ds : List ℕ) (w : Apart ds) (a : Address) (at : ℕ) (p : List ℕ) 
     on_field =
         message_past (in_segment ds) (rest_segment ds a.segment a.field a.repetition a.component a.subcomponent) (rest_segment ds a.segment (a.field + 1) 1 1 1) (a.segment + 1) at p _ l (here_of ds a at p) clear.of_end w.end_field more (segment_field ds w a.segment a.field a.repetition a.component a.subcomponent at p clear h)
 
-    on-rep : Next (get_or ds 2 0) (addressed a.segment a.field (a.repetition + 1) 1 1)
+    on_rep : Next (get_or ds 2 0) (addressed a.segment a.field (a.repetition + 1) 1 1)
     unfolding rest_from
-    on-rep =
-        message_past (in_segment ds) (rest_segment ds a.segment a.field a.repetition a.component a.subcomponent) (rest_segment ds a.segment a.field (a.repetition + 1) 1 1) (a.segment + 1) at p _ l (here_of ds a at p) clear.of_end w.end-rep more (segment-rep ds w a.segment a.field a.repetition a.component a.subcomponent at p clear h)
+    on_rep =
+        message_past (in_segment ds) (rest_segment ds a.segment a.field a.repetition a.component a.subcomponent) (rest_segment ds a.segment a.field (a.repetition + 1) 1 1) (a.segment + 1) at p _ l (here_of ds a at p) clear.of_end w.end_rep more (segment_rep ds w a.segment a.field a.repetition a.component a.subcomponent at p clear h)
 
     on_comp : Next (get_or ds 1 0) (addressed a.segment a.field a.repetition (a.component + 1) 1)
     unfolding rest_from
     on_comp =
         message_past (in_segment ds) (rest_segment ds a.segment a.field a.repetition a.component a.subcomponent) (rest_segment ds a.segment a.field a.repetition (a.component + 1) 1) (a.segment + 1) at p _ l (here_of ds a at p) clear.of_end w.end_comp more (segment_comp ds w a.segment a.field a.repetition a.component a.subcomponent at p clear h)
 
-    on-sub : Next (get_or ds 4 0) (addressed a.segment a.field a.repetition a.component (a.subcomponent + 1))
+    on_sub : Next (get_or ds 4 0) (addressed a.segment a.field a.repetition a.component (a.subcomponent + 1))
     unfolding rest_from
-    on-sub =
-        message_past (in_segment ds) (rest_segment ds a.segment a.field a.repetition a.component a.subcomponent) (rest_segment ds a.segment a.field a.repetition a.component (a.subcomponent + 1)) (a.segment + 1) at p _ l (here_of ds a at p) clear.of_end w.end-sub more (segment-sub ds w a.segment a.field a.repetition a.component a.subcomponent at p clear h)
+    on_sub =
+        message_past (in_segment ds) (rest_segment ds a.segment a.field a.repetition a.component a.subcomponent) (rest_segment ds a.segment a.field a.repetition a.component (a.subcomponent + 1)) (a.segment + 1) at p _ l (here_of ds a at p) clear.of_end w.end_sub more (segment_sub ds w a.segment a.field a.repetition a.component a.subcomponent at p clear h)
 
   pub advance : (b : ℕ) → among (ends_by ds) b ≡ true → ((b ≡ carriage_return → ⊥) → find carriage_return l < length l) → Next b (passed (ends_by ds) b a)
   advance b e more = by₁ (eqb b (get_or ds 0 0)) refl
     where
       by₄ : eqb b (get_or ds 0 0) ≡ false → eqb b (get_or ds 1 0) ≡ false → eqb b carriage_return ≡ false → (t : Bool) → eqb b (get_or ds 2 0) ≡ t
           → Next b (cond t (addressed a.segment a.field (a.repetition + 1) 1 1) (addressed a.segment a.field a.repetition a.component (a.subcomponent + 1)))
-      by₄ e₁ e₂ e₀ true q = subst (λ (x : ℕ). Next x (addressed a.segment a.field (a.repetition + 1) 1 1)) (sym (eqb-true b (get_or ds 2 0) q)) (on-rep (more (eqb-false b carriage_return e₀)))
+      by₄ e₁ e₂ e₀ true q = subst (λ (x : ℕ). Next x (addressed a.segment a.field (a.repetition + 1) 1 1)) (sym (eqb-true b (get_or ds 2 0) q)) (on_rep (more (eqb-false b carriage_return e₀)))
       by₄ e₁ e₂ e₀ false q =
-          subst (λ (x : ℕ). Next x (addressed a.segment a.field a.repetition a.component (a.subcomponent + 1))) (sym (among-last ds b e e₁ e₂ e₀ q)) (on-sub (more (eqb-false b carriage_return e₀)))
+          subst (λ (x : ℕ). Next x (addressed a.segment a.field a.repetition a.component (a.subcomponent + 1))) (sym (among_last ds b e e₁ e₂ e₀ q)) (on_sub (more (eqb-false b carriage_return e₀)))
 
       by₃ : eqb b (get_or ds 0 0) ≡ false → eqb b (get_or ds 1 0) ≡ false → (t : Bool) → eqb b carriage_return ≡ t
           → Next b (cond t (addressed (a.segment + 1) 0 1 1 1) (cond (eqb b (get_or ds 2 0)) (addressed a.segment a.field (a.repetition + 1) 1 1) (addressed a.segment a.field a.repetition a.component (a.subcomponent + 1))))
-      by₃ e₁ e₂ true q = subst (λ (x : ℕ). Next x (addressed (a.segment + 1) 0 1 1 1)) (sym (eqb-true b carriage_return q)) on-end
+      by₃ e₁ e₂ true q = subst (λ (x : ℕ). Next x (addressed (a.segment + 1) 0 1 1 1)) (sym (eqb-true b carriage_return q)) on_end
       by₃ e₁ e₂ false q = by₄ e₁ e₂ q (eqb b (get_or ds 2 0)) refl
 
       by₂ : eqb b (get_or ds 0 0) ≡ false → (t : Bool) → eqb b (get_or ds 1 0) ≡ t

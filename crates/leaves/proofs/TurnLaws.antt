@@ -15,17 +15,17 @@ use Rattle.alphabet.specs.Lists.{first, find, among}
 use Rattle.alphabet.specs.Limits.{message_limit}
 use Rattle.alphabet.specs.Delimiters.{first_wrong_delimiter, permitted}
 use Rattle.alphabet.specs.declared.answers.Check.TheVariants.{Passes}
-use Rattle.alphabet.proofs.BoolLaws.{false-true}
-use Rattle.alphabet.proofs.DelimiterLaws.{delimiters_differ, delimiter-permitted}
-use Rattle.alphabet.proofs.ListLaws.{drop-next, first-before, first-none, first_block, first_passes, find-own}
+use Rattle.alphabet.proofs.BoolLaws.{false_true}
+use Rattle.alphabet.proofs.DelimiterLaws.{delimiters_differ, delimiter_permitted}
+use Rattle.alphabet.proofs.ListLaws.{drop_next, first_before, first_none, first_block, first_passes, find_own}
 use Rattle.reading.specs.Segments.{delimiters_of}
 use Rattle.reading.specs.Reading.{reading}
 use Rattle.reading.specs.Message.{Message}
 use Rattle.reading.proofs.Accepted.{accepted, message_last}
-use Rattle.reading.proofs.SegmentLaws.{ended-last}
+use Rattle.reading.proofs.SegmentLaws.{ended_last}
 use Rattle.element.specs.Levels.{between}
 use Rattle.element.specs.declared.address.Address.{Address}
-use Rattle.element.proofs.LevelLaws.{between-length}
+use Rattle.element.proofs.LevelLaws.{between_length}
 use Rattle.leaves.specs.Leaves.{addressed, rows}
 use Rattle.leaves.specs.Walks.{ends_of, here_in, Plain, passed, AtMost, Reached, Marks, Ends, marked, marked_from, rest_from, rest_rows}
 use Rattle.leaves.proofs.LevelLaws.{Apart, Clear}
@@ -35,18 +35,18 @@ use Rattle.leaves.proofs.MarkLaws.{from_none, from_some, from_first, from_clear}
 
 -- where none of five stands, one of them does not
 one_of_lem : (five : List ℕ) (x : ℕ) (l : List ℕ) → among five x ≡ true → first (among five) l ≡ length l → find x l ≡ length l
-one_of_lem five x l h e = first-none (eqb x) l (λ i k. at i k (eqb x (get_or l i 0)) refl)
+one_of_lem five x l h e = first_none (eqb x) l (λ i k. at i k (eqb x (get_or l i 0)) refl)
   where
     at : (i : ℕ) → i < length l → (t : Bool) → eqb x (get_or l i 0) ≡ t → eqb x (get_or l i 0) ≡ false
-    at i k true q = absurd (false-true (sym (first-before (among five) l i (omega arith)) ∙ ap (among five) (sym (eqb-true x (get_or l i 0) q)) ∙ h))
+    at i k true q = absurd (false_true (sym (first_before (among five) l i (omega arith)) ∙ ap (among five) (sym (eqb-true x (get_or l i 0) q)) ∙ h))
     at i k false q = q
 
 own : (five : List ℕ) (i : ℕ) → length five ≡ 5 → i < 5 → among five (get_or five i 0) ≡ true
-own five i n h = let k = find-own five i (omega arith) in lt-ltb (find (get_or five i 0) five) 5 (omega arith)
+own five i n h = let k = find_own five i (omega arith) in lt-ltb (find (get_or five i 0) five) 5 (omega arith)
 
 -- bytes of which none ends a leaf are clear of all five
-free-clear : (m p : List ℕ) → first (among (ends_of m)) p ≡ length p → Clear (delimiters_of m) p
-free-clear m p e =
+free_clear : (m p : List ℕ) → first (among (ends_of m)) p ≡ length p → Clear (delimiters_of m) p
+free_clear m p e =
     record {
       of-sub = one_of_lem (ends_of m) (get_or m 7 0) p (own (ends_of m) 4 refl (omega arith)) e;
       of_comp = one_of_lem (ends_of m) (get_or m 4 0) p (own (ends_of m) 2 refl (omega arith)) e;
@@ -55,14 +55,14 @@ free-clear m p e =
       of_end = one_of_lem (ends_of m) carriage_return p (own (ends_of m) 0 refl (omega arith)) e;
     }
 
-pub plain-clear : (m : List ℕ) (start end : ℕ) → start ≤ end → end ≤ length m → Plain m start end → Clear (delimiters_of m) (between m start end)
-plain-clear m start end h k w =
-    let n = between-length m start end h k in
-    free-clear m (between m start end)
-    (first-none (among (ends_of m)) (between m start end)
+pub plain_clear : (m : List ℕ) (start end : ℕ) → start ≤ end → end ≤ length m → Plain m start end → Clear (delimiters_of m) (between m start end)
+plain_clear m start end h k w =
+    let n = between_length m start end h k in
+    free_clear m (between m start end)
+    (first_none (among (ends_of m)) (between m start end)
     (λ i j.
     let e = get_or-take (end - start) (drop start m) i 0 (omega arith) in
-    ap (among (ends_of m)) e ∙ first-before (among (ends_of m)) (drop start m) i (omega arith)))
+    ap (among (ends_of m)) e ∙ first_before (among (ends_of m)) (drop start m) i (omega arith)))
 
 -- ---- what reading says
 
@@ -73,7 +73,7 @@ module _ (m : List ℕ) (ok : reading m ≡ Passes) where
   pub no_end : (i : ℕ) → i < 5 → eqb carriage_return (get_or (delimiters_of m) i 0) ≡ false
   no_end i h =
       ne_eqb carriage_return (get_or (delimiters_of m) i 0)
-      (λ e. false-true (ap permitted e ∙ delimiter-permitted (delimiters_of m) refl (accepted m ok).opened.delimiters_right i h))
+      (λ e. false_true (ap permitted e ∙ delimiter_permitted (delimiters_of m) refl (accepted m ok).opened.delimiters_right i h))
 
   pub apart : Apart (delimiters_of m)
   apart =
@@ -100,7 +100,7 @@ module _ (m : List ℕ) (ok : reading m ≡ Passes) where
       let last = message_last m (accepted m ok) in
       let d = length-drop (end + 1) m in
       let on : end + 1 < length m = later (eqb (end + 1) (length m)) refl in
-      let t = ended-last m (end + 1) on last in
+      let t = ended_last m (end + 1) on last in
       let q = ltb-true (end + 1 + find carriage_return (drop (end + 1) m)) (length m) (sym t) in
       omega arith
     where
@@ -126,8 +126,8 @@ passed_cases P ends b a p₁ p₂ p₀ p₃ p₄ = at (eqb b (get_or ends 1 0)) 
     at false false false true = p₃
     at false false false false = p₄
 
-few-passed : (n k : ℕ) (ends : List ℕ) (b : ℕ) (a : Address) → AtMost n a → n + 1 ≤ k → AtMost k (passed ends b a)
-few-passed n k ends b a w h =
+few_passed : (n k : ℕ) (ends : List ℕ) (b : ℕ) (a : Address) → AtMost n a → n + 1 ≤ k → AtMost k (passed ends b a)
+few_passed n k ends b a w h =
     let s = w.0 in
     let f = w.1 in
     let r = w.2 in
@@ -136,8 +136,8 @@ few-passed n k ends b a w h =
     passed_cases (AtMost k) ends b a (omega arith, omega arith, omega arith, omega arith, omega arith) (omega arith, omega arith, omega arith, omega arith, omega arith)
     (omega arith, omega arith, omega arith, omega arith, omega arith) (omega arith, omega arith, omega arith, omega arith, omega arith) (omega arith, omega arith, omega arith, omega arith, omega arith)
 
-split-passed : (ends : List ℕ) (b : ℕ) (a : Address) → 3 ≤ a.segment * 3 + a.field → 3 ≤ (passed ends b a).segment * 3 + (passed ends b a).field
-split-passed ends b a h = passed_cases (λ (x : Address). 3 ≤ x.segment * 3 + x.field) ends b a (omega arith) h (omega arith) h h
+split_passed : (ends : List ℕ) (b : ℕ) (a : Address) → 3 ≤ a.segment * 3 + a.field → 3 ≤ (passed ends b a).segment * 3 + (passed ends b a).field
+split_passed ends b a h = passed_cases (λ (x : Address). 3 ≤ x.segment * 3 + x.field) ends b a (omega arith) h (omega arith) h h
 
 -- ---- a turn
 
@@ -146,14 +146,14 @@ module _ (m : List ℕ) (ok : reading m ≡ Passes) (a : Address) (start end : �
   cut =
       let e : start + (end - start) ≡ end = omega arith in
       sym (take-append-drop (end - start) (drop start m))
-      ∙ ap (λ (x : List ℕ). between m start end ++ x) (drop-drop (end - start) start m ∙ ap (λ (i : ℕ). drop i m) e ∙ drop-next m end inside)
+      ∙ ap (λ (x : List ℕ). between m start end ++ x) (drop-drop (end - start) start m ∙ ap (λ (i : ℕ). drop i m) e ∙ drop_next m end inside)
 
   pub turn_leaves : rest_from (delimiters_of m) a start (drop start m) ≡ here_in m a start end ++ rest_from (delimiters_of m) (passed (ends_of m) (get_or m end 0) a) (end + 1) (drop (end + 1) m)
   turn_leaves =
-      let n = between-length m start end begun (omega arith) in
+      let n = between_length m start end begun (omega arith) in
       let e : start + length (between m start end) + 1 ≡ end + 1 = omega arith in
       ap (rest_from (delimiters_of m) a start) cut
-      ∙ advance (delimiters_of m) (apart m ok) a start (between m start end) (plain-clear m start end begun (omega arith) plain) on (drop (end + 1) m) (get_or m end 0) stop (more_to_come m ok end inside)
+      ∙ advance (delimiters_of m) (apart m ok) a start (between m start end) (plain_clear m start end begun (omega arith) plain) on (drop (end + 1) m) (get_or m end 0) stop (more_to_come m ok end inside)
       ∙ ap (λ (i : ℕ). here_in m a start end ++ rest_from (delimiters_of m) (passed (ends_of m) (get_or m end 0) a) i (drop (end + 1) m)) e
 
   pub turn_rows : rest_rows m a start ≡ rows (here_in m a start end) ++ rest_rows m (passed (ends_of m) (get_or m end 0) a) (end + 1)
@@ -164,8 +164,8 @@ module _ (m : List ℕ) (ok : reading m ≡ Passes) (a : Address) (start end : �
       record {
         begun = omega arith;
         free = omega arith;
-        few = few-passed start (end + 1) (ends_of m) (get_or m end 0) a few (omega arith);
-        split-on = split-passed (ends_of m) (get_or m end 0) a on;
+        few = few_passed start (end + 1) (ends_of m) (get_or m end 0) a few (omega arith);
+        split_on = split_passed (ends_of m) (get_or m end 0) a on;
       }
 
 -- ---- from marks to where the leaf ends
@@ -180,12 +180,12 @@ reached_on m a start i to r h t none =
     let k = length-drop i m in
     let at : start + (i - start) ≡ i = omega arith in
     let size = length-take-le (to - i) (drop i m) (omega arith) in
-    let free = first-none (among (ends_of m)) (take (to - i) (drop i m))
+    let free = first_none (among (ends_of m)) (take (to - i) (drop i m))
     (λ j g. ap (among (ends_of m)) (get_or-take (to - i) (drop i m) j 0 (omega arith) ∙ get_or-drop i m j 0) ∙ none j (omega arith)) in
     let same : take (to - i) (drop (i - start) (drop start m)) ≡ take (to - i) (drop i m) = ap (take (to - i)) (drop-drop (i - start) start m ∙ ap (λ (x : ℕ). drop x m) at) in
     let y = ap (first (among (ends_of m))) same in
     let w = first_block (among (ends_of m)) (drop start m) (i - start) (to - i) (omega arith) (omega arith) (omega arith) in
-    record { begun = omega arith; free = omega arith; few = r.few; split-on = r.split-on }
+    record { begun = omega arith; free = omega arith; few = r.few; split_on = r.split_on }
 
 -- a walk has come so far in the 48 bytes from `place` on, and the marks behind it are left
 pub record Left (m : List ℕ) (a : Address) (start place bits : ℕ) : Type 0 where
@@ -212,10 +212,10 @@ module _ (m : List ℕ) (a : Address) (start place bits : ℕ) (left : Left m a 
   behind = drop left.gone block
 
   block_length : length block ≡ 48
-  block_length = let i = left.inside in let n = between-length m place (place + 48) (omega arith) left.inside in omega arith
+  block_length = let i = left.inside in let n = between_length m place (place + 48) (omega arith) left.inside in omega arith
 
-  behind-length : length behind ≡ 48 - left.gone
-  behind-length = let n = block_length in let k = length-drop left.gone block in omega arith
+  behind_length : length behind ≡ 48 - left.gone
+  behind_length = let n = block_length in let k = length-drop left.gone block in omega arith
 
   -- byte j behind what is gone
   byte : (j : ℕ) → left.gone + j < 48 → get_or behind j 0 ≡ get_or m (place + left.gone + j) 0
@@ -224,13 +224,13 @@ module _ (m : List ℕ) (a : Address) (start place bits : ℕ) (left : Left m a 
       get_or-drop left.gone block j 0 ∙ get_or-take (place + 48 - place) (drop place m) (left.gone + j) 0 (omega arith) ∙ get_or-drop place m (left.gone + j) 0 ∙ ap (λ (i : ℕ). get_or m i 0) e
 
   -- none is left
-  pub left-none : bits ≡ 0 → Reached m a start (place + 48)
-  left-none z =
-      let n = behind-length in
+  pub left_none : bits ≡ 0 → Reached m a start (place + 48)
+  left_none z =
+      let n = behind_length in
       let g = left.most in
       let e = from_none test left.gone block (sym left.marks ∙ z) in
       reached_on m a start (place + left.gone) (place + 48) left.reached (omega arith) left.inside
-      (λ j h. ap test (sym (byte j (omega arith))) ∙ first-before test behind j (omega arith))
+      (λ j h. ap test (sym (byte j (omega arith))) ∙ first_before test behind j (omega arith))
 
   module _ (some : bits ≡ 0 → ⊥) where
     found : first test behind < length behind
@@ -240,10 +240,10 @@ module _ (m : List ℕ) (a : Address) (start place bits : ℕ) (left : Left m a 
     lowest = let n = block_length in ap (count_trailing_zeros 64) left.marks ∙ from_first test 64 left.gone block found (omega arith)
 
     pub end_low : count_trailing_zeros 64 bits < 48
-    end_low = let n = behind-length in let f = found in let l = lowest in let g = left.most in omega arith
+    end_low = let n = behind_length in let f = found in let l = lowest in let g = left.most in omega arith
 
-    pub end-ends : Ends m (place + count_trailing_zeros 64 bits)
-    end-ends =
+    pub end_ends : Ends m (place + count_trailing_zeros 64 bits)
+    end_ends =
         let k = end_low in
         let i = left.inside in
         let l = lowest in
@@ -256,7 +256,7 @@ module _ (m : List ℕ) (a : Address) (start place bits : ℕ) (left : Left m a 
         let i = left.inside in
         let l = lowest in
         reached_on m a start (place + left.gone) (place + count_trailing_zeros 64 bits) left.reached (omega arith) (omega arith)
-        (λ j h. ap test (sym (byte j (omega arith))) ∙ first-before test behind j (omega arith))
+        (λ j h. ap test (sym (byte j (omega arith))) ∙ first_before test behind j (omega arith))
 
     -- behind the lowest mark, in whatever leaf the walk stands then
     pub left_behind : (b : Address) (from : ℕ) → Reached m b from (place + count_trailing_zeros 64 bits + 1) → Left m b from place (bit_and bits (bits - 1))

@@ -89,7 +89,7 @@ pub record Reached (m : List ℕ) (a : Address) (start place : ℕ) : Type 0 whe
   pub free : place ≤ start + first (among (ends_of m)) (drop start m)
   pub few : AtMost start a
   -- the first two fields of MSH are behind it
-  pub split-on : 3 ≤ a.segment * 3 + a.field
+  pub split_on : 3 ≤ a.segment * 3 + a.field
 
 -- how much of the rows from a leaf on is still to come
 abbrev pub rest_rows : List ℕ → Address → ℕ → List ℕ

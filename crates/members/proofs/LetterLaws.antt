@@ -9,22 +9,22 @@ use lib.ListN.{length, get_or, take}
 use borrow.Author.Tests.{eqb-true}
 use Rattle.alphabet.specs.Bytes.{from_to, hex_digit}
 use Rattle.alphabet.specs.Lists.{first}
-use Rattle.alphabet.proofs.BoolLaws.{and_both, from_to_lem, false-true}
-use Rattle.alphabet.proofs.ListLaws.{first-before}
+use Rattle.alphabet.proofs.BoolLaws.{and_both, from_to_lem, false_true}
+use Rattle.alphabet.proofs.ListLaws.{first_before}
 use Rattle.members.specs.Letters.{quoted, plain, not_plain, escaped, Visible}
 
 -- which of two lists is chosen
-pub chosen-first : (t : Bool) (x y : List ℕ) → t ≡ true → x ≡ cond t x y
-chosen-first true x y e = refl
-chosen-first false x y e = false-true e
+pub chosen_first : (t : Bool) (x y : List ℕ) → t ≡ true → x ≡ cond t x y
+chosen_first true x y e = refl
+chosen_first false x y e = false_true e
 
-pub chosen-second : (t : Bool) (x y : List ℕ) → t ≡ false → y ≡ cond t x y
-chosen-second false x y e = refl
-chosen-second true x y e = false-true (sym e)
+pub chosen_second : (t : Bool) (x y : List ℕ) → t ≡ false → y ≡ cond t x y
+chosen_second false x y e = refl
+chosen_second true x y e = false_true (sym e)
 
 -- a byte before the first that is not plain
 pub run_visible : (l : List ℕ) (i : ℕ) → i < first not_plain l → Visible (get_or l i 0)
-run_visible l i h = from_to_lem 32 126 (get_or l i 0) (and_both (from_to 32 126 (get_or l i 0)) (not (quoted (get_or l i 0))) (at (plain (get_or l i 0)) (first-before not_plain l i h))).0
+run_visible l i h = from_to_lem 32 126 (get_or l i 0) (and_both (from_to 32 126 (get_or l i 0)) (not (quoted (get_or l i 0))) (at (plain (get_or l i 0)) (first_before not_plain l i h))).0
   where
     at : (t : Bool) → not t ≡ false → t ≡ true
     at true e = refl
@@ -39,14 +39,14 @@ digit_visible n h = at (ltb n 10) refl
 
 -- what stands for a byte by its number
 pub by_code : (b h l : ℕ) → quoted b ≡ false → h ≡ hex_digit (b / 16 % 16) → l ≡ hex_digit (b % 16) → (92 ∷ 117 ∷ 48 ∷ 48 ∷ h ∷ l ∷ []) ≡ escaped b
-by_code b h l e p q = ap₂ (λ x y. 92 ∷ 117 ∷ 48 ∷ 48 ∷ x ∷ y ∷ []) p q ∙ chosen-second (quoted b) _ _ e
+by_code b h l e p q = ap₂ (λ x y. 92 ∷ 117 ∷ 48 ∷ 48 ∷ x ∷ y ∷ []) p q ∙ chosen_second (quoted b) _ _ e
 
 pub code_visible : (b : ℕ) → Visible 92 × Visible 117 × Visible 48 × Visible (hex_digit (b / 16 % 16)) × Visible (hex_digit (b % 16))
 code_visible b = ((omega arith, omega arith), (omega arith, omega arith), (omega arith, omega arith), digit_visible (b / 16 % 16) (omega arith), digit_visible (b % 16) (omega arith))
 
-or-second : (x y : Bool) → x ≡ false → (x || y) ≡ true → y ≡ true
-or-second false y f e = e
-or-second true y f e = false-true (sym f)
+or_second : (x y : Bool) → x ≡ false → (x || y) ≡ true → y ≡ true
+or_second false y f e = e
+or_second true y f e = false_true (sym f)
 
 -- the two that stand behind a backslash as they are
 pub quoted_visible : (b : ℕ) → quoted b ≡ true → Visible b
@@ -54,4 +54,4 @@ quoted_visible b e = at (eqb b 34) refl
   where
     at : (t : Bool) → eqb b 34 ≡ t → Visible b
     at true f = let n = eqb-true b 34 f in (omega arith, omega arith)
-    at false f = let n = eqb-true b 92 (or-second (eqb b 34) (eqb b 92) f e) in (omega arith, omega arith)
+    at false f = let n = eqb-true b 92 (or_second (eqb b 34) (eqb b 92) f e) in (omega arith, omega arith)

@@ -7,7 +7,7 @@ use native.Mathlib.Omega.{arith}
 use lib.ListN.{length, take, drop, length-drop}
 use borrow.Author.Tests.{ltb-false, not-false}
 use Rattle.alphabet.proofs.BoolLaws.{or_neither}
-use Rattle.alphabet.proofs.ListLaws.{first-le, rest_of}
+use Rattle.alphabet.proofs.ListLaws.{first_le, rest_of}
 use Rattle.alphabet.specs.Lists.{first, find, among}
 use Rattle.alphabet.specs.Bytes.{printable}
 use Rattle.plain.specs.Plain.{special}
@@ -22,6 +22,6 @@ plain_is ds b e =
 pub run_from : (test : ℕ → Bool) (s : List ℕ) (i n : ℕ) → i ≤ length s → n ≡ first test (take (length s - i) (drop i s)) → (n ≤ first test (drop i s)) × (i + n ≤ length s)
 run_from test s i n h e =
     let q = ap (first test) (rest_of s i) in
-    let m = first-le test (drop i s) in
+    let m = first_le test (drop i s) in
     let d = length-drop i s in
     (omega arith, omega arith)

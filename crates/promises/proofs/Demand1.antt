@@ -37,44 +37,44 @@ use Rattle.laws.proofs.FrameStates.{refused_leaves}
 -- ---- "answers or refuses by the number in the table"
 
 module _ (m : List ℕ) where
-  pub read-numbers : In (number_of (answered (reading m)).kind) of_reading
-  read-numbers = Entries.read-numbers m
+  pub read_numbers : In (number_of (answered (reading m)).kind) of_reading
+  read_numbers = Entries.read_numbers m
 
-  pub find-numbers : (a : Address) → In (number_of (found m a).answer.kind) of_finding
-  find-numbers = Entries.find-numbers m
+  pub find_numbers : (a : Address) → In (number_of (found m a).answer.kind) of_finding
+  find_numbers = Entries.find_numbers m
 
-  pub nm-numbers : (a : Address) → In (number_of (nm_found m a).answer.kind) of_nm
-  nm-numbers = Entries.nm-numbers m
+  pub nm_numbers : (a : Address) → In (number_of (nm_found m a).answer.kind) of_nm
+  nm_numbers = Entries.nm_numbers m
 
-  pub si-numbers : (a : Address) → In (number_of (si_found m a).answer.kind) of_form
-  si-numbers = Entries.si-numbers m
+  pub si_numbers : (a : Address) → In (number_of (si_found m a).answer.kind) of_form
+  si_numbers = Entries.si_numbers m
 
-  pub dt-numbers : (a : Address) → In (number_of (dt_found m a).answer.kind) of_form
-  dt-numbers = Entries.dt-numbers m
+  pub dt_numbers : (a : Address) → In (number_of (dt_found m a).answer.kind) of_form
+  dt_numbers = Entries.dt_numbers m
 
-  pub tm-numbers : (a : Address) → In (number_of (tm_found m a).answer.kind) of_form
-  tm-numbers = Entries.tm-numbers m
+  pub tm_numbers : (a : Address) → In (number_of (tm_found m a).answer.kind) of_form
+  tm_numbers = Entries.tm_numbers m
 
-  pub ts-numbers : (a : Address) → In (number_of (ts_found m a).answer.kind) of_form
-  ts-numbers = Entries.ts-numbers m
+  pub ts_numbers : (a : Address) → In (number_of (ts_found m a).answer.kind) of_form
+  ts_numbers = Entries.ts_numbers m
 
-  pub structure-numbers : {j : FaultRecord} → Answers m j → In (number_of j.kind) of_structure
-  structure-numbers = Entries.structure-numbers m
+  pub structure_numbers : {j : FaultRecord} → Answers m j → In (number_of j.kind) of_structure
+  structure_numbers = Entries.structure_numbers m
 
-  pub verdict-numbers : {r : FaultRecord} → Verdicts m r → In (number_of r.kind) of_verdict
-  verdict-numbers = Entries.verdict-numbers m
+  pub verdict_numbers : {r : FaultRecord} → Verdicts m r → In (number_of r.kind) of_verdict
+  verdict_numbers = Entries.verdict_numbers m
 
   pub acknowledge_numbers : (time id lent : List ℕ) {r : Answer} {x : List ℕ} → Acknowledges m time id lent r x → In (number_of r.kind) of_acknowledging
   acknowledge_numbers time id lent a = Entries.acknowledge_numbers m time id lent a
 
-pub escape-numbers : (ds t : List ℕ) (room : ℕ) → In (number_of (answer (escaping ds t room)).kind) of_escaping
-escape-numbers = Entries.escape-numbers
+pub escape_numbers : (ds t : List ℕ) (room : ℕ) → In (number_of (answer (escaping ds t room)).kind) of_escaping
+escape_numbers = Entries.escape_numbers
 
-pub unescape-numbers : (ds s : List ℕ) (room : ℕ) → In (number_of (answer (unescaping ds s room)).kind) of_unescaping
-unescape-numbers = Entries.unescape-numbers
+pub unescape_numbers : (ds s : List ℕ) (room : ℕ) → In (number_of (answer (unescaping ds s room)).kind) of_unescaping
+unescape_numbers = Entries.unescape_numbers
 
-pub format-numbers : (ds s : List ℕ) (room : ℕ) → In (number_of (answer (formatting ds s room)).kind) of_formatting
-format-numbers = Entries.format-numbers
+pub format_numbers : (ds s : List ℕ) (room : ℕ) → In (number_of (answer (formatting ds s room)).kind) of_formatting
+format_numbers = Entries.format_numbers
 
 pub feed_numbers : (s : FrameState) (piece lent : List ℕ) → In (number_of (fed s piece lent).said.answer.kind) of_framing
 feed_numbers = Frames.feed_numbers
@@ -94,10 +94,10 @@ format_leaves = Entries.format_leaves
 pub acknowledge_leaves : (m time id lent : List ℕ) {r : Answer} {x : List ℕ} → Acknowledges m time id lent r x → (r.kind ≡ None → ⊥) → (x ≡ lent) × (r.place ≡ 0) × (r.length ≡ 0)
 acknowledge_leaves m time id lent a = refusal_leaves m time id lent a
 
-pub refused-length : (o : Outcome ℕ) → ((answer o).kind ≡ None → ⊥) → (answer o).length ≡ 0
+pub refused_length : (o : Outcome ℕ) → ((answer o).kind ≡ None → ⊥) → (answer o).length ≡ 0
 unfolding answer
-refused-length (text t) some = absurd (some refl)
-refused-length (fault kind place) some = refl
+refused_length (text t) some = absurd (some refl)
+refused_length (fault kind place) some = refl
 
 -- ---- of the frame reader: "each place of the lent buffer holds the byte last gathered there, or what it held at first"
 

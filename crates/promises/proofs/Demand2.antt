@@ -17,12 +17,12 @@ use Rattle.escaping.specs.Escape.{escape}
 use Rattle.escaping.specs.Outcomes.{escaping, answer, filled}
 use Rattle.text.specs.Unescape.{unescaping}
 use Rattle.acknowledgement.specs.Acknowledgement.{Acknowledges}
-use Rattle.laws.proofs.Acknowledged.{reads_back, of_type, yields-ack, fits-ack, two_segments, three-segments, counted, carries_id, identified_sender, told, own_delimiters, crossed, stamped, with_event, without_event, own_id, callers_id, accepts_exactly, rejects-exactly, errors_exactly, error_counted, tells, writes, room-exactly}
+use Rattle.laws.proofs.Acknowledged.{reads_back, of_type, yields_ack, fits_ack, two_segments, three_segments, counted, carries_id, identified_sender, told, own_delimiters, crossed, stamped, with_event, without_event, own_id, callers_id, accepts_exactly, rejects_exactly, errors_exactly, error_counted, tells, writes, room_exactly}
 use Rattle.laws.specs.Rejected.{Rejected, RejectedFor}
 use Rattle.laws.proofs.RejectedLaws.{rejected_bytes as laws-rejected-bytes}
 use Rattle.laws.proofs.Clean.{both_ways}
 use Rattle.laws.proofs.RoundTrip.{AreBytes}
-use Rattle.laws.proofs.NumeralReads.{numeral_reads, numeral-zero}
+use Rattle.laws.proofs.NumeralReads.{numeral_reads, numeral_zero}
 use Rattle.error_segment.specs.Numerals.{numeral}
 use Rattle.element.specs.Finding.{raw_bytes}
 use Rattle.alphabet.specs.Bytes.{ascii, byte_of}
@@ -60,12 +60,12 @@ acknowledgement_carries m time id lent small a done =
     record {
       reads_back = reads_back m time id lent small a done;
       is_ack = of_type m time id lent small a done;
-      yields-ack = yields-ack m time id lent small a done;
-      fits-ack = fits-ack m time id lent small a done;
+      yields_ack = yields_ack m time id lent small a done;
+      fits_ack = fits_ack m time id lent small a done;
       two_segments = two_segments m time id lent small a done;
-      three-segments = three-segments m time id lent small a done;
-      header-parts = n.0;
-      answer-parts = n.1;
+      three_segments = three_segments m time id lent small a done;
+      header_parts = n.0;
+      answer_parts = n.1;
       control_id = carries_id m time id lent small a done;
       identified = identified_sender m time id lent small a done;
       senders_delimiters = own_delimiters m time id lent small a done;
@@ -81,8 +81,8 @@ acknowledgement_carries m time id lent small a done =
       callers_id = callers_id m time id lent small a done;
       processing = s.3;
       version = s.4;
-      accepted-exactly = accepts_exactly m time id lent small a done;
-      rejected_exactly = rejects-exactly m time id lent small a done;
+      accepted_exactly = accepts_exactly m time id lent small a done;
+      rejected_exactly = rejects_exactly m time id lent small a done;
       errored_exactly = errors_exactly m time id lent small a done;
       tells_error = error_tells m time id lent small a done;
     }
@@ -93,16 +93,16 @@ rejected_bytes m = laws-rejected-bytes m
 
 -- a numeral, as ERR-1 has two: digits, which alphabet's reader reads back as the number, and no 0 before them but for 0 itself
 pub numeral_comes_back : (n : ℕ) → (all_digits (numeral n) ≡ true) × (decimal (numeral n) ≡ n) × (1 ≤ n → byte_of "1" ≤ get_or (numeral n) 0 0) × (numeral 0 ≡ ascii "0")
-numeral_comes_back n = let r = numeral_reads n in (r.0, r.1, r.2, numeral-zero)
+numeral_comes_back n = let r = numeral_reads n in (r.0, r.1, r.2, numeral_zero)
 
 -- 10, "acknowledgement longer than the buffer", of which document 02, W4 says that it "now counts the ERR bytes": where one is written, over any other
 -- buffer the answer is the same exactly where that has as many bytes as were written, and 10 where it has fewer
 pub ten_exactly : (m time id lent other : List ℕ) {r s : Answer} {x y : List ℕ} → Acknowledges m time id lent r x → r.kind ≡ None → Acknowledges m time id other s y
     → (r.length ≤ length other → s ≡ r) × (length other < r.length → s.kind ≡ AcknowledgementTooLong)
-ten_exactly m time id lent other a done b = room-exactly m time id lent other a done b
+ten_exactly m time id lent other a done b = room_exactly m time id lent other a done b
 
 -- "A written text or acknowledgement fills the front of its buffer, its length is given, the bytes behind it stay.": a length that the buffer has, a buffer of
 -- the length that it had, and what stood behind
-pub acknowledgement-told : (m time id lent : List ℕ) → AreBytes id → {r : Answer} {x : List ℕ} → Acknowledges m time id lent r x → r.kind ≡ None
+pub acknowledgement_told : (m time id lent : List ℕ) → AreBytes id → {r : Answer} {x : List ℕ} → Acknowledges m time id lent r x → r.kind ≡ None
     → (length x ≡ length lent) × (r.length ≤ length lent) × (drop r.length x ≡ drop r.length lent)
-acknowledgement-told m time id lent small a done = told m time id lent small a done
+acknowledgement_told m time id lent small a done = told m time id lent small a done

@@ -19,7 +19,7 @@ use Rattle.element.specs.Finding.{raw_bytes}
 use Rattle.laws.specs.Types.{ListedAs}
 use Rattle.laws.proofs.Chosen as Chosen
 use Rattle.fault.specs.Faults.{plain}
-use Rattle.structure.specs.Judged.{Judged, no-structure, by, AnswersBy, unread, read, Answers}
+use Rattle.structure.specs.Judged.{Judged, no_structure, by, AnswersBy, unread, read, Answers}
 use Rattle.structure.specs.Judged.Judged.{accepted as yielded, refused as not_yielded}
 use Rattle.fault.specs.declared.FaultRecord.{FaultRecord}
 use Rattle.structure.proofs.OnlyOne.{only_one_by, goes_on, could_stand_is}
@@ -50,54 +50,54 @@ exactly s ns (not_yielded place ends list r) =
 
 -- a message that was read, and for whose type the book lists the structure s
 module _ (book : List ListedStructure) (m : List ℕ) (s : Shape) (done : reading m ≡ Passes) (known : Lists book m s) where
-  judged-by : {j : FaultRecord} → AnswersBy book m j → Judged s (segment_names m) j
-  judged-by (unread kind place e) = absurd (let z : ◌≡◌ {A = ℕ} 0 1 = cc in omega arith)
-  judged-by (read e (no-structure g)) = absurd (let q = known.1 in let z : ◌≡◌ {A = ℕ} 0 1 = cc in omega arith)
-  judged-by {j} (read e (by x g k)) =
+  judged_by : {j : FaultRecord} → AnswersBy book m j → Judged s (segment_names m) j
+  judged_by (unread kind place e) = absurd (let z : ◌≡◌ {A = ℕ} 0 1 = cc in omega arith)
+  judged_by (read e (no_structure g)) = absurd (let q = known.1 in let z : ◌≡◌ {A = ℕ} 0 1 = cc in omega arith)
+  judged_by {j} (read e (by x g k)) =
       let q = known.1 in
       let y : x ≡ known.0 = cc in
       subst (λ (t : Shape). Judged t (segment_names m) j) (ap (λ (z : ListedStructure). z.shape) y ∙ known.2) k
 
   -- exactly the grammar, exactly the place, exactly the list
-  pub structure-exactly-by : {j : FaultRecord} → AnswersBy book m j → Exactly s (segment_names m) j
-  structure-exactly-by a = exactly s (segment_names m) (judged-by a)
+  pub structure_exactly_by : {j : FaultRecord} → AnswersBy book m j → Exactly s (segment_names m) j
+  structure_exactly_by a = exactly s (segment_names m) (judged_by a)
 
-  pub accepts_exactly-by : {j : FaultRecord} → AnswersBy book m j → (j ≡ plain None 0) ↔ Yields s (kept (names s) (segment_names m))
-  accepts_exactly-by a = judged-exactly s (segment_names m) (judged-by a)
+  pub accepts_exactly_by : {j : FaultRecord} → AnswersBy book m j → (j ≡ plain None 0) ↔ Yields s (kept (names s) (segment_names m))
+  accepts_exactly_by a = judged-exactly s (segment_names m) (judged_by a)
 
 module _ (book : List ListedStructure) (m : List ℕ) where
   -- any other type is 20
-  pub unlisted-refused-by : {j : FaultRecord} → reading m ≡ Passes → structure_for book m ≡ unlisted → AnswersBy book m j → j ≡ plain NoStructure 0
-  unlisted-refused-by e g a = Chosen.judge_unlisted book m e g a
+  pub unlisted_refused_by : {j : FaultRecord} → reading m ≡ Passes → structure_for book m ≡ unlisted → AnswersBy book m j → j ≡ plain NoStructure 0
+  unlisted_refused_by e g a = Chosen.judge_unlisted book m e g a
 
   -- the verdict agrees: what the structure judge refuses it refuses with the same record; where he accepts, the fields decide
-  pub verdict-refuses-by : {j r : FaultRecord} → AnswersBy book m j → VerdictsBy book m r → (j.kind ≡ None → ⊥) → r ≡ j
-  verdict-refuses-by a (by-structure k b n) some = only_one_by book m b a
-  verdict-refuses-by a (by-fields k b n) some = absurd (some (ap (λ (x : FaultRecord). x.kind) (only_one_by book m a b) ∙ n))
+  pub verdict_refuses_by : {j r : FaultRecord} → AnswersBy book m j → VerdictsBy book m r → (j.kind ≡ None → ⊥) → r ≡ j
+  verdict_refuses_by a (by-structure k b n) some = only_one_by book m b a
+  verdict_refuses_by a (by-fields k b n) some = absurd (some (ap (λ (x : FaultRecord). x.kind) (only_one_by book m a b) ∙ n))
 
-  pub verdict-goes-on-by : {j r : FaultRecord} → AnswersBy book m j → VerdictsBy book m r → j.kind ≡ None → r ≡ fault_answer (judging rows m)
-  verdict-goes-on-by a (by-structure k b n) e = absurd (n (ap (λ (x : FaultRecord). x.kind) (only_one_by book m b a) ∙ e))
-  verdict-goes-on-by a (by-fields k b n) e = refl
+  pub verdict_goes_on_by : {j r : FaultRecord} → AnswersBy book m j → VerdictsBy book m r → j.kind ≡ None → r ≡ fault_answer (judging rows m)
+  verdict_goes_on_by a (by-structure k b n) e = absurd (n (ap (λ (x : FaultRecord). x.kind) (only_one_by book m b a) ∙ e))
+  verdict_goes_on_by a (by-fields k b n) e = refl
 
 -- ---- for the structures of document 01
 
 -- "whose type we list": a structure is listed for a type exactly where document 01's table has it, and any other type is 20
-pub listed-exactly : (m : List ℕ) (s : Shape) → Lists built_in m s ↔ ListedAs (raw_bytes m (type_address 1)) (raw_bytes m (type_address 2)) s
-listed-exactly = Chosen.listed-exactly
+pub listed_exactly : (m : List ℕ) (s : Shape) → Lists built_in m s ↔ ListedAs (raw_bytes m (type_address 1)) (raw_bytes m (type_address 2)) s
+listed_exactly = Chosen.listed_exactly
 
 module _ (m : List ℕ) where
-  pub unlisted-refused : {j : FaultRecord} → reading m ≡ Passes → structure_for built_in m ≡ unlisted → Answers m j → j ≡ plain NoStructure 0
-  unlisted-refused e g a = unlisted-refused-by built_in m e g a
+  pub unlisted_refused : {j : FaultRecord} → reading m ≡ Passes → structure_for built_in m ≡ unlisted → Answers m j → j ≡ plain NoStructure 0
+  unlisted_refused e g a = unlisted_refused_by built_in m e g a
 
   module _ (s : Shape) (done : reading m ≡ Passes) (known : Lists built_in m s) where
-    pub structure-exactly : {j : FaultRecord} → Answers m j → Exactly s (segment_names m) j
-    structure-exactly a = structure-exactly-by built_in m s done known a
+    pub structure_exactly : {j : FaultRecord} → Answers m j → Exactly s (segment_names m) j
+    structure_exactly a = structure_exactly_by built_in m s done known a
 
     pub accepts_exactly : {j : FaultRecord} → Answers m j → (j ≡ plain None 0) ↔ Yields s (kept (names s) (segment_names m))
-    accepts_exactly a = accepts_exactly-by built_in m s done known a
+    accepts_exactly a = accepts_exactly_by built_in m s done known a
 
-  pub verdict-refuses : {j r : FaultRecord} → Answers m j → Verdicts m r → (j.kind ≡ None → ⊥) → r ≡ j
-  verdict-refuses a v some = verdict-refuses-by built_in m a v some
+  pub verdict_refuses : {j r : FaultRecord} → Answers m j → Verdicts m r → (j.kind ≡ None → ⊥) → r ≡ j
+  verdict_refuses a v some = verdict_refuses_by built_in m a v some
 
-  pub verdict-goes-on : {j r : FaultRecord} → Answers m j → Verdicts m r → j.kind ≡ None → r ≡ fault_answer (judging rows m)
-  verdict-goes-on a v e = verdict-goes-on-by built_in m a v e
+  pub verdict_goes_on : {j r : FaultRecord} → Answers m j → Verdicts m r → j.kind ≡ None → r ≡ fault_answer (judging rows m)
+  verdict_goes_on a v e = verdict_goes_on_by built_in m a v e

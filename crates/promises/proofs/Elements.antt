@@ -21,24 +21,24 @@ use Rattle.laws.specs.Elements.{Asks, levels, start_of, Past, SplitFurther, None
 use Rattle.laws.specs.Held.{JudgedByElements}
 use Rattle.laws.specs.Listing.{In, FoundAt, Rising}
 use Rattle.laws.specs.Means.{Means}
-use Rattle.laws.proofs.Agreement.{judged-by_elements}
-use Rattle.laws.proofs.Asking.{answered-exactly, refused-exactly}
+use Rattle.laws.proofs.Agreement.{judged_by_elements}
+use Rattle.laws.proofs.Asking.{answered_exactly, refused_exactly}
 use Rattle.laws.proofs.ElementLaws.{state_means}
 use Rattle.laws.proofs.EveryLeaf.{leaf_exactly}
 use Rattle.laws.proofs.LeafOrder.{leaves_rising, leaves_only}
-use Rattle.laws.proofs.FoundLaws.{element_is, stands-within, shown_is, bytes-by-levels, absent-by-levels, state-by-levels, place-by-levels}
-use Rattle.laws.proofs.HeaderElements.{separator-found, encoding-found, separator-place, encoding-place, more-absent}
+use Rattle.laws.proofs.FoundLaws.{element_is, stands_within, shown_is, bytes_by_levels, absent_by_levels, state_by_levels, place_by_levels}
+use Rattle.laws.proofs.HeaderElements.{separator_found, encoding_found, separator_place, encoding_place, more_absent}
 use Rattle.promises.specs.Elements.{StateIs, absent, stands}
 
 -- ---- "An element is asked for by segment (from 0), field (from 1), repetition, component, subcomponent"
 
 -- an element is found exactly where the message was read, the address asks for something and its segment is there
-pub found-exactly : (m : List ℕ) (a : Address) → ((found m a).answer.kind ≡ None) ↔ ((reading m ≡ Passes) × Asks a × (a.segment < length (segments m)))
-found-exactly = answered-exactly
+pub found_exactly : (m : List ℕ) (a : Address) → ((found m a).answer.kind ≡ None) ↔ ((reading m ≡ Passes) × Asks a × (a.segment < length (segments m)))
+found_exactly = answered_exactly
 
 -- 19, exactly where the message was read: "bad address, or no such segment"
-pub address-refused : (m : List ℕ) (a : Address) → (number_of (found m a).answer.kind ≡ 19) ↔ ((reading m ≡ Passes) × ((Asks a → ⊥) ⊎ (length (segments m) ≤ a.segment)))
-address-refused = refused-exactly
+pub address_refused : (m : List ℕ) (a : Address) → (number_of (found m a).answer.kind ≡ 19) ↔ ((reading m ≡ Passes) × ((Asks a → ⊥) ⊎ (length (segments m) ≤ a.segment)))
+address_refused = refused_exactly
 
 module _ (m : List ℕ) (a : Address) (done : (found m a).answer.kind ≡ None) where
   -- ---- the four states
@@ -49,47 +49,47 @@ module _ (m : List ℕ) (a : Address) (done : (found m a).answer.kind ≡ None) 
       at : (p : Part) → element_at m a ≡ p → StateIs m a (element_in m p)
       at Absent q = absent q
       at (At s e) q =
-          let w = stands-within m a done s e q in
+          let w = stands_within m a done s e q in
           stands s e (state_of (delimiters_of m) (between m s e)) q w.0 w.1 (state_means (delimiters_of m) (between m s e)) (shown_is m a done ∙ ap (part_bytes m) q)
 
   -- ---- all fields but MSH-1 and MSH-2
 
   -- "exactly its own bytes": those of its part of the split, level by level
   pub exact_bytes : SplitFurther a → element_bytes m a ≡ levels m a
-  exact_bytes = bytes-by-levels m a done
+  exact_bytes = bytes_by_levels m a done
 
   -- "absent, past the last part": exactly where some level has fewer parts than the number asked for
-  pub absent-exactly : SplitFurther a → ((found m a).element.state ≡ IsAbsent) ↔ Past m a
-  absent-exactly = absent-by-levels m a done
+  pub absent_exactly : SplitFurther a → ((found m a).element.state ≡ IsAbsent) ↔ Past m a
+  absent_exactly = absent_by_levels m a done
 
   -- elsewhere it is in the state that those bytes mean
-  pub state-exactly : SplitFurther a → (Past m a → ⊥) → Means (delimiters_of m) (levels m a) (found m a).element.state
-  state-exactly = state-by-levels m a done
+  pub state_exactly : SplitFurther a → (Past m a → ⊥) → Means (delimiters_of m) (levels m a) (found m a).element.state
+  state_exactly = state_by_levels m a done
 
   -- and it stands where that part does: the same bytes can stand in another part too, so that they alone do not say where
-  pub place-exactly : SplitFurther a → (Past m a → ⊥) → ((found m a).element.start ≡ start_of m a) × ((found m a).element.end ≡ start_of m a + length (levels m a))
-  place-exactly = place-by-levels m a done
+  pub place_exactly : SplitFurther a → (Past m a → ⊥) → ((found m a).element.start ≡ start_of m a) × ((found m a).element.end ≡ start_of m a + length (levels m a))
+  place_exactly = place_by_levels m a done
 
   -- ---- "Field 1 of MSH is the separator byte, field 2 the four encoding bytes, neither split further"
 
   -- "(repetition, component and subcomponent 0 or 1 give the whole"
   pub separator_field : a.segment ≡ 0 → a.field ≡ 1 → NoneBeyondOne a → (element_bytes m a ≡ get_or m 3 0 ∷ []) × ((found m a).element.state ≡ IsPresent)
-  separator_field = separator-found m a done
+  separator_field = separator_found m a done
 
   pub encoding_field : a.segment ≡ 0 → a.field ≡ 2 → NoneBeyondOne a
       → (element_bytes m a ≡ get_or m 4 0 ∷ get_or m 5 0 ∷ get_or m 6 0 ∷ get_or m 7 0 ∷ []) × ((found m a).element.state ≡ IsPresent)
-  encoding_field = encoding-found m a done
+  encoding_field = encoding_found m a done
 
   -- they stand behind the name: byte 3, and bytes 4 to 7
-  pub separator-stands : a.segment ≡ 0 → a.field ≡ 1 → NoneBeyondOne a → ((found m a).element.start ≡ 3) × ((found m a).element.end ≡ 4)
-  separator-stands = separator-place m a done
+  pub separator_stands : a.segment ≡ 0 → a.field ≡ 1 → NoneBeyondOne a → ((found m a).element.start ≡ 3) × ((found m a).element.end ≡ 4)
+  separator_stands = separator_place m a done
 
-  pub encoding-stands : a.segment ≡ 0 → a.field ≡ 2 → NoneBeyondOne a → ((found m a).element.start ≡ 4) × ((found m a).element.end ≡ 8)
-  encoding-stands = encoding-place m a done
+  pub encoding_stands : a.segment ≡ 0 → a.field ≡ 2 → NoneBeyondOne a → ((found m a).element.start ≡ 4) × ((found m a).element.end ≡ 8)
+  encoding_stands = encoding_place m a done
 
   -- "more is absent)"
-  pub no-more-parts : a.segment ≡ 0 → a.field ≤ 2 → (NoneBeyondOne a → ⊥) → (found m a).element.state ≡ IsAbsent
-  no-more-parts = more-absent m a done
+  pub no_more_parts : a.segment ≡ 0 → a.field ≤ 2 → (NoneBeyondOne a → ⊥) → (found m a).element.state ≡ IsAbsent
+  no_more_parts = more_absent m a done
 
 -- ---- the list of all leaves has no answers of its own: its rows are exactly what a lookup finds at full addresses, where nothing is refused or absent
 
@@ -107,4 +107,4 @@ leaves_one_list = leaves_only
 -- ---- the field judge reads the same: what it looks at in each segment are the elements that a lookup finds there
 
 pub judged_elements : (m : List ℕ) → reading m ≡ Passes → JudgedByElements m
-judged_elements = judged-by_elements
+judged_elements = judged_by_elements

@@ -24,7 +24,7 @@ use Rattle.fault.specs.declared.FaultRecord.{FaultRecord}
 use Rattle.fault.specs.declared.Names.{Names}
 use Rattle.structure.proofs.OnlyOne.{only_one}
 use Rattle.verdict.specs.Verdicts.{Accepts}
-use Rattle.alphabet.proofs.CheckLaws.{number-none}
+use Rattle.alphabet.proofs.CheckLaws.{number_none}
 use Rattle.verdict.proofs.VerdictLaws.{accepts_exactly as verdict-accepts}
 use Rattle.frames.specs.declared.state.FrameState.{FrameState}
 use Rattle.frames.specs.declared.feeding.Fed.{Fed}
@@ -35,16 +35,16 @@ use Rattle.boundary.specs.Seen.{seen, structure_seen, StructureSeen, VerdictSeen
 use Rattle.boundary.specs.declared.answers.CAnswer.{CAnswer}
 use Rattle.boundary.specs.declared.judges.CStructure.{CStructure}
 use Rattle.boundary.specs.declared.judges.CVerdict.{CVerdict}
-use Rattle.laws.proofs.NameLists.{in-at, at_in, front_at, behind-at, once-each}
+use Rattle.laws.proofs.NameLists.{in_at, at_in, front_at, behind_at, once_each}
 use Rattle.laws.proofs.RoundTrip.{AreBytes}
-use Rattle.laws.specs.Framed.{Framed, used_up, a_frame, broken-frame, long-frame, foreign-state}
+use Rattle.laws.specs.Framed.{Framed, used_up, a_frame, broken_frame, long_frame, foreign_state}
 use Rattle.laws.proofs.FrameNumbers.{feed_framed, frame_in_buffer}
 use Rattle.promises.specs.Acknowledgements.{Carries}
 use Rattle.promises.specs.ForC.{NamesOneByOne}
 use Rattle.promises.specs.Structures.{Exactly, accepted, refused, RefusedExactly}
 use Rattle.promises.proofs.Demand1.{escape_leaves, unescape_leaves, format_leaves, acknowledge_leaves, feed_leaves}
 use Rattle.promises.proofs.Demand2.{acknowledgement_carries}
-use Rattle.promises.proofs.Demand3.{structure-exactly, accepts_exactly}
+use Rattle.promises.proofs.Demand3.{structure_exactly, accepts_exactly}
 
 -- ---- "After a refusal every buffer lent holds the bytes it held before.": a number other than 0 is a refusal
 
@@ -64,7 +64,7 @@ module _ (m time id lent : List ℕ) {r : CAnswer} {left : List ℕ} (a : Acknow
   -- and 0 is an acknowledgement, as long as C is told
   pub c_acknowledgement_carries : AreBytes id → r.number ≡ 0 → Carries m time id (take r.length left)
   c_acknowledgement_carries small done =
-      let kind = number-none a.answer.kind (sym (ap (λ (x : CAnswer). x.number) a.seen_as) ∙ done) in
+      let kind = number_none a.answer.kind (sym (ap (λ (x : CAnswer). x.number) a.seen_as) ∙ done) in
       subst (λ (n : ℕ). Carries m time id (take n left)) (sym (ap (λ (x : CAnswer). x.length) a.seen_as))
       (acknowledgement_carries m time id lent small a.acknowledges kind)
 
@@ -95,15 +95,15 @@ module _ (m : List ℕ) (s : Shape) {j : FaultRecord} (a : Answers m j) (r : Ref
     list = r.list;
     in_order = r.once;
     asked = λ i n h x. name_is h x;
-    given = λ i n h x. (r.could_stand n).0 (subst (λ (k : ℕ). In k r.list) (sym (name_is h x)) (in-at r.list i (inside h)));
+    given = λ i n h x. (r.could_stand n).0 (subst (λ (k : ℕ). In k r.list) (sym (name_is h x)) (in_at r.list i (inside h)));
     every =
         λ n v.
         let f = at_in ((r.could_stand n).1 v) in
         let l = f.1 in
         let z = size in
         (f.0, omega arith, subst (NameSeen m f.0) f.2 (seen_at f.0 l));
-    once = λ i k n h l x y. once-each _ _ r.list r.once i k (inside h) (inside l) (sym (name_is h x) ∙ name_is l y);
-    behind = λ i n h x. let z = size in from x ∙ behind-at r.list (64 - length r.list) i (omega arith);
+    once = λ i k n h l x y. once_each _ _ r.list r.once i k (inside h) (inside l) (sym (name_is h x) ∙ name_is l y);
+    behind = λ i n h x. let z = size in from x ∙ behind_at r.list (64 - length r.list) i (omega arith);
   }
 
 -- a message that was read, whose type is listed with the structure s, and that C sees refused
@@ -111,7 +111,7 @@ pub names_one_by_one : (m : List ℕ) (s : Shape) → reading m ≡ Passes → L
     → NamesOneByOne m s r
 names_one_by_one m s done known x some =
     subst (NamesOneByOne m s) (sym x.seen_as)
-    (by (structure-exactly m s done known x.answers) (λ e. some (ap (λ (c : CStructure). c.number) x.seen_as ∙ ap number_of e)) x.answers)
+    (by (structure_exactly m s done known x.answers) (λ e. some (ap (λ (c : CStructure). c.number) x.seen_as ∙ ap number_of e)) x.answers)
   where
     by : {j : FaultRecord} → Exactly s (segment_names m) j → (j.kind ≡ None → ⊥) → Answers m j → NamesOneByOne m s (structure_seen j)
     by (accepted y) n a = absurd (n refl)
@@ -119,12 +119,12 @@ names_one_by_one m s done known x some =
 
 -- ---- 0 is what the judges accept
 
-pub c_structure-exactly : (m : List ℕ) (s : Shape) → reading m ≡ Passes → Lists built_in m s → {r : CStructure} → StructureSeen m r
+pub c_structure_exactly : (m : List ℕ) (s : Shape) → reading m ≡ Passes → Lists built_in m s → {r : CStructure} → StructureSeen m r
     → (r.number ≡ 0) ↔ Yields s (kept (names s) (segment_names m))
-c_structure-exactly m s done known x =
+c_structure_exactly m s done known x =
     let e = accepts_exactly m s done known x.answers in
     let seen-number = ap (λ (c : CStructure). c.number) x.seen_as in
-    (λ z. e.0 (accepted-so x.judgement x.answers (number-none x.judgement.kind (sym seen-number ∙ z))), λ y. seen-number ∙ ap (λ (j : FaultRecord). number_of j.kind) (e.1 y))
+    (λ z. e.0 (accepted_so x.judgement x.answers (number_none x.judgement.kind (sym seen-number ∙ z))), λ y. seen-number ∙ ap (λ (j : FaultRecord). number_of j.kind) (e.1 y))
   where
     by : {j : FaultRecord} → Exactly s (segment_names m) j → j.kind ≡ None → j ≡ plain None 0
     by (accepted y) k = refl
@@ -134,14 +134,14 @@ c_structure-exactly m s done known x =
         not_none true q = let z : ◌≡◌ {A = ℕ} 0 1 = cc in omega arith
         not_none false q = let z : ◌≡◌ {A = ℕ} 0 1 = cc in omega arith
 
-    accepted-so : (j : FaultRecord) → Answers m j → j.kind ≡ None → j ≡ plain None 0
-    accepted-so j a k = by (structure-exactly m s done known a) k
+    accepted_so : (j : FaultRecord) → Answers m j → j.kind ≡ None → j ≡ plain None 0
+    accepted_so j a k = by (structure_exactly m s done known a) k
 
-pub c_verdict-exactly : (m : List ℕ) {r : CVerdict} → VerdictSeen m r → (r.number ≡ 0) ↔ Accepts m
-c_verdict-exactly m v =
+pub c_verdict_exactly : (m : List ℕ) {r : CVerdict} → VerdictSeen m r → (r.number ≡ 0) ↔ Accepts m
+c_verdict_exactly m v =
     let e = verdict-accepts m v.answers in
     let seen-number = ap (λ (c : CVerdict). c.number) v.seen_as in
-    (λ z. e.0 (number-none v.fault.kind (sym seen-number ∙ z)), λ a. seen-number ∙ ap number_of (e.1 a))
+    (λ z. e.0 (number_none v.fault.kind (sym seen-number ∙ z)), λ a. seen-number ∙ ap number_of (e.1 a))
 
 -- ---- the frame reader: the state that C gets is the one that the library gave, and handed in again it is that one
 
@@ -160,10 +160,10 @@ c_feed_leaves s piece lent e =
     by : {f : Fed} → Framed f → number_of f.answer.kind ≡ 14 → (f.answer.kind ≡ NoRoom) × (f.answer.length ≡ 0)
     by (used_up n t) q = absurd (omega arith)
     by (a_frame size n t) q = absurd (omega arith)
-    by (broken-frame n t) q = absurd (omega arith)
-    by (long-frame n t) q = absurd (omega arith)
-    by (foreign-state t) q = (refl, refl)
+    by (broken_frame n t) q = absurd (omega arith)
+    by (long_frame n t) q = absurd (omega arith)
+    by (foreign_state t) q = (refl, refl)
 
 -- as many bytes as C is told of a frame stand in the buffer
-pub c_frame-fits : (s : CFrameState) (piece lent : List ℕ) → (fed_seen (fed (handed_in s) piece lent).said).length ≤ length lent
-c_frame-fits s piece lent = frame_in_buffer (handed_in s) piece lent
+pub c_frame_fits : (s : CFrameState) (piece lent : List ℕ) → (fed_seen (fed (handed_in s) piece lent).said).length ≤ length lent
+c_frame_fits s piece lent = frame_in_buffer (handed_in s) piece lent

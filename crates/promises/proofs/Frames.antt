@@ -34,8 +34,8 @@ run_exists s d ps reached = Cuts.run_exists s d ps (reached_known (length d) s r
 
 -- ---- "A state that no run with that buffer's length could have reached is 14", before the piece is looked at; every other is taken
 
-pub refused-exactly : (s : FrameState) (p d : List ℕ) → ((fed s p d).said.answer.kind ≡ NoRoom) ↔ (Reached (length d) s → ⊥)
-refused-exactly s p d = (λ r reached. reached_taken s p d reached r, unreached_refused s p d)
+pub refused_exactly : (s : FrameState) (p d : List ℕ) → ((fed s p d).said.answer.kind ≡ NoRoom) ↔ (Reached (length d) s → ⊥)
+refused_exactly s p d = (λ r reached. reached_taken s p d reached r, unreached_refused s p d)
 
 pub taken_exactly : (s : FrameState) (p d : List ℕ) → ((fed s p d).said.answer.kind ≡ NoRoom → ⊥) ↔ Reached (length d) s
 taken_exactly s p d = (taken_reached s p d, reached_taken s p d)
@@ -50,12 +50,12 @@ wired_exactly d ps n k es t x =
 
 -- ---- the buffer behind a line: each place, from any state that is reached; and by the bodies
 
-pub place-holds : {s t : FrameState} {d x : List ℕ} {ps : List (List ℕ)} {es : List Happening} → Reached (length d) s → Runs s d ps es t x
+pub place_holds : {s t : FrameState} {d x : List ℕ} {ps : List (List ℕ)} {es : List Happening} → Reached (length d) s → Runs s d ps es t x
     → (length x ≡ length d) × ((i : ℕ) → get_or x i 0 ≡ last_at i (gathered (frame_limit (length d)) s (line ps)) (get_or d i 0))
-place-holds {s} {t} {d} reached r = let k = reached_known (length d) s reached in (Places.places_stay k r, Places.place-holds k r)
+place_holds {s} {t} {d} reached r = let k = reached_known (length d) s reached in (Places.places_stay k r, Places.place_holds k r)
 
 pub bodies_hold : (cs : List (List ℕ)) (d : List ℕ) (i : ℕ) → get_or (laid cs d) i 0 ≡ last_of i cs (get_or d i 0)
-bodies_hold = Places.laid-holds
+bodies_hold = Places.laid_holds
 
 -- ---- what goes back
 
@@ -64,8 +64,8 @@ pub feed_answers : (s : FrameState) (p d : List ℕ) → Framed (fed s p d).said
 feed_answers = Numbers.feed_framed
 
 -- from any state: a frame has no more bytes than the limit, and fits the buffer
-pub frame-fits : (s : FrameState) (p d : List ℕ) → ((fed s p d).said.answer.length ≤ frame_limit (length d)) × ((fed s p d).said.answer.length ≤ length d)
-frame-fits s p d = (Numbers.frame-fits s p d, Numbers.frame_in_buffer s p d)
+pub frame_fits : (s : FrameState) (p d : List ℕ) → ((fed s p d).said.answer.length ≤ frame_limit (length d)) × ((fed s p d).said.answer.length ≤ length d)
+frame_fits s p d = (Numbers.frame_fits s p d, Numbers.frame_in_buffer s p d)
 
 module _ (s : FrameState) (p d : List ℕ) (reached : Reached (length d) s) where
   -- a stop has used a byte, so whoever calls again comes to an end

@@ -19,11 +19,11 @@ use Rattle.laws.proofs.ErrorTold.{one_code, one_place}
 pub by_definition : {A : Type 0} {r s answer : A} → r ≡ answer → s ≡ answer → r ≡ s
 by_definition e f = e ∙ sym f
 
-pub structure-once : (m : List ℕ) {r s : FaultRecord} → Answers m r → Answers m s → r ≡ s
-structure-once m a b = only_one m a b
+pub structure_once : (m : List ℕ) {r s : FaultRecord} → Answers m r → Answers m s → r ≡ s
+structure_once m a b = only_one m a b
 
-pub verdict-once : (m : List ℕ) {r s : FaultRecord} → Verdicts m r → Verdicts m s → r ≡ s
-verdict-once m a b = one_verdict m a b
+pub verdict_once : (m : List ℕ) {r s : FaultRecord} → Verdicts m r → Verdicts m s → r ≡ s
+verdict_once m a b = one_verdict m a b
 
 -- the answer, and every byte of the buffer
 pub acknowledge_once : (m time id lent : List ℕ) {r s : Answer} {x y : List ℕ} → Acknowledges m time id lent r x → Acknowledges m time id lent s y → (r ≡ s) × (x ≡ y)

@@ -25,20 +25,20 @@ use Rattle.laws.proofs.Chosen as Chosen
 use Rattle.laws.proofs.FoundLaws.{shown_is, four_long}
 use Rattle.grammars.specs.Faulty.{Faulty}
 use Rattle.grammars.specs.Tables.{member_of, marked, allowed_bytes, permitted_delimiters, capitals, digits, hex_number}
-use Rattle.grammars.proofs.FaultyLaws.{refused-so, faulty-so}
+use Rattle.grammars.proofs.FaultyLaws.{refused_so, faulty_so}
 use Rattle.grammars.proofs.TableLaws.{allowed_table, permitted_table, capital_table, name_table, hex_table}
 
 pub read_accepts_exactly : (m : List ℕ) → (reading m ≡ Passes) ↔ Message m
 read_accepts_exactly m = (accepted m, accepting m)
 
-pub read-refuses-exactly : (m : List ℕ) (kind : Refusal) (place : ℕ) → (reading m ≡ Fails kind place) ↔ Faulty m kind place
-read-refuses-exactly m kind place = (refused-so m kind place, faulty-so m)
+pub read_refuses_exactly : (m : List ℕ) (kind : Refusal) (place : ℕ) → (reading m ≡ Fails kind place) ↔ Faulty m kind place
+read_refuses_exactly m kind place = (refused_so m kind place, faulty_so m)
 
 -- ---- "Lookup: a reading fault" and "Judges answer a reading fault first": the same fault at the same place, and nothing else
 
-pub find-unread : (m : List ℕ) (a : Address) (kind : Refusal) (place : ℕ) → reading m ≡ Fails kind place
+pub find_unread : (m : List ℕ) (a : Address) (kind : Refusal) (place : ℕ) → reading m ≡ Fails kind place
     → found m a ≡ record { answer = record { kind = kind; place = place; length = 0 }; element = nowhere }
-find-unread = Chosen.find-unread
+find_unread = Chosen.find_unread
 
 pub judge_unread : (m : List ℕ) (kind : Refusal) (place : ℕ) {j : FaultRecord} → reading m ≡ Fails kind place → Answers m j → j ≡ plain kind place
 judge_unread m kind place e a = Chosen.judge_unread built_in m kind place e a
@@ -50,14 +50,14 @@ raw_is_element m a done = rw (le-leb 4 (length m) (four_long m a done)) (sym (sh
 
 -- ---- which bytes: the tests are the document's tables, for each of the 256
 
-pub allowed-bytes : (b : ℕ) → b < 256 → allowed b ≡ marked allowed_bytes b
-allowed-bytes = allowed_table
+pub allowed_bytes_lem : (b : ℕ) → b < 256 → allowed b ≡ marked allowed_bytes b
+allowed_bytes_lem = allowed_table
 
-pub permitted-bytes : (b : ℕ) → b < 256 → permitted b ≡ member_of b permitted_delimiters
-permitted-bytes = permitted_table
+pub permitted_bytes : (b : ℕ) → b < 256 → permitted b ≡ member_of b permitted_delimiters
+permitted_bytes = permitted_table
 
-pub name-bytes : (b : ℕ) → b < 256 → (capital b ≡ member_of b capitals) × (capital_or_digit b ≡ member_of b (capitals ++ digits))
-name-bytes b h = (capital_table b h, name_table b h)
+pub name_bytes : (b : ℕ) → b < 256 → (capital b ≡ member_of b capitals) × (capital_or_digit b ≡ member_of b (capitals ++ digits))
+name_bytes b h = (capital_table b h, name_table b h)
 
-pub hex-bytes : (b : ℕ) → b < 256 → hex_of b ≡ hex_number b
-hex-bytes = hex_table
+pub hex_bytes : (b : ℕ) → b < 256 → hex_of b ≡ hex_number b
+hex_bytes = hex_table

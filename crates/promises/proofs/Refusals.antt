@@ -16,8 +16,8 @@ use Rattle.alphabet.specs.Lists.{find, same}
 use Rattle.alphabet.specs.declared.answers.Answer.{Answer}
 use Rattle.alphabet.specs.declared.answers.Refusal.{Refusal}
 use Rattle.alphabet.specs.declared.answers.Refusal.TheVariants.{None, NotAcknowledgeable, AcknowledgementTooLong, CallersTime, CallersId}
-use Rattle.alphabet.proofs.BoolLaws.{false-true, and_both, or_neither, neither_or}
-use Rattle.alphabet.proofs.ListLaws.{first-least, find_is, same_is, same-own}
+use Rattle.alphabet.proofs.BoolLaws.{false_true, and_both, or_neither, neither_or}
+use Rattle.alphabet.proofs.ListLaws.{first_least, find_is, same_is, same_own}
 use Rattle.reading.specs.Reading.{opening}
 use Rattle.reading.proofs.Accepted.{opening_if}
 use Rattle.element.specs.declared.states.State.{State}
@@ -29,9 +29,9 @@ use Rattle.escaping.specs.Outcomes.{text, fault}
 use Rattle.escaping.specs.Outcomes.{answer}
 use Rattle.acknowledgement.specs.Acknowledgement.{header, sent, type_part, present, passes, bad_id, acknowledgeable, refusing, roomy, answer_to, Acknowledges}
 use Rattle.acknowledgement.specs.Acknowledgement.Acknowledges.{not_written, written}
-use Rattle.acknowledgement.proofs.HeaderLaws.{return-inside, sound-header, no_time_row, no_id, no_header}
+use Rattle.acknowledgement.proofs.HeaderLaws.{return_inside, sound_header, no_time_row, no_id, no_header}
 use Rattle.grammars.proofs.SpeltTimesLaws.{ts_spelt, ts_spells}
-use Rattle.promises.specs.Acknowledgements.{GoodId, Unacknowledgeable, no_return, unsound, of_type-ack, no_control_id, long_control_id, RefusedBy, bad_time, by_bad_id, bad_header}
+use Rattle.promises.specs.Acknowledgements.{GoodId, Unacknowledgeable, no_return, unsound, of_type_ack, no_control_id, long_control_id, RefusedBy, bad_time, by_bad_id, bad_header}
 
 -- ---- the caller's ID
 
@@ -61,12 +61,12 @@ module _ (m : List ℕ) where
           → (d : Bool) → present (header m) (sent (header m) 10) ≡ d → (e : Bool) → leb (length (sent (header m) 10)) id_limit ≡ e
           → (a && (b && (not c && (d && e)))) ≡ false → Unacknowledgeable m
       at false ea b eb c ec d ed e ee q =
-          no_return (λ i h r. let l = ltb-false (find carriage_return m) (length m) ea in let k = first-least (eqb carriage_return) m i h (eq-eqb carriage_return (get_or m i 0) (sym r)) in omega arith)
-      at true ea false eb c ec d ed e ee q = unsound (λ o. false-true (sym eb ∙ ap passes (opening_if (header m) o)))
-      at true ea true eb true ec d ed e ee q = of_type-ack (same_is (type_part (header m) 1) (ascii "ACK") ec)
-      at true ea true eb false ec false ed e ee q = no_control_id (λ p. false-true (sym ed ∙ ap is_present p))
+          no_return (λ i h r. let l = ltb-false (find carriage_return m) (length m) ea in let k = first_least (eqb carriage_return) m i h (eq-eqb carriage_return (get_or m i 0) (sym r)) in omega arith)
+      at true ea false eb c ec d ed e ee q = unsound (λ o. false_true (sym eb ∙ ap passes (opening_if (header m) o)))
+      at true ea true eb true ec d ed e ee q = of_type_ack (same_is (type_part (header m) 1) (ascii "ACK") ec)
+      at true ea true eb false ec false ed e ee q = no_control_id (λ p. false_true (sym ed ∙ ap is_present p))
       at true ea true eb false ec true ed false ee q = long_control_id (leb-false (length (sent (header m) 10)) id_limit ee)
-      at true ea true eb false ec true ed true ee q = absurd (false-true (sym q))
+      at true ea true eb false ec true ed true ee q = absurd (false_true (sym q))
 
   holds : acknowledgeable m ≡ true
       → (same (type_part (header m) 1) (ascii "ACK") ≡ false) × (present (header m) (sent (header m) 10) ≡ true) × (leb (length (sent (header m) 10)) id_limit ≡ true)
@@ -79,9 +79,9 @@ module _ (m : List ℕ) where
       (not-true (same (type_part (header m) 1) (ascii "ACK")) c.0, d.0, d.1)
 
   not_both : Unacknowledgeable m → acknowledgeable m ≡ true → ⊥
-  not_both (no_return n) e = let h = return-inside m e in n (find carriage_return m) h (find_is carriage_return m h)
-  not_both (unsound n) e = n (sound-header m e)
-  not_both (of_type-ack t) e = false-true (sym (holds e).0 ∙ ap (λ (l : List ℕ). same l (ascii "ACK")) t ∙ same-own (ascii "ACK"))
+  not_both (no_return n) e = let h = return_inside m e in n (find carriage_return m) h (find_is carriage_return m h)
+  not_both (unsound n) e = n (sound_header m e)
+  not_both (of_type_ack t) e = false_true (sym (holds e).0 ∙ ap (λ (l : List ℕ). same l (ascii "ACK")) t ∙ same_own (ascii "ACK"))
   not_both (no_control_id n) e = n (is_present_lem _ (holds e).1)
   not_both (long_control_id l) e = let k = leb-true (length (sent (header m) 10)) id_limit (holds e).2 in omega arith
 
@@ -99,19 +99,19 @@ module _ (m time id : List ℕ) where
       at : (t : Bool) → is_ts time ≡ t → (b : Bool) → bad_id id ≡ b → (a : Bool) → acknowledgeable m ≡ a
           → (cond (not t) CallersTime (cond b CallersId (cond (not a) NotAcknowledgeable None)) ≡ None → ⊥)
           → RefusedBy m time id (cond (not t) CallersTime (cond b CallersId (cond (not a) NotAcknowledgeable None)))
-      at false et b eb a ea n = bad_time (λ t s. false-true (sym et ∙ (ts_spelt s).0))
-      at true et true eb a ea n = by_bad_id _ (ts_spells time et) (λ g. false-true (sym (id_good id g) ∙ eb))
+      at false et b eb a ea n = bad_time (λ t s. false_true (sym et ∙ (ts_spelt s).0))
+      at true et true eb a ea n = by_bad_id _ (ts_spells time et) (λ g. false_true (sym (id_good id g) ∙ eb))
       at true et false eb false ea n = bad_header _ (ts_spells time et) (good_id id eb) (fails m ea)
       at true et false eb true ea n = absurd (n refl)
 
-  so-refused : {k : Refusal} → RefusedBy m time id k → refusing m time id ≡ k
-  so-refused (bad_time n) = no_time_row m time id (ap not (is_false (λ e. n _ (ts_spells time e))))
-  so-refused (by_bad_id t s n) = no_id m time id (ap not (ts_spelt s).0) (is_true (bad_id id) (λ e. n (good_id id e)))
+  so_refused : {k : Refusal} → RefusedBy m time id k → refusing m time id ≡ k
+  so_refused (bad_time n) = no_time_row m time id (ap not (is_false (λ e. n _ (ts_spells time e))))
+  so_refused (by_bad_id t s n) = no_id m time id (ap not (ts_spelt s).0) (is_true (bad_id id) (λ e. n (good_id id e)))
     where
       is_true : (b : Bool) → (b ≡ false → ⊥) → b ≡ true
       is_true true h = refl
       is_true false h = absurd (h refl)
-  so-refused (bad_header t s g u) = no_header m time id (ap not (ts_spelt s).0) (id_good id g) (ap not (is_false (not_both m u)))
+  so_refused (bad_header t s g u) = no_header m time id (ap not (ts_spelt s).0) (id_good id g) (ap not (is_false (not_both m u)))
 
 -- ---- the answer
 
@@ -131,10 +131,10 @@ not_left : (k : Refusal) → (number_of k ≡ 10 → ⊥) → (number_of k ≡ 0
 not_left k ten none l = ⊎_elim (λ e. ten (ap number_of e)) (λ e. none (ap number_of e)) l
 
 module _ (m time id lent : List ℕ) where
-  refused-not-left : {k : Refusal} → RefusedBy m time id k → Left k → ⊥
-  refused-not-left (bad_time n) = not_left CallersTime (λ e. omega arith) (λ e. omega arith)
-  refused-not-left (by_bad_id t s n) = not_left CallersId (λ e. omega arith) (λ e. omega arith)
-  refused-not-left (bad_header t s g u) = not_left NotAcknowledgeable (λ e. omega arith) (λ e. omega arith)
+  refused_not_left : {k : Refusal} → RefusedBy m time id k → Left k → ⊥
+  refused_not_left (bad_time n) = not_left CallersTime (λ e. omega arith) (λ e. omega arith)
+  refused_not_left (by_bad_id t s n) = not_left CallersId (λ e. omega arith) (λ e. omega arith)
+  refused_not_left (bad_header t s g u) = not_left NotAcknowledgeable (λ e. omega arith) (λ e. omega arith)
 
   -- one of these stands against it and is the answer, or none does
   either : {r : Answer} {x : List ℕ} → Acknowledges m time id lent r x → RefusedBy m time id r.kind ⊎ ((refusing m time id ≡ None) × Left r.kind)
@@ -145,8 +145,8 @@ module _ (m time id lent : List ℕ) where
   module _ {r : Answer} {x : List ℕ} (a : Acknowledges m time id lent r x) where
     given : {k : Refusal} → RefusedBy m time id k → r.kind ≡ k
     given {k} b =
-        let e = so-refused m time id b in
-        ⊎_elim (λ q. sym (so-refused m time id q) ∙ e) (λ q. absurd (refused-not-left b (inr (sym e ∙ q.0)))) (either a)
+        let e = so_refused m time id b in
+        ⊎_elim (λ q. sym (so_refused m time id q) ∙ e) (λ q. absurd (refused_not_left b (inr (sym e ∙ q.0)))) (either a)
 
     told : (k : Refusal) → (Left k → ⊥) → r.kind ≡ k → RefusedBy m time id k
     told k n e = ⊎_elim (λ q. subst (RefusedBy m time id) e q) (λ q. absurd (n (subst Left e q.1))) (either a)
@@ -160,9 +160,9 @@ module _ (m time id lent : List ℕ) where
     seventeen_exactly = (told CallersId (not_left CallersId (λ e. omega arith) (λ e. omega arith)), given)
 
     -- 9: "the header (through the first CR) is missing that CR or has fault 1 to 4 itself; type ACK; MSH-10, the whole field, not present or over 199 bytes"
-    pub nine-exactly : (r.kind ≡ NotAcknowledgeable) ↔ RefusedBy m time id NotAcknowledgeable
-    nine-exactly = (told NotAcknowledgeable (not_left NotAcknowledgeable (λ e. omega arith) (λ e. omega arith)), given)
+    pub nine_exactly : (r.kind ≡ NotAcknowledgeable) ↔ RefusedBy m time id NotAcknowledgeable
+    nine_exactly = (told NotAcknowledgeable (not_left NotAcknowledgeable (λ e. omega arith) (λ e. omega arith)), given)
 
     -- 10, or 0, where none of the three is, and nowhere else
-    pub ten_or-zero-exactly : ((r.kind ≡ AcknowledgementTooLong) ⊎ (r.kind ≡ None)) ↔ ((k : Refusal) → RefusedBy m time id k → ⊥)
-    ten_or-zero-exactly = (λ f k b. refused-not-left b (subst Left (given b) f), λ n. ⊎_elim (λ q. absurd (n r.kind q)) (λ q. q.1) (either a))
+    pub ten_or_zero_exactly : ((r.kind ≡ AcknowledgementTooLong) ⊎ (r.kind ≡ None)) ↔ ((k : Refusal) → RefusedBy m time id k → ⊥)
+    ten_or_zero_exactly = (λ f k b. refused_not_left b (subst Left (given b) f), λ n. ⊎_elim (λ q. absurd (n r.kind q)) (λ q. q.1) (either a))

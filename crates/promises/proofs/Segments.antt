@@ -16,18 +16,18 @@ use Rattle.alphabet.proofs.PartLaws.{part_bytes_lem}
 use Rattle.reading.specs.Reading.{reading}
 use Rattle.reading.specs.Segments.{field_separator, segment_at, segments}
 use Rattle.reading.proofs.Accepted.{accepted}
-use Rattle.reading.proofs.SegmentLaws.{segment-bytes, segment_past}
+use Rattle.reading.proofs.SegmentLaws.{segment_bytes, segment_past}
 use Rattle.element.specs.Levels.{between, moved, part_in, field_in, field_at, below, repetition_at, component_at, subcomponent_at, fixed, unsplit, element_at}
 use Rattle.element.specs.Finding.{found}
 use Rattle.element.specs.declared.address.Address.{Address}
 use Rattle.element.specs.declared.states.State.TheVariants.{Absent as IsAbsent}
-use Rattle.element.proofs.LevelLaws.{between-length}
-use Rattle.laws.proofs.FoundLaws.{place_at, absent-nowhere}
-use Rattle.laws.proofs.HeaderLaws.{first-segment}
+use Rattle.element.proofs.LevelLaws.{between_length}
+use Rattle.laws.proofs.FoundLaws.{place_at, absent_nowhere}
+use Rattle.laws.proofs.HeaderLaws.{first_segment}
 use Rattle.segments.specs.Asked.{segment_found}
 use Rattle.segments.specs.declared.SegmentFound.{SegmentFound}
-use Rattle.segments.proofs.AskedLaws.{asked-there}
-use Rattle.promises.proofs.Elements.{found-exactly}
+use Rattle.segments.proofs.AskedLaws.{asked_there}
+use Rattle.promises.proofs.Elements.{found_exactly}
 
 -- a part lies between two places of the message
 abbrev Inside : List ℕ → ℕ → ℕ → Part → Type 0
@@ -47,19 +47,19 @@ module _ (m : List ℕ) (from to : ℕ) (ends : to ≤ length m) where
           let l0 = w.0 in
           let l1 = w.1 in
           let l2 = w.2 in
-          let n = between-length m s e l1 (omega arith) in
+          let n = between_length m s e l1 (omega arith) in
           let i1 = i.1 in
           let i2 = i.2 in
           (omega arith, omega arith, omega arith)
 
-  inside-below : (sep : ℕ) (part : Part) (k : ℕ) → Inside m from to part → Inside m from to (below sep m part k)
+  inside_below : (sep : ℕ) (part : Part) (k : ℕ) → Inside m from to part → Inside m from to (below sep m part k)
   unfolding below
-  inside-below sep part zero w = w
-  inside-below sep part (suc k) w = inside_in sep part k w
+  inside_below sep part zero w = w
+  inside_below sep part (suc k) w = inside_in sep part k w
 
-  inside-either : (t : Bool) (p q : Part) → Inside m from to p → Inside m from to q → Inside m from to (cond t p q)
-  inside-either true p q a b = a
-  inside-either false p q a b = b
+  inside_either : (t : Bool) (p q : Part) → Inside m from to p → Inside m from to q → Inside m from to (cond t p q)
+  inside_either true p q a b = a
+  inside_either false p q a b = b
 
 module _ (m : List ℕ) (r : reading m ≡ Passes) (from to : ℕ) where
   -- MSH-1 and MSH-2 stand before the first CR, as all of the header does
@@ -68,7 +68,7 @@ module _ (m : List ℕ) (r : reading m ≡ Passes) (from to : ℕ) where
   inside_field segment f q = at (eqb segment 0) refl
     where
       b : (from ≤ to) × (to < length m)
-      b = let i = segment-bytes m segment from to q in (i.1, i.2)
+      b = let i = segment_bytes m segment from to q in (i.1, i.2)
 
       whole : Inside m from to (segment_at m segment)
       whole = subst (Inside m from to) (sym q) (let l = b.0 in (omega arith, l, omega arith))
@@ -78,7 +78,7 @@ module _ (m : List ℕ) (r : reading m ≡ Passes) (from to : ℕ) where
 
       separator : eqb segment 0 ≡ true → Inside m from to (At 3 4)
       separator e =
-          let f = first-segment m (accepted m r) in
+          let f = first_segment m (accepted m r) in
           let z : At from to ≡ At 0 _ = sym q ∙ ap (segment_at m) (eqb-true segment 0 e) ∙ f.0 in
           let x : from ≡ 0 = cc in
           let long = f.1 in
@@ -87,21 +87,21 @@ module _ (m : List ℕ) (r : reading m ≡ Passes) (from to : ℕ) where
 
       at : (t : Bool) → eqb segment 0 ≡ t
           → Inside m from to (cond (eqb segment 0) (cond (eqb f 1) (At 3 4) (part_in (field_separator m) m (segment_at m segment) (f - 1))) (part_in (field_separator m) m (segment_at m segment) f))
-      at true e = rw e (inside-either m from to ends (eqb f 1) (At 3 4) _ (separator e) (inside_in m from to ends (field_separator m) (segment_at m segment) (f - 1) whole))
+      at true e = rw e (inside_either m from to ends (eqb f 1) (At 3 4) _ (separator e) (inside_in m from to ends (field_separator m) (segment_at m segment) (f - 1) whole))
       at false e = rw e (inside_in m from to ends (field_separator m) (segment_at m segment) f whole)
 
   -- every element stands inside its segment
-  pub inside-segment : (a : Address) (s e : ℕ) → segment_at m a.segment ≡ At from to → element_at m a ≡ At s e → (from ≤ s) × (s ≤ e) × (e ≤ to)
+  pub inside_segment : (a : Address) (s e : ℕ) → segment_at m a.segment ≡ At from to → element_at m a ≡ At s e → (from ≤ s) × (s ≤ e) × (e ≤ to)
   unfolding element_at unsplit subcomponent_at component_at repetition_at
-  inside-segment a s e q p =
-      let i = segment-bytes m a.segment from to q in
+  inside_segment a s e q p =
+      let i = segment_bytes m a.segment from to q in
       let l = i.2 in
       let ends : to ≤ length m = omega arith in
       let field = inside_field a.segment a.field q in
       let all : Inside m from to (element_at m a) =
-      inside-either m from to ends (fixed a.segment a.field) (unsplit (field_at m a) a) (subcomponent_at m a)
-      (inside-either m from to ends (leb a.repetition 1 && (leb a.component 1 && leb a.subcomponent 1)) (field_at m a) Absent field tt)
-      (inside-below m from to ends _ _ a.subcomponent (inside-below m from to ends _ _ a.component (inside-below m from to ends _ _ a.repetition field))) in
+      inside_either m from to ends (fixed a.segment a.field) (unsplit (field_at m a) a) (subcomponent_at m a)
+      (inside_either m from to ends (leb a.repetition 1 && (leb a.component 1 && leb a.subcomponent 1)) (field_at m a) Absent field tt)
+      (inside_below m from to ends _ _ a.subcomponent (inside_below m from to ends _ _ a.component (inside_below m from to ends _ _ a.repetition field))) in
       subst (Inside m from to) p all
 
 -- as C sees both: from the segment's start up to its end, where a lookup is not refused and does not find its element absent
@@ -110,19 +110,19 @@ pub found_inside : (m : List ℕ) (a : Address) → (found m a).answer.kind ≡ 
 found_inside m a n there = at (segment_at m a.segment) refl (element_at m a) refl
   where
     read : reading m ≡ Passes
-    read = ((found-exactly m a).0 n).0
+    read = ((found_exactly m a).0 n).0
 
-    below-count : a.segment < length (segments m)
-    below-count = ((found-exactly m a).0 n).2
+    below_count : a.segment < length (segments m)
+    below_count = ((found_exactly m a).0 n).2
 
     at : (g : Part) → segment_at m a.segment ≡ g → (p : Part) → element_at m a ≡ p
         → ((segment_found m a.segment).start ≤ (found m a).element.start) × ((found m a).element.start ≤ (found m a).element.end) × ((found m a).element.end ≤ (segment_found m a.segment).end)
-    at Absent q p e = let l = segment_past m a.segment q in let b = below-count in absurd (omega arith)
-    at (At from to) q Absent e = absurd (there ((absent-nowhere m a n).1 e))
+    at Absent q p e = let l = segment_past m a.segment q in let b = below_count in absurd (omega arith)
+    at (At from to) q Absent e = absurd (there ((absent_nowhere m a n).1 e))
     at (At from to) q (At s t) e =
-        let i = inside-segment m read from to a s t q e in
+        let i = inside_segment m read from to a s t q e in
         let place = place_at m a n s t e in
-        let f = asked-there m a.segment from to read q in
+        let f = asked_there m a.segment from to read q in
         let start : from ≡ (segment_found m a.segment).start = ap (λ (x : SegmentFound). x.start) f in
         let end : to ≡ (segment_found m a.segment).end = ap (λ (x : SegmentFound). x.end) f in
         let p0 = place.0 in

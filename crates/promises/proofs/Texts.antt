@@ -36,13 +36,13 @@ module _ (field component repetition escape subcomponent : ℕ) where
   )
 
   -- "Escaping writes the five delimiters by letter"
-  pub delimiter-written : first_wrong_delimiter ds ≡ 5 → {l b : ℕ} → Letter field component repetition escape subcomponent l b → escape_byte ds b ≡ escape ∷ l ∷ escape ∷ []
-  delimiter-written fine r = Rows.row_written field component repetition escape subcomponent fine r
+  pub delimiter_written : first_wrong_delimiter ds ≡ 5 → {l b : ℕ} → Letter field component repetition escape subcomponent l b → escape_byte ds b ≡ escape ∷ l ∷ escape ∷ []
+  delimiter_written fine r = Rows.row_written field component repetition escape subcomponent fine r
 
   -- "Escaping writes the five delimiters by letter, every byte that isn't allowed and CR as its own `\Xhh\` with capital digits, the rest plainly. House: text that
   -- is exactly two quotes is written `\X2222\`, so that it isn't null.": what is written is what these rules write, and nothing else
-  pub writes-exactly : first_wrong_delimiter ds ≡ 5 → (t w : List ℕ) → AreBytes t → Writes field component repetition escape subcomponent t w ↔ (Text.escape ds t ≡ w)
-  writes-exactly fine t w small = (
+  pub writes_exactly : first_wrong_delimiter ds ≡ 5 → (t w : List ℕ) → AreBytes t → Writes field component repetition escape subcomponent t w ↔ (Text.escape ds t ≡ w)
+  writes_exactly fine t w small = (
     Writing.writes_is field component repetition escape subcomponent fine small,
-    λ e. subst (Writes field component repetition escape subcomponent t) e (Writing.escape-writes field component repetition escape subcomponent fine t small),
+    λ e. subst (Writes field component repetition escape subcomponent t) e (Writing.escape_writes field component repetition escape subcomponent fine t small),
   )

@@ -65,15 +65,15 @@ pub record Carries (m time id w : List ℕ) : Type 0 where
   pub reads_back : reading w ≡ Passes
   -- "fits the ACK structure": its type is ACK's, that structure yields its names, and the structure judge accepts it
   pub is_ack : structure_for built_in w ≡ chosen ackListed
-  pub yields-ack : Judged ack (segment_names w) (plain None 0)
-  pub fits-ack : Answers w (plain None 0)
+  pub yields_ack : Judged ack (segment_names w) (plain None 0)
+  pub fits_ack : Answers w (plain None 0)
   -- "MSH", "Then MSA", and by W4 "an ERR segment after MSA when we answer AE or AR": with AA these two segments, else
   -- these three; MSH of twelve parts, MSA of three
   pub two_segments : raw_bytes w (in_answer 1) ≡ ascii "AA" → segment_names w ≡ name "MSH" ∷ name "MSA" ∷ []
-  pub three-segments : (raw_bytes w (in_answer 1) ≡ ascii "AA" → ⊥)
+  pub three_segments : (raw_bytes w (in_answer 1) ≡ ascii "AA" → ⊥)
       → segment_names w ≡ name "MSH" ∷ name "MSA" ∷ name "ERR" ∷ []
-  pub header-parts : length (split (field_separator w) (get_or (segments w) 0 [])) ≡ 12
-  pub answer-parts : length (split (field_separator w) (get_or (segments w) 1 [])) ≡ 3
+  pub header_parts : length (split (field_separator w) (get_or (segments w) 0 [])) ≡ 12
+  pub answer_parts : length (split (field_separator w) (get_or (segments w) 1 [])) ≡ 3
   -- "and carries the sender's own control ID": MSA-2 is the sender's MSH-10
   pub control_id : raw_bytes w (in_answer 2) ≡ raw_bytes m (inHeader 10)
   -- and the sender has one: "MSH-10, the whole field, not present or over 199 bytes" is 9
@@ -100,7 +100,7 @@ pub record Carries (m time id w : List ℕ) : Type 0 where
   pub processing : raw_bytes w (inHeader 11) ≡ raw_bytes m (inHeader 11)
   pub version : raw_bytes w (inHeader 12) ≡ ascii "2.4"
   -- "Code AA exactly when reading, structure and fields all accept"
-  pub accepted-exactly : (raw_bytes w (in_answer 1) ≡ ascii "AA") ↔ Accepts m
+  pub accepted_exactly : (raw_bytes w (in_answer 1) ≡ ascii "AA") ↔ Accepts m
   -- document 02, W2: "an unsupported type (20), or MSH-11 or MSH-12 outside its list (33), is AR", where that is the
   -- first fault
   pub rejected_exactly : (raw_bytes w (in_answer 1) ≡ ascii "AR") ↔ Rejected m
@@ -122,7 +122,7 @@ pub data Unacknowledgeable (m : List ℕ) : Type 0 where
   -- "or has fault 1 to 4 itself"
   unsound : (Opened (header m) → ⊥) → Unacknowledgeable m
   -- "type ACK"
-  of_type-ack : raw_bytes (header m) (type_address 1) ≡ ascii "ACK" → Unacknowledgeable m
+  of_type_ack : raw_bytes (header m) (type_address 1) ≡ ascii "ACK" → Unacknowledgeable m
   -- "MSH-10, the whole field, not present or over 199 bytes"
   no_control_id : (state_of (delimiters_of (header m)) (raw_bytes (header m) (inHeader 10)) ≡ Present → ⊥) → Unacknowledgeable m
   long_control_id : id_limit < length (raw_bytes (header m) (inHeader 10)) → Unacknowledgeable m

@@ -16,95 +16,95 @@ use Rattle.alphabet.specs.declared.parts.Part.{Part}
 use Rattle.alphabet.specs.declared.parts.Part.TheVariants.{At, Absent}
 use Rattle.alphabet.specs.declared.parts.Start.{Start}
 use Rattle.alphabet.specs.declared.parts.Start.TheVariants.{From, Missing}
-use Rattle.alphabet.proofs.ListLaws.{first-least}
-use Rattle.alphabet.proofs.PartLaws.{split_walk, split-last, split-cons, split-some, join-split, joined_end, standing-absent, absent_past, part_bytes_lem, part_end}
+use Rattle.alphabet.proofs.ListLaws.{first_least}
+use Rattle.alphabet.proofs.PartLaws.{split_walk, split_last, split_cons, split_some, join_split, joined_end, standing_absent, absent_past, part_bytes_lem, part_end}
 use Rattle.reading.specs.Segments.{all_but_last, segments, segment_at}
 use Rattle.reading.specs.Reading.{segment_check, segment_checks}
 use Rattle.reading.specs.Message.{ended}
 
 -- ---- all but the last of some parts
 
-pub but_last-cons : (p : List ℕ) (ps : List (List ℕ)) → 1 ≤ length ps → all_but_last (p ∷ ps) ≡ p ∷ all_but_last ps
+pub but_last_cons : (p : List ℕ) (ps : List (List ℕ)) → 1 ≤ length ps → all_but_last (p ∷ ps) ≡ p ∷ all_but_last ps
 unfolding all_but_last
-but_last-cons p [] h = absurd (omega arith)
-but_last-cons p (q ∷ ps) h = refl
+but_last_cons p [] h = absurd (omega arith)
+but_last_cons p (q ∷ ps) h = refl
 
 but_last_one : (p : List ℕ) → all_but_last (p ∷ []) ≡ []
 unfolding all_but_last
 but_last_one p = refl
 
-but_last-length : (p : List ℕ) (ps : List (List ℕ)) → length (all_but_last (p ∷ ps)) ≡ length ps
-but_last-length p [] = ap length (but_last_one p)
-but_last-length p (q ∷ ps) = ap length (but_last-cons p (q ∷ ps) (omega arith)) ∙ ap suc (but_last-length q ps)
+but_last_length : (p : List ℕ) (ps : List (List ℕ)) → length (all_but_last (p ∷ ps)) ≡ length ps
+but_last_length p [] = ap length (but_last_one p)
+but_last_length p (q ∷ ps) = ap length (but_last_cons p (q ∷ ps) (omega arith)) ∙ ap suc (but_last_length q ps)
 
 -- a part that is not the last stands where it stood
-but_last-standing : (at : ℕ) (ps : List (List ℕ)) (k : ℕ) → k + 1 < length ps → standing at (all_but_last ps) k ≡ standing at ps k
+but_last_standing : (at : ℕ) (ps : List (List ℕ)) (k : ℕ) → k + 1 < length ps → standing at (all_but_last ps) k ≡ standing at ps k
 unfolding standing
-but_last-standing at [] k h = absurd (omega arith)
-but_last-standing at (p ∷ []) k h = absurd (omega arith)
-but_last-standing at (p ∷ q ∷ ps) zero h = rw (but_last-cons p (q ∷ ps) (omega arith))
-but_last-standing at (p ∷ q ∷ ps) (suc k) h =
-    rw (but_last-cons p (q ∷ ps) (omega arith)) (but_last-standing (at + length p + 1) (q ∷ ps) k (omega arith))
+but_last_standing at [] k h = absurd (omega arith)
+but_last_standing at (p ∷ []) k h = absurd (omega arith)
+but_last_standing at (p ∷ q ∷ ps) zero h = rw (but_last_cons p (q ∷ ps) (omega arith))
+but_last_standing at (p ∷ q ∷ ps) (suc k) h =
+    rw (but_last_cons p (q ∷ ps) (omega arith)) (but_last_standing (at + length p + 1) (q ∷ ps) k (omega arith))
 
-but_last-absent : (at : ℕ) (ps : List (List ℕ)) (k : ℕ) → 1 ≤ length ps → length ps ≤ k + 1 → standing at (all_but_last ps) k ≡ Absent
-but_last-absent at [] k h l = absurd (omega arith)
-but_last-absent at (p ∷ ps) k h l = let n = but_last-length p ps in standing-absent at (all_but_last (p ∷ ps)) k (omega arith)
+but_last_absent : (at : ℕ) (ps : List (List ℕ)) (k : ℕ) → 1 ≤ length ps → length ps ≤ k + 1 → standing at (all_but_last ps) k ≡ Absent
+but_last_absent at [] k h l = absurd (omega arith)
+but_last_absent at (p ∷ ps) k h l = let n = but_last_length p ps in standing_absent at (all_but_last (p ∷ ps)) k (omega arith)
 
 -- ---- where segment k stands, from where part k stands
 
 module _ (m : List ℕ) (k : ℕ) where
-  segment-absent : part_at carriage_return m k ≡ Absent → segment_at m k ≡ Absent
+  segment_absent : part_at carriage_return m k ≡ Absent → segment_at m k ≡ Absent
   unfolding segment_at segments part_at
-  segment-absent q =
+  segment_absent q =
       let h = absent_past 0 (split carriage_return m) k q in
-      but_last-absent 0 (split carriage_return m) k (split-some carriage_return m) (omega arith)
+      but_last_absent 0 (split carriage_return m) k (split_some carriage_return m) (omega arith)
 
   module _ (s e : ℕ) (q : part_at carriage_return m k ≡ At s e) where
     -- what ends where the message ends is behind the last CR
-    segment-none : e ≡ length m → segment_at m k ≡ Absent
+    segment_none : e ≡ length m → segment_at m k ≡ Absent
     unfolding segment_at segments part_at
-    segment-none h =
-        let j = ap length (join-split carriage_return m) in
+    segment_none h =
+        let j = ap length (join_split carriage_return m) in
         let l : length (split carriage_return m) ≤ k + 1 =
         ⊎_elim
         (λ w. let a = w.0 in omega arith)
         (λ w. let b = w.1 in absurd (omega arith))
         (joined_end carriage_return 0 (split carriage_return m) k s e q) in
-        but_last-absent 0 (split carriage_return m) k (split-some carriage_return m) l
+        but_last_absent 0 (split carriage_return m) k (split_some carriage_return m) l
 
-    pub segment-some : (e ≡ length m → ⊥) → segment_at m k ≡ At s e
+    pub segment_some : (e ≡ length m → ⊥) → segment_at m k ≡ At s e
     unfolding segment_at segments part_at
-    segment-some h =
-        let j = ap length (join-split carriage_return m) in
+    segment_some h =
+        let j = ap length (join_split carriage_return m) in
         let l : k + 1 < length (split carriage_return m) =
         ⊎_elim
         (λ w. let b = w.1 in absurd (h (omega arith)))
         (λ w. w.0)
         (joined_end carriage_return 0 (split carriage_return m) k s e q) in
-        but_last-standing 0 (split carriage_return m) k l ∙ q
+        but_last_standing 0 (split carriage_return m) k l ∙ q
 
 -- whether a CR stands at `start` or behind: the last byte may tell
 module _ (m : List ℕ) (start : ℕ) where
   pub ended_past : length m ≤ start → false ≡ ltb (start + find carriage_return (drop start m)) (length m)
   ended_past h = sym (le-ltb (start + find carriage_return (drop start m)) (length m) (omega arith))
 
-  pub ended-last : start < length m → get_or m (length m - 1) 0 ≡ carriage_return → true ≡ ltb (start + find carriage_return (drop start m)) (length m)
-  ended-last h e =
+  pub ended_last : start < length m → get_or m (length m - 1) 0 ≡ carriage_return → true ≡ ltb (start + find carriage_return (drop start m)) (length m)
+  ended_last h e =
       let n = length-drop start m in
       let i = length m - 1 - start in
       let at : start + i ≡ length m - 1 = omega arith in
       let q = get_or-drop start m i 0 ∙ ap (λ (j : ℕ). get_or m j 0) at ∙ e in
-      let f = first-least (eqb carriage_return) (drop start m) i (omega arith) (eq-eqb carriage_return (get_or (drop start m) i 0) (sym q)) in
+      let f = first_least (eqb carriage_return) (drop start m) i (omega arith) (eq-eqb carriage_return (get_or (drop start m) i 0) (sym q)) in
       sym (lt-ltb (start + find carriage_return (drop start m)) (length m) (omega arith))
 
 -- from where part k begins, and so does the segment, if it is ended
-began-absent : (p : Part) → began p ≡ Missing → p ≡ Absent
-began-absent Absent e = refl
-began-absent (At a b) e = absurd (let z : ◌≡◌ {A = ℕ} 0 1 = cc in omega arith)
+began_absent : (p : Part) → began p ≡ Missing → p ≡ Absent
+began_absent Absent e = refl
+began_absent (At a b) e = absurd (let z : ◌≡◌ {A = ℕ} 0 1 = cc in omega arith)
 
 module _ (m : List ℕ) (k : ℕ) (line : Start) (q : line ≡ began (part_at carriage_return m k)) where
   pub start_none : line ≡ Missing → Missing ≡ began (segment_at m k)
-  start_none e = ap began (sym (segment-absent m k (began-absent (part_at carriage_return m k) (sym q ∙ e))))
+  start_none e = ap began (sym (segment_absent m k (began_absent (part_at carriage_return m k) (sym q ∙ e))))
 
   module _ (s : ℕ) (e : line ≡ From s) where
     stands : part_at carriage_return m k ≡ At s (s + find carriage_return (drop s m))
@@ -121,43 +121,43 @@ module _ (m : List ℕ) (k : ℕ) (line : Start) (q : line ≡ began (part_at ca
     start_open f =
         let n = ltb-false (s + find carriage_return (drop s m)) (length m) f in
         let l = (part_bytes_lem carriage_return m k s _ stands).2 in
-        ap began (sym (segment-none m k s _ stands (omega arith)))
+        ap began (sym (segment_none m k s _ stands (omega arith)))
 
-    pub start-ended : ltb (s + find carriage_return (drop s m)) (length m) ≡ true → From s ≡ began (segment_at m k)
-    start-ended f =
+    pub start_ended : ltb (s + find carriage_return (drop s m)) (length m) ≡ true → From s ≡ began (segment_at m k)
+    start_ended f =
         let n = ltb-true (s + find carriage_return (drop s m)) (length m) f in
-        ap began (sym (segment-some m k s _ stands (λ z. omega arith)))
+        ap began (sym (segment_some m k s _ stands (λ z. omega arith)))
 
 -- ---- what stands at segment k
 
 but_last_get : (ps : List (List ℕ)) (k : ℕ) → k + 1 < length ps → get_or (all_but_last ps) k [] ≡ get_or ps k []
 but_last_get [] k h = absurd (omega arith)
 but_last_get (p ∷ []) k h = absurd (omega arith)
-but_last_get (p ∷ q ∷ ps) zero h = ap (λ (l : List (List ℕ)). get_or l 0 []) (but_last-cons p (q ∷ ps) (omega arith))
+but_last_get (p ∷ q ∷ ps) zero h = ap (λ (l : List (List ℕ)). get_or l 0 []) (but_last_cons p (q ∷ ps) (omega arith))
 but_last_get (p ∷ q ∷ ps) (suc k) h =
-    ap (λ (l : List (List ℕ)). get_or l (suc k) []) (but_last-cons p (q ∷ ps) (omega arith)) ∙ but_last_get (q ∷ ps) k (omega arith)
+    ap (λ (l : List (List ℕ)). get_or l (suc k) []) (but_last_cons p (q ∷ ps) (omega arith)) ∙ but_last_get (q ∷ ps) k (omega arith)
 
 -- a segment stands where the part of its number stands, before the message's end
 pub segment_part : (m : List ℕ) (k s e : ℕ) → segment_at m k ≡ At s e → (part_at carriage_return m k ≡ At s e) × (e < length m)
 segment_part m k s e q = at (part_at carriage_return m k) refl
   where
     at : (p : Part) → part_at carriage_return m k ≡ p → (part_at carriage_return m k ≡ At s e) × (e < length m)
-    at Absent r = absurd (let n = segment-absent m k r in let z : ◌≡◌ {A = ℕ} 0 1 = cc in omega arith)
+    at Absent r = absurd (let n = segment_absent m k r in let z : ◌≡◌ {A = ℕ} 0 1 = cc in omega arith)
     at (At a b) r =
         let i = (part_bytes_lem carriage_return m k a b r).2 in
         by (eqb b (length m)) refl i
       where
         by : (t : Bool) → eqb b (length m) ≡ t → b ≤ length m → (part_at carriage_return m k ≡ At s e) × (e < length m)
-        by true f i = absurd (let n = segment-none m k a b r (eqb-true b (length m) f) in let z : ◌≡◌ {A = ℕ} 0 1 = cc in omega arith)
+        by true f i = absurd (let n = segment_none m k a b r (eqb-true b (length m) f) in let z : ◌≡◌ {A = ℕ} 0 1 = cc in omega arith)
         by false f i =
             let h = eqb-false b (length m) f in
-            let n = segment-some m k a b r h in
+            let n = segment_some m k a b r h in
             let g : b ≡ e = cc in
             (cc, omega arith)
 
 -- a segment ends at the first CR from its start on
-pub segment-stands : (m : List ℕ) (k : ℕ) → ended_by (eqb carriage_return) m (began (segment_at m k)) ≡ segment_at m k
-segment-stands m k = at (segment_at m k) refl
+pub segment_stands : (m : List ℕ) (k : ℕ) → ended_by (eqb carriage_return) m (began (segment_at m k)) ≡ segment_at m k
+segment_stands m k = at (segment_at m k) refl
   where
     at : (p : Part) → segment_at m k ≡ p → ended_by (eqb carriage_return) m (began p) ≡ p
     at Absent q = refl
@@ -167,22 +167,22 @@ segment-stands m k = at (segment_at m k) refl
 not_last : (m : List ℕ) (k s e : ℕ) → part_at carriage_return m k ≡ At s e → e < length m → k + 1 < length (split carriage_return m)
 unfolding part_at
 not_last m k s e q h =
-    let j = ap length (join-split carriage_return m) in
+    let j = ap length (join_split carriage_return m) in
     ⊎_elim (λ w. let b = w.1 in absurd (omega arith)) (λ w. w.0) (joined_end carriage_return 0 (split carriage_return m) k s e q)
 
-but_last-count : (ps : List (List ℕ)) → 1 ≤ length ps → length (all_but_last ps) + 1 ≡ length ps
-but_last-count [] h = absurd (omega arith)
-but_last-count (p ∷ ps) h = let n = but_last-length p ps in omega arith
+but_last_count : (ps : List (List ℕ)) → 1 ≤ length ps → length (all_but_last ps) + 1 ≡ length ps
+but_last_count [] h = absurd (omega arith)
+but_last_count (p ∷ ps) h = let n = but_last_length p ps in omega arith
 
 -- its bytes are the segment's
-pub segment-bytes : (m : List ℕ) (k s e : ℕ) → segment_at m k ≡ At s e → (k < length (segments m)) × (s ≤ e) × (e < length m) × (take (e - s) (drop s m) ≡ get_or (segments m) k [])
+pub segment_bytes : (m : List ℕ) (k s e : ℕ) → segment_at m k ≡ At s e → (k < length (segments m)) × (s ≤ e) × (e < length m) × (take (e - s) (drop s m) ≡ get_or (segments m) k [])
 unfolding segments
-segment-bytes m k s e q =
+segment_bytes m k s e q =
     let p = segment_part m k s e q in
     let l = p.1 in
     let b = part_bytes_lem carriage_return m k s e p.0 in
     let n = not_last m k s e p.0 l in
-    let c = but_last-count (split carriage_return m) (split-some carriage_return m) in
+    let c = but_last_count (split carriage_return m) (split_some carriage_return m) in
     (omega arith, b.1, l, b.3 ∙ sym (but_last_get (split carriage_return m) k n))
 
 -- past the last segment none stands
@@ -202,7 +202,7 @@ module _ (m : List ℕ) (start : ℕ) where
         let n = length-drop start m in
         let e : start + (end - start) + 1 ≡ end + 1 = omega arith in
         ap all_but_last (split_walk carriage_return m start (end - start) (omega arith) (omega arith))
-        ∙ but_last-cons (take (end - start) (drop start m)) (split carriage_return (drop (start + (end - start) + 1) m)) (split-some carriage_return (drop (start + (end - start) + 1) m))
+        ∙ but_last_cons (take (end - start) (drop start m)) (split carriage_return (drop (start + (end - start) + 1) m)) (split_some carriage_return (drop (start + (end - start) + 1) m))
         ∙ ap (λ (i : ℕ). take (end - start) (drop start m) ∷ all_but_last (split carriage_return (drop i m))) e
 
     pub checks_walk : (sep k : ℕ)
@@ -215,21 +215,21 @@ module _ (m : List ℕ) (start : ℕ) where
         rw segments_walk
         (ap (λ (i : ℕ). segment_check sep k start (take (end - start) (drop start m)) ∷ segment_checks sep (k + 1) i (all_but_last (split carriage_return (drop (end + 1) m)))) e)
 
-  pub segments-over : length m ≤ start + find carriage_return (drop start m) → all_but_last (split carriage_return (drop start m)) ≡ []
-  segments-over h =
+  pub segments_over : length m ≤ start + find carriage_return (drop start m) → all_but_last (split carriage_return (drop start m)) ≡ []
+  segments_over h =
       let n = length-drop start m in
-      ap all_but_last (split-last carriage_return (drop start m) (omega arith)) ∙ but_last_one (drop start m)
+      ap all_but_last (split_last carriage_return (drop start m) (omega arith)) ∙ but_last_one (drop start m)
 
   pub checks_over : (sep k : ℕ) → length m ≤ start + find carriage_return (drop start m) → segment_checks sep k start (all_but_last (split carriage_return (drop start m))) ≡ []
   unfolding segment_checks
-  checks_over sep k h = rw (segments-over h)
+  checks_over sep k h = rw (segments_over h)
 
 -- ---- segments one after another, each ended by CR and with none inside, are the segments
 
-pub segments-ended : (ss : List (List ℕ)) → ((k : ℕ) → k < length ss → find carriage_return (get_or ss k []) ≡ length (get_or ss k [])) → segments (ended ss) ≡ ss
+pub segments_ended : (ss : List (List ℕ)) → ((k : ℕ) → k < length ss → find carriage_return (get_or ss k []) ≡ length (get_or ss k [])) → segments (ended ss) ≡ ss
 unfolding segments ended split
-segments-ended [] h = but_last_one []
-segments-ended (s ∷ ss) h =
-    ap all_but_last (split-cons carriage_return s (ended ss) (h 0 (omega arith)))
-    ∙ but_last-cons s (split carriage_return (ended ss)) (split-some carriage_return (ended ss))
-    ∙ ap (λ (l : List (List ℕ)). s ∷ l) (segments-ended ss (λ k l. h (suc k) (omega arith)))
+segments_ended [] h = but_last_one []
+segments_ended (s ∷ ss) h =
+    ap all_but_last (split_cons carriage_return s (ended ss) (h 0 (omega arith)))
+    ∙ but_last_cons s (split carriage_return (ended ss)) (split_some carriage_return (ended ss))
+    ∙ ap (λ (l : List (List ℕ)). s ∷ l) (segments_ended ss (λ k l. h (suc k) (omega arith)))

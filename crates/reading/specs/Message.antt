@@ -16,22 +16,22 @@ pub record Opened (m : List ℕ) : Type 0 where
   pub some_bytes : 1 ≤ length m
   pub most_bytes : length m ≤ message_limit
   -- "Bytes 0 to 2 are `MSH`." "Byte 8 is the field separator or CR."
-  pub nine-bytes : 9 ≤ length m
+  pub nine_bytes : 9 ≤ length m
   pub header : is_header m ≡ true
-  pub byte-eight : (eqb (get_or m 8 0) (field_separator m) || eqb (get_or m 8 0) carriage_return) ≡ true
+  pub byte_eight : (eqb (get_or m 8 0) (field_separator m) || eqb (get_or m 8 0) carriage_return) ≡ true
   -- "the five differ", and each is permitted: none of them is wrong
   pub delimiters_right : first_wrong_delimiter (delimiters_of m) ≡ 5
   -- "Allowed bytes"
-  pub all-allowed : (i : ℕ) → i < length m → allowed (get_or m i 0) ≡ true
+  pub all_allowed : (i : ℕ) → i < length m → allowed (get_or m i 0) ≡ true
 
 -- what all checks ask
 pub record Message (m : List ℕ) : Type 0 where
   pub opened : Opened m
   -- "Each segment, the last included, ends with CR"
-  pub all-ended : ended (segments m) ≡ m
+  pub all_ended : ended (segments m) ≡ m
   -- "and 1 to 4,096 segments"
-  pub some-segments : 1 ≤ length (segments m)
-  pub most-segments : length (segments m) ≤ segment_limit
+  pub some_segments : 1 ≤ length (segments m)
+  pub most_segments : length (segments m) ≤ segment_limit
   -- each segment has a good name
   pub all_named : (k : ℕ) → k < length (segments m) → named (field_separator m) (get_or (segments m) k []) ≡ true
   -- exactly one is MSH, the first: `header` says it of the first

@@ -17,103 +17,103 @@ use Rattle.alphabet.specs.Parts.{split}
 use Rattle.alphabet.specs.declared.answers.Check.{Check}
 use Rattle.alphabet.specs.declared.answers.Check.TheVariants.{Passes, Fails}
 use Rattle.alphabet.specs.declared.answers.Refusal.TheVariants.{BreaksForm}
-use Rattle.alphabet.proofs.BoolLaws.{false-true, and_both, both_and, neither_or, from_to_lem}
+use Rattle.alphabet.proofs.BoolLaws.{false_true, and_both, both_and, neither_or, from_to_lem}
 use Rattle.alphabet.proofs.ListLaws.{find_is, same_is}
 use Rattle.alphabet.proofs.NullLaws.{other_quotes}
-use Rattle.alphabet.proofs.PartLaws.{split-last}
+use Rattle.alphabet.proofs.PartLaws.{split_last}
 use Rattle.element.specs.States.{blank, state_of}
 use Rattle.element.specs.declared.states.State.TheVariants.{Present}
-use Rattle.element.proofs.StateLaws.{state-present}
+use Rattle.element.proofs.StateLaws.{state_present}
 use Rattle.field_table.specs.Table.{values_of, member}
 use Rattle.field_table.specs.declared.Kind.TheVariants.{Any, Ts, Nm, Dt, Tm}
 use Rattle.field_table.specs.declared.Values.{Values}
 use Rattle.field_table.specs.declared.Values.TheVariants.{Processing, Version, Sex, ValueTypes, Statuses, Codes}
-use Rattle.field_table.proofs.TableLaws.{member_past, member-none}
+use Rattle.field_table.proofs.TableLaws.{member_past, member_none}
 use Rattle.forms.specs.Forms.{dt_form, body_of, zone_of, time_form}
 use Rattle.forms.specs.declared.layouts.Form.{Form}
-use Rattle.forms.proofs.FormLaws.{front-digits, tail_holds, zone_held}
+use Rattle.forms.proofs.FormLaws.{front_digits, tail_holds, zone_held}
 use Rattle.numbers.specs.Numbers.{is_sign, unsigned, some_digits, nm_form, nm_check, is_si}
-use Rattle.numbers.proofs.NumberLaws.{unsigned-drop, unsigned-same, nm_form_lem, nm-before, nm-fraction, si-digits}
+use Rattle.numbers.proofs.NumberLaws.{unsigned_drop, unsigned_same, nm_form_lem, nm_before, nm_fraction, si_digits}
 use Rattle.times.specs.Times.{is_dt, is_time, is_tm, is_ts}
-use Rattle.times.proofs.TimeLaws.{dt_formed, dt-digits, time_formed}
+use Rattle.times.proofs.TimeLaws.{dt_formed, dt_digits, time_formed}
 use Rattle.rules.specs.Plain.{Permitted, plain_byte, all_plain, Plain}
 use Rattle.rules.specs.Rules.{form_check, passing, judged_part, kind_said, is_any}
-use Rattle.rules.proofs.RuleLaws.{passing-not}
+use Rattle.rules.proofs.RuleLaws.{passing_not}
 
 -- ---- no delimiter stands among plain bytes
 
 differs : (d b : ℕ) → permitted d ≡ true → plain_byte b ≡ true → d ≡ b → ⊥
 differs d b p e q =
     let n = not-true (permitted b) (and_both (not (permitted b)) (not (eqb b 34)) e).0 in
-    false-true (sym n ∙ ap permitted (sym q) ∙ p)
+    false_true (sym n ∙ ap permitted (sym q) ∙ p)
 
-find-plain : (d : ℕ) (l : List ℕ) → permitted d ≡ true → all_plain l ≡ true → find d l ≡ length l
+find_plain : (d : ℕ) (l : List ℕ) → permitted d ≡ true → all_plain l ≡ true → find d l ≡ length l
 unfolding first all_plain
-find-plain d [] p e = refl
-find-plain d (b ∷ r) p e =
+find_plain d [] p e = refl
+find_plain d (b ∷ r) p e =
     let w = and_both (plain_byte b) (all_plain r) e in
-    rw (ne_eqb d b (differs d b p w.0)) (ap suc (find-plain d r p w.1))
+    rw (ne_eqb d b (differs d b p w.0)) (ap suc (find_plain d r p w.1))
 
 pub split_plain : (d : ℕ) (l : List ℕ) → permitted d ≡ true → all_plain l ≡ true → split d l ≡ l ∷ []
-split_plain d l p e = let f = find-plain d l p e in split-last d l (omega arith)
+split_plain d l p e = let f = find_plain d l p e in split_last d l (omega arith)
 
 -- ---- they are present
 
 -- whatever begins with a byte that is neither a quote nor a separator is present
-pub present-begins : (ds : List ℕ) (b : ℕ) (r : List ℕ) → eqb b 34 ≡ false → blank ds b ≡ false → state_of ds (b ∷ r) ≡ Present
+pub present_begins : (ds : List ℕ) (b : ℕ) (r : List ℕ) → eqb b 34 ≡ false → blank ds b ≡ false → state_of ds (b ∷ r) ≡ Present
 unfolding first
-present-begins ds b r q e =
-    state-present ds (b ∷ r)
-    (other_quotes (b ∷ r) (λ s. false-true (sym q ∙ ap (λ (l : List ℕ). eqb (get_or l 0 0) 34) s)))
+present_begins ds b r q e =
+    state_present ds (b ∷ r)
+    (other_quotes (b ∷ r) (λ s. false_true (sym q ∙ ap (λ (l : List ℕ). eqb (get_or l 0 0) 34) s)))
     (rw e (ne_eqb 0 (suc (length r)) (λ z. omega arith)))
 
 module _ (ds : List ℕ) (permits : Permitted ds) where
-  not-blank : (b : ℕ) → plain_byte b ≡ true → blank ds b ≡ false
-  not-blank b e =
+  not_blank : (b : ℕ) → plain_byte b ≡ true → blank ds b ≡ false
+  not_blank b e =
       neither_or (ne_eqb b (get_or ds 1 0) (λ q. differs _ b (permits 1 (omega arith)) e (sym q)))
       (neither_or (ne_eqb b (get_or ds 2 0) (λ q. differs _ b (permits 2 (omega arith)) e (sym q)))
       (ne_eqb b (get_or ds 4 0) (λ q. differs _ b (permits 4 (omega arith)) e (sym q))))
 
-  pub present-plain : (l : List ℕ) → Plain l → state_of ds l ≡ Present
+  pub present_plain : (l : List ℕ) → Plain l → state_of ds l ≡ Present
   unfolding all_plain
-  present-plain [] p = let n = p.0 in absurd (omega arith)
-  present-plain (b ∷ r) p =
+  present_plain [] p = let n = p.0 in absurd (omega arith)
+  present_plain (b ∷ r) p =
       let w = (and_both (plain_byte b) (all_plain r) p.1).0 in
-      present-begins ds b r (not-true (eqb b 34) (and_both (not (permitted b)) (not (eqb b 34)) w).1) (not-blank b w)
+      present_begins ds b r (not-true (eqb b 34) (and_both (not (permitted b)) (not (eqb b 34)) w).1) (not_blank b w)
 
   -- component 1 is the whole
-  pub judged-plain : (l : List ℕ) → all_plain l ≡ true → (component : ℕ) → component ≤ 1 → judged_part ds component l ≡ l
+  pub judged_plain : (l : List ℕ) → all_plain l ≡ true → (component : ℕ) → component ≤ 1 → judged_part ds component l ≡ l
   unfolding judged_part
-  judged-plain l e zero h = refl
-  judged-plain l e (suc zero) h = ap (λ (ps : List (List ℕ)). get_or ps 0 []) (split_plain (get_or ds 1 0) l (permits 1 (omega arith)) e)
-  judged-plain l e (suc (suc k)) h = absurd (omega arith)
+  judged_plain l e zero h = refl
+  judged_plain l e (suc zero) h = ap (λ (ps : List (List ℕ)). get_or ps 0 []) (split_plain (get_or ds 1 0) l (permits 1 (omega arith)) e)
+  judged_plain l e (suc (suc k)) h = absurd (omega arith)
 
 -- ---- plain bytes put together
 
-parts-plain : (n : ℕ) (l : List ℕ) → all_plain (take n l) ≡ true → all_plain (drop n l) ≡ true → all_plain l ≡ true
+parts_plain : (n : ℕ) (l : List ℕ) → all_plain (take n l) ≡ true → all_plain (drop n l) ≡ true → all_plain l ≡ true
 unfolding all_plain
-parts-plain zero l a b = b
-parts-plain (suc n) [] a b = refl
-parts-plain (suc n) (x ∷ r) a b =
+parts_plain zero l a b = b
+parts_plain (suc n) [] a b = refl
+parts_plain (suc n) (x ∷ r) a b =
     let w = and_both (plain_byte x) (all_plain (take n r)) a in
-    both_and w.0 (parts-plain n r w.1 b)
+    both_and w.0 (parts_plain n r w.1 b)
 
-headed-plain : (l : List ℕ) → ((length l ≡ 0 → ⊥) → plain_byte (get_or l 0 0) ≡ true) → all_plain (drop 1 l) ≡ true → all_plain l ≡ true
+headed_plain : (l : List ℕ) → ((length l ≡ 0 → ⊥) → plain_byte (get_or l 0 0) ≡ true) → all_plain (drop 1 l) ≡ true → all_plain l ≡ true
 unfolding all_plain
-headed-plain [] h e = refl
-headed-plain (b ∷ r) h e = both_and (h (λ z. omega arith)) e
+headed_plain [] h e = refl
+headed_plain (b ∷ r) h e = both_and (h (λ z. omega arith)) e
 
-digit-plain : (b : ℕ) → digit b ≡ true → plain_byte b ≡ true
-digit-plain b e =
+digit_plain : (b : ℕ) → digit b ≡ true → plain_byte b ≡ true
+digit_plain b e =
     let d = from_to_lem 48 57 b e in
     let lo = d.0 in
     let hi = d.1 in
     rw (le-leb 33 b (omega arith), lt-leb b 47 (omega arith), lt-leb 58 b (omega arith), lt-leb 91 b (omega arith), lt-leb 123 b (omega arith), ne_eqb b 34 (λ q. omega arith))
 
-digits-plain : (l : List ℕ) → all_digits l ≡ true → all_plain l ≡ true
+digits_plain : (l : List ℕ) → all_digits l ≡ true → all_plain l ≡ true
 unfolding all_digits all_plain
-digits-plain [] e = refl
-digits-plain (b ∷ r) e = let w = and_both (digit b) (all_digits r) e in both_and (digit-plain b w.0) (digits-plain r w.1)
+digits_plain [] e = refl
+digits_plain (b ∷ r) e = let w = and_both (digit b) (all_digits r) e in both_and (digit_plain b w.0) (digits_plain r w.1)
 
 -- what is left of a list from the place of a byte on, if anything is, begins with that byte
 begins : (b : ℕ) (l : List ℕ) (p : ℕ) → p ≡ find b l → (length (drop p l) ≡ 0 → ⊥) → get_or (drop p l) 0 0 ≡ b
@@ -129,19 +129,19 @@ begins b l p e h =
 
 -- ---- numbers
 
-pub si-plain : (l : List ℕ) → is_si l ≡ true → Plain l
+pub si_plain : (l : List ℕ) → is_si l ≡ true → Plain l
 unfolding is_si
-si-plain l e =
-    (leb-true 1 (length l) (and_both (leb 1 (length l)) (all_digits l) (and_both (some_digits l) (leb (length l) 4) e).0).0, digits-plain l (si-digits l e).0)
+si_plain l e =
+    (leb-true 1 (length l) (and_both (leb 1 (length l)) (all_digits l) (and_both (some_digits l) (leb (length l) 4) e).0).0, digits_plain l (si_digits l e).0)
 
 -- digits with a point between them
-pointed-plain : (l : List ℕ) → all_digits (take (find 46 l) l) ≡ true → all_digits (drop 1 (drop (find 46 l) l)) ≡ true → all_plain l ≡ true
-pointed-plain l a b =
-    parts-plain (find 46 l) l (digits-plain _ a)
-    (headed-plain (drop (find 46 l) l) (λ h. ap plain_byte (begins 46 l (find 46 l) refl h)) (digits-plain _ b))
+pointed_plain : (l : List ℕ) → all_digits (take (find 46 l) l) ≡ true → all_digits (drop 1 (drop (find 46 l) l)) ≡ true → all_plain l ≡ true
+pointed_plain l a b =
+    parts_plain (find 46 l) l (digits_plain _ a)
+    (headed_plain (drop (find 46 l) l) (λ h. ap plain_byte (begins 46 l (find 46 l) refl h)) (digits_plain _ b))
 
-unsigned-plain : (l : List ℕ) → all_plain (unsigned l) ≡ true → all_plain l ≡ true
-unsigned-plain l e = at (is_sign (get_or l 0 0)) refl
+unsigned_plain : (l : List ℕ) → all_plain (unsigned l) ≡ true → all_plain l ≡ true
+unsigned_plain l e = at (is_sign (get_or l 0 0)) refl
   where
     signs : (b : ℕ) → is_sign b ≡ true → plain_byte b ≡ true
     signs b q = by (eqb b 43) refl q
@@ -151,35 +151,35 @@ unsigned-plain l e = at (is_sign (get_or l 0 0)) refl
         by false x q = ap plain_byte (eqb-true b 45 q)
 
     at : (t : Bool) → is_sign (get_or l 0 0) ≡ t → all_plain l ≡ true
-    at true q = headed-plain l (λ h. signs (get_or l 0 0) q) (ap all_plain (sym (unsigned-drop l q)) ∙ e)
-    at false q = ap all_plain (sym (unsigned-same l q)) ∙ e
+    at true q = headed_plain l (λ h. signs (get_or l 0 0) q) (ap all_plain (sym (unsigned_drop l q)) ∙ e)
+    at false q = ap all_plain (sym (unsigned_same l q)) ∙ e
 
-nm-some : (l : List ℕ) → nm_form l ≡ true → 1 ≤ length l
+nm_some : (l : List ℕ) → nm_form l ≡ true → 1 ≤ length l
 unfolding nm_form unsigned first
-nm-some [] e = absurd (false-true e)
-nm-some (b ∷ r) e = omega arith
+nm_some [] e = absurd (false_true e)
+nm_some (b ∷ r) e = omega arith
 
-pub nm-plain : (l : List ℕ) → nm_check l ≡ Passes → Plain l
-nm-plain l e = (
-  nm-some l (nm_form_lem l e),
-  unsigned-plain l
-      (pointed-plain (unsigned l) (nm-before l e) (ap all_digits (drop-drop 1 (find 46 (unsigned l)) (unsigned l)) ∙ nm-fraction l e)),
+pub nm_plain : (l : List ℕ) → nm_check l ≡ Passes → Plain l
+nm_plain l e = (
+  nm_some l (nm_form_lem l e),
+  unsigned_plain l
+      (pointed_plain (unsigned l) (nm_before l e) (ap all_digits (drop-drop 1 (find 46 (unsigned l)) (unsigned l)) ∙ nm_fraction l e)),
 )
 
 -- ---- times
 
-dt-some : (l : List ℕ) → dt_form l ≡ true → 1 ≤ length l
+dt_some : (l : List ℕ) → dt_form l ≡ true → 1 ≤ length l
 unfolding dt_form all_digits
-dt-some [] e = absurd (false-true e)
-dt-some (b ∷ r) e = omega arith
+dt_some [] e = absurd (false_true e)
+dt_some (b ∷ r) e = omega arith
 
-pub dt-plain : (l : List ℕ) → is_dt l ≡ true → Plain l
-dt-plain l e = (dt-some l (dt_formed l e), digits-plain l (dt-digits l e))
+pub dt_plain : (l : List ℕ) → is_dt l ≡ true → Plain l
+dt_plain l e = (dt_some l (dt_formed l e), digits_plain l (dt_digits l e))
 
 time_some : (form : Form) (l : List ℕ) → time_form form l ≡ true → 1 ≤ length l
 unfolding time_form first all_digits
-time_some Form.Tm [] e = absurd (false-true e)
-time_some Form.Ts [] e = absurd (false-true e)
+time_some Form.Tm [] e = absurd (false_true e)
+time_some Form.Ts [] e = absurd (false_true e)
 time_some form (b ∷ r) e = omega arith
 
 -- a zone begins with its sign
@@ -194,8 +194,8 @@ pub time_plain : (form : Form) (l : List ℕ) → is_time form l ≡ true → Pl
 time_plain form l e =
     let f = time_formed form l e in (
       time_some form l f,
-      parts-plain (min (find 43 l) (find 45 l)) l (pointed-plain (body_of l) (front-digits form l f) (tail_holds form l f).0)
-          (headed-plain (zone_of l) (zone_begins l) (digits-plain _ (zone_held form l f).0)),
+      parts_plain (min (find 43 l) (find 45 l)) l (pointed_plain (body_of l) (front_digits form l f) (tail_holds form l f).0)
+          (headed_plain (zone_of l) (zone_begins l) (digits_plain _ (zone_held form l f).0)),
     )
 
 -- ---- values of a list
@@ -204,9 +204,9 @@ abbrev every_plain : List (List ℕ) → Bool
 every_plain [] = true
 every_plain (v ∷ vs) = (leb 1 (length v) && all_plain v) && every_plain vs
 
-member-plain : (l : List ℕ) (vs : List (List ℕ)) → every_plain vs ≡ true → member l vs ≡ true → Plain l
-member-plain l [] a e = absurd (false-true (sym (member-none l) ∙ e))
-member-plain l (v ∷ vs) a e = at (same l v) refl (member-plain l vs w.1)
+member_plain : (l : List ℕ) (vs : List (List ℕ)) → every_plain vs ≡ true → member l vs ≡ true → Plain l
+member_plain l [] a e = absurd (false_true (sym (member_none l) ∙ e))
+member_plain l (v ∷ vs) a e = at (same l v) refl (member_plain l vs w.1)
   where
     w : ((leb 1 (length v) && all_plain v) ≡ true) × (every_plain vs ≡ true)
     w = and_both (leb 1 (length v) && all_plain v) (every_plain vs) a
@@ -227,23 +227,23 @@ values_plain Statuses = refl
 values_plain Codes = refl
 
 pub listed_plain : (values : Values) (l : List ℕ) → member l (values_of values) ≡ true → Plain l
-listed_plain values l e = member-plain l (values_of values) (values_plain values) e
+listed_plain values l e = member_plain l (values_of values) (values_plain values) e
 
 -- ---- the types that another field can say
 
 module _ (l : List ℕ) where
   check_plain : (c : Check) → passing c ≡ true → c ≡ Passes
   check_plain Passes e = refl
-  check_plain (Fails kind place) e = absurd (false-true e)
+  check_plain (Fails kind place) e = absurd (false_true e)
 
   kinds_plain : (a b c d : Bool) → is_any (cond a Nm (cond b Dt (cond c Tm (cond d Ts Any)))) ≡ false → passing (form_check (cond a Nm (cond b Dt (cond c Tm (cond d Ts Any)))) l) ≡ true → Plain l
   unfolding form_check
-  kinds_plain true b c d n e = nm-plain l (check_plain (nm_check l) e)
-  kinds_plain false true c d n e = dt-plain l (sym (passing-not (is_dt l) BreaksForm 0) ∙ e)
-  kinds_plain false false true d n e = time_plain Form.Tm l (sym (passing-not (is_tm l) BreaksForm 0) ∙ e)
-  kinds_plain false false false true n e = time_plain Form.Ts l (sym (passing-not (is_ts l) BreaksForm 0) ∙ e)
-  kinds_plain false false false false n e = absurd (false-true (sym n))
+  kinds_plain true b c d n e = nm_plain l (check_plain (nm_check l) e)
+  kinds_plain false true c d n e = dt_plain l (sym (passing_not (is_dt l) BreaksForm 0) ∙ e)
+  kinds_plain false false true d n e = time_plain Form.Tm l (sym (passing_not (is_tm l) BreaksForm 0) ∙ e)
+  kinds_plain false false false true n e = time_plain Form.Ts l (sym (passing_not (is_ts l) BreaksForm 0) ∙ e)
+  kinds_plain false false false false n e = absurd (false_true (sym n))
 
-  pub kind-plain : (said : List ℕ) → is_any (kind_said said) ≡ false → passing (form_check (kind_said said) l) ≡ true → Plain l
+  pub kind_plain : (said : List ℕ) → is_any (kind_said said) ≡ false → passing (form_check (kind_said said) l) ≡ true → Plain l
   unfolding kind_said
-  kind-plain said n e = kinds_plain (same said (ascii "NM")) (same said (ascii "DT")) (same said (ascii "TM")) (same said (ascii "TS")) n e
+  kind_plain said n e = kinds_plain (same said (ascii "NM")) (same said (ascii "DT")) (same said (ascii "TM")) (same said (ascii "TS")) n e

@@ -22,7 +22,7 @@ use Rattle.rules.specs.Rules.{form_check, passing, judged_part, placed, repetiti
 use Rattle.field_table.specs.declared.Kind.{Kind}
 use Rattle.field_table.specs.declared.Kind.TheVariants.{Any, Identifier, Ts, Si, Nm, Dt, Tm, OneOf, AsField}
 use Rattle.field_table.specs.declared.Row.{Row}
-use Rattle.alphabet.proofs.BoolLaws.{false-true}
+use Rattle.alphabet.proofs.BoolLaws.{false_true}
 use Rattle.alphabet.proofs.PartLaws.{first_part}
 
 -- ---- the part that is judged
@@ -48,48 +48,48 @@ module _ (ds : List ℕ) (r : List ℕ) where
 -- ---- whether a check passes
 
 -- a check that fails where a test does not hold
-pub passing-not : (t : Bool) (kind : Refusal) (place : ℕ) → passing (fails_if (not t) kind place) ≡ t
-passing-not true kind place = refl
-passing-not false kind place = refl
+pub passing_not : (t : Bool) (kind : Refusal) (place : ℕ) → passing (fails_if (not t) kind place) ≡ t
+passing_not true kind place = refl
+passing_not false kind place = refl
 
 -- a check that fails where more bytes stand than so many
-pub passing-most : (most n : ℕ) (kind : Refusal) (place : ℕ) → passing (fails_if (ltb most n) kind place) ≡ leb n most
-passing-most most n kind place = at (ltb most n) refl
+pub passing_most : (most n : ℕ) (kind : Refusal) (place : ℕ) → passing (fails_if (ltb most n) kind place) ≡ leb n most
+passing_most most n kind place = at (ltb most n) refl
   where
     at : (t : Bool) → ltb most n ≡ t → passing (fails_if t kind place) ≡ leb n most
     at true e = sym (lt-leb n most (ltb-true most n e))
     at false e = sym (le-leb n most (ltb-false most n e))
 
 -- and where it passes there is no fault to be placed
-pub passing-placed : (number : ℕ) (c : Check) → passing c ≡ true → placed number c ≡ Passes
-passing-placed number Passes e = refl
-passing-placed number (Fails kind place) e = absurd (false-true e)
+pub passing_placed : (number : ℕ) (c : Check) → passing c ≡ true → placed number c ≡ Passes
+passing_placed number Passes e = refl
+passing_placed number (Fails kind place) e = absurd (false_true e)
 
 -- ---- one repetition
 
 module _ (ds : List ℕ) (component : ℕ) (kind : Kind) (number : ℕ) (r part : List ℕ) (judged : part ≡ judged_part ds component r) where
-  pub repetition-other : is_present (state_of ds part) ≡ false → repetition_check ds component kind number r ≡ Passes
+  pub repetition_other : is_present (state_of ds part) ≡ false → repetition_check ds component kind number r ≡ Passes
   unfolding repetition_check
-  repetition-other e = rw (sym judged, e)
+  repetition_other e = rw (sym judged, e)
 
-  pub repetition-present : is_present (state_of ds part) ≡ true → repetition_check ds component kind number r ≡ placed number (form_check kind part)
+  pub repetition_present : is_present (state_of ds part) ≡ true → repetition_check ds component kind number r ≡ placed number (form_check kind part)
   unfolding repetition_check
-  repetition-present e = rw (sym judged, e)
+  repetition_present e = rw (sym judged, e)
 
 -- ---- 35
 
 module _ (ds r : List ℕ) (rest : List (List ℕ)) where
-  pub present-here : is_present (state_of ds r) ≡ true → some_present ds (r ∷ rest) ≡ true
+  pub present_here : is_present (state_of ds r) ≡ true → some_present ds (r ∷ rest) ≡ true
   unfolding some_present
-  present-here e = rw e
+  present_here e = rw e
 
   pub present_past : is_present (state_of ds r) ≡ false → some_present ds (r ∷ rest) ≡ some_present ds rest
   unfolding some_present
   present_past e = rw e
 
-pub present-none : (ds : List ℕ) → some_present ds [] ≡ false
+pub present_none : (ds : List ℕ) → some_present ds [] ≡ false
 unfolding some_present
-present-none ds = refl
+present_none ds = refl
 
 module _ (ds : List ℕ) (kind : Kind) (said : List ℕ) (rs : List (List ℕ)) (s p : Bool) (is_said : s ≡ is_said kind) (present : p ≡ is_present (state_of ds said)) where
   pub said_typed : not (s && not p) ≡ true → said_check ds kind said rs ≡ Passes
@@ -101,48 +101,48 @@ module _ (ds : List ℕ) (kind : Kind) (said : List ℕ) (rs : List (List ℕ)) 
 -- ---- the type that another field says
 
 module _ (said : List ℕ) where
-  pub said-nm : same said (ascii "NM") ≡ true → kind_said said ≡ Nm
+  pub said_nm : same said (ascii "NM") ≡ true → kind_said said ≡ Nm
   unfolding kind_said
-  said-nm e = rw e
+  said_nm e = rw e
 
-  pub said-dt : same said (ascii "NM") ≡ false → same said (ascii "DT") ≡ true → kind_said said ≡ Dt
+  pub said_dt : same said (ascii "NM") ≡ false → same said (ascii "DT") ≡ true → kind_said said ≡ Dt
   unfolding kind_said
-  said-dt e f = rw (e, f)
+  said_dt e f = rw (e, f)
 
-  pub said-tm : same said (ascii "NM") ≡ false → same said (ascii "DT") ≡ false → same said (ascii "TM") ≡ true → kind_said said ≡ Tm
+  pub said_tm : same said (ascii "NM") ≡ false → same said (ascii "DT") ≡ false → same said (ascii "TM") ≡ true → kind_said said ≡ Tm
   unfolding kind_said
-  said-tm e f g = rw (e, f, g)
+  said_tm e f g = rw (e, f, g)
 
-  pub said-ts : same said (ascii "NM") ≡ false → same said (ascii "DT") ≡ false → same said (ascii "TM") ≡ false → same said (ascii "TS") ≡ true → kind_said said ≡ Ts
+  pub said_ts : same said (ascii "NM") ≡ false → same said (ascii "DT") ≡ false → same said (ascii "TM") ≡ false → same said (ascii "TS") ≡ true → kind_said said ≡ Ts
   unfolding kind_said
-  said-ts e f g h = rw (e, f, g, h)
+  said_ts e f g h = rw (e, f, g, h)
 
-  pub said-other : same said (ascii "NM") ≡ false → same said (ascii "DT") ≡ false → same said (ascii "TM") ≡ false → same said (ascii "TS") ≡ false → kind_said said ≡ Any
+  pub said_other : same said (ascii "NM") ≡ false → same said (ascii "DT") ≡ false → same said (ascii "TM") ≡ false → same said (ascii "TS") ≡ false → kind_said said ≡ Any
   unfolding kind_said
-  said-other e f g h = rw (e, f, g, h)
+  said_other e f g h = rw (e, f, g, h)
 
-  pub kind-said : (kind : Kind) → is_said kind ≡ true → kind_of kind said ≡ kind_said said
-  kind-said kind e = rw e
+  pub kind_said_lem : (kind : Kind) → is_said kind ≡ true → kind_of kind said ≡ kind_said said
+  kind_said_lem kind e = rw e
 
-  pub kind-own : (kind : Kind) → is_said kind ≡ false → kind_of kind said ≡ kind
-  kind-own kind e = rw e
+  pub kind_own : (kind : Kind) → is_said kind ≡ false → kind_of kind said ≡ kind
+  kind_own kind e = rw e
 
   module _ (row : Row) (s t : Bool) (is_said : s ≡ is_said row.kind) (is-ts : t ≡ same said (ascii "TS")) where
-    pub component-said : (s && t) ≡ true → component_of row said ≡ 1
-    component-said e = rw (sym is_said, sym is-ts, e)
+    pub component_said : (s && t) ≡ true → component_of row said ≡ 1
+    component_said e = rw (sym is_said, sym is-ts, e)
 
-    pub component-own : (s && t) ≡ false → component_of row said ≡ row.component
-    component-own e = rw (sym is_said, sym is-ts, e)
+    pub component_own : (s && t) ≡ false → component_of row said ≡ row.component
+    component_own e = rw (sym is_said, sym is-ts, e)
 
 -- ---- the type that asks for no form
 
-pub any-kind : (kind : Kind) → is_any kind ≡ true → kind ≡ Any
-any-kind Any e = refl
-any-kind Identifier e = absurd (false-true e)
-any-kind Ts e = absurd (false-true e)
-any-kind Si e = absurd (false-true e)
-any-kind Nm e = absurd (false-true e)
-any-kind Dt e = absurd (false-true e)
-any-kind Tm e = absurd (false-true e)
-any-kind (OneOf values) e = absurd (false-true e)
-any-kind (AsField f) e = absurd (false-true e)
+pub any_kind : (kind : Kind) → is_any kind ≡ true → kind ≡ Any
+any_kind Any e = refl
+any_kind Identifier e = absurd (false_true e)
+any_kind Ts e = absurd (false_true e)
+any_kind Si e = absurd (false_true e)
+any_kind Nm e = absurd (false_true e)
+any_kind Dt e = absurd (false_true e)
+any_kind Tm e = absurd (false_true e)
+any_kind (OneOf values) e = absurd (false_true e)
+any_kind (AsField f) e = absurd (false_true e)

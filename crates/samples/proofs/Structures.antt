@@ -25,7 +25,7 @@ use Rattle.fault.specs.declared.FaultRecord.{FaultRecord}
 use Rattle.structure.specs.Engine.{Entry, into, stop, enter, again, gathered, ended_with, walked, listing, Tables}
 use Rattle.structure.specs.declared.walking.Walked.TheVariants.{Misplaced, Early}
 use Rattle.structure.proofs.TableTest.{tables_of}
-use Rattle.structure.proofs.Telling.{told-misplaced, told_early}
+use Rattle.structure.proofs.Telling.{told_misplaced, told_early}
 
 -- what comes next behind each place of a structure, in written order, where c comes next behind it all
 abbrev behind : Shape → Entry → List Entry
@@ -66,14 +66,14 @@ sample_11 : Judged oru_r01 (name "MSH" ∷ name "PID" ∷ name "EVN" ∷ [])
     (refused_as 3 2 false (name "PD1" ∷ name "NK1" ∷ name "NTE" ∷ name "PV1" ∷ name "ORC" ∷ name "OBR" ∷ []))
 unfolding among passed_over gathered ended_with walked listing
 sample_11 =
-    told-misplaced oru_r01 (names oru_r01) follow lasts (into 1) tables (name "MSH" ∷ name "PID" ∷ name "EVN" ∷ []) 2 (after 1) _ refl false (Misplaced 2 (after 1) false) refl refl
+    told_misplaced oru_r01 (names oru_r01) follow lasts (into 1) tables (name "MSH" ∷ name "PID" ∷ name "EVN" ∷ []) 2 (after 1) _ refl false (Misplaced 2 (after 1) false) refl refl
 
 -- "MSH OBR EVN: 21 at segment 2; PID, ORC, OBR, NTE, OBX, CTI, DSC; could end."
 sample_12 : Judged oru_r01 (name "MSH" ∷ name "OBR" ∷ name "EVN" ∷ [])
     (refused_as 3 2 true (name "PID" ∷ name "ORC" ∷ name "OBR" ∷ name "NTE" ∷ name "OBX" ∷ name "CTI" ∷ name "DSC" ∷ []))
 unfolding among passed_over gathered ended_with walked listing
 sample_12 =
-    told-misplaced oru_r01 (names oru_r01) follow lasts (into 1) tables (name "MSH" ∷ name "OBR" ∷ name "EVN" ∷ []) 2 (after 8) _ refl true (Misplaced 2 (after 8) true) refl refl
+    told_misplaced oru_r01 (names oru_r01) follow lasts (into 1) tables (name "MSH" ∷ name "OBR" ∷ name "EVN" ∷ []) 2 (after 8) _ refl true (Misplaced 2 (after 8) true) refl refl
 
 -- the messages themselves: each is read, its type is ORU^R01, and its names are the sample's
 report : (m ns : List ℕ) {j : FaultRecord} → reading m ≡ Passes → structure_for built_in m ≡ chosen observation_report → segment_names m ≡ ns → Judged oru_r01 ns j → Answers m j

@@ -21,7 +21,7 @@ pub data Row : Type 0 where
   -- a written text, and what it says
   says : String → String → Row
   -- a written text that is refused, and the number
-  says-not : String → ℕ → Row
+  says_not : String → ℕ → Row
   -- a text, and what it is written as
   is_written : String → String → Row
   -- a field asked as NM, its digits as a whole number and its decimals
@@ -33,7 +33,7 @@ pub data Row : Type 0 where
   -- a field that is refused as TS, and the number
   no_time_row : String → ℕ → Row
   -- a segment behind MSH, a field of it, and its state
-  has-state : String → ℕ → State → Row
+  has_state : String → ℕ → State → Row
   -- the names behind MSH in an ORU^R01, the number, the place, the names that could have stood there, and whether it
   -- could have ended there
   is_refused : List String → ℕ → ℕ → List String → Bool → Row
@@ -65,7 +65,7 @@ report_of ns = ascii "MSH|^~\\&|||||||ORU^R01" ++ 13 ∷ named ns
 -- what a row says, by the definitions; the room is more than any sample needs
 unfoldable pub Holds : Row → Type 0
 Holds (says written t) = unescaping usual (ascii written) 100 ≡ text (ascii t)
-Holds (says-not written n) = number_of (answer (unescaping usual (ascii written) 100)).kind ≡ n
+Holds (says_not written n) = number_of (answer (unescaping usual (ascii written) 100)).kind ≡ n
 Holds (is_written t written) = escaping usual (ascii t) 100 ≡ text (ascii written)
 Holds (is_number bytes value decimals) =
     nm_found (with_field bytes) (in_segment 1)
@@ -84,7 +84,7 @@ Holds (is_time_row bytes) =
 Holds (no_time_row bytes n) =
     (number_of (ts_found (with_field bytes) (in_segment 1)).answer.kind ≡ n)
     × ((ts_found (with_field bytes) (in_segment 1)).state ≡ Present)
-Holds (has-state s f state) =
+Holds (has_state s f state) =
     ((found (message_of s) (in_segment f)).answer.kind ≡ None)
     × ((found (message_of s) (in_segment f)).element.state ≡ state)
 Holds (is_refused ns n place could ends) =
@@ -102,8 +102,8 @@ of_text =
     says "10\\S\\9/l" "10^9/l"
     ∷ says "201104\\E\\123456" "201104\\123456"
     ∷ says "\\E\\F\\E\\" "\\F\\"
-    ∷ says-not "\\X\\" 12
-    ∷ says-not "a\\F" 13
+    ∷ says_not "\\X\\" 12
+    ∷ says_not "a\\F" 13
     ∷ is_written "\"\"" "\\X2222\\"
     ∷ []
 
@@ -125,7 +125,7 @@ of_times = is_time_row "20000229" ∷ no_time_row "19000229" 32 ∷ is_time_row 
 
 -- 9: "`PID|`: field 1 empty, field 2 absent. `PID`: field 1 absent."
 unfoldable pub of_states : List Row
-of_states = has-state "PID|" 1 Empty ∷ has-state "PID|" 2 Absent ∷ has-state "PID" 1 Absent ∷ []
+of_states = has_state "PID|" 1 Empty ∷ has_state "PID|" 2 Absent ∷ has_state "PID" 1 Absent ∷ []
 
 -- 10 to 12: "MSH alone as ORU: 22; PID, ORC, OBR; could not end." ..
 unfoldable pub of_structures : List Row

@@ -23,10 +23,10 @@ unfoldable every : ℕ → (ℕ → Bool) → Bool
 every zero P = true
 every (suc n) P = P n && every n P
 
-every-at : (n : ℕ) (P : ℕ → Bool) → every n P ≡ true → (k : ℕ) → k < n → P k ≡ true
+every_at : (n : ℕ) (P : ℕ → Bool) → every n P ≡ true → (k : ℕ) → k < n → P k ≡ true
 unfolding every
-every-at zero P e k h = absurd (omega arith)
-every-at (suc n) P e k h = at (eqb k n) refl (every-at n P (and_both (P n) (every n P) e).1 k)
+every_at zero P e k h = absurd (omega arith)
+every_at (suc n) P e k h = at (eqb k n) refl (every_at n P (and_both (P n) (every n P) e).1 k)
   where
     at : (t : Bool) → eqb k n ≡ t → (k < n → P k ≡ true) → P k ≡ true
     at true q ih = ap P (eqb-true k n q) ∙ (and_both (P n) (every n P) e).0
@@ -37,7 +37,7 @@ high_of x = bit_and (bit_or (bit_and x 127 + 127) x) 128
 
 high_is : (x : ℕ) → x < 256 → bit_and (bit_or (bit_and x 127 + 127) x) 128 ≡ cond (eqb x 0) 0 128
 unfolding high_of every
-high_is x h = eqb-true (high_of x) (cond (eqb x 0) 0 128) (every-at 256 (λ (n : ℕ). eqb (high_of n) (cond (eqb n 0) 0 128)) refl x h)
+high_is x h = eqb-true (high_of x) (cond (eqb x 0) 0 128) (every_at 256 (λ (n : ℕ). eqb (high_of n) (cond (eqb n 0) 0 128)) refl x h)
 
 -- two bytes differ in no bit where they are the same
 xor_none : (x b : ℕ) → eqb (bit_xor x b) 0 ≡ eqb b x
@@ -49,8 +49,8 @@ xor_none x b = at (eqb b x) refl
         ne_eqb (bit_xor x b) 0 (λ (z : bit_xor x b ≡ 0).
         let s = xor_add_and x b in let l = and_le_l x b in let r = and_le_r x b in eqb-false b x e (omega arith))
 
-unlike-byte : (x b : ℕ) → x < 256 → b < 256 → unlike x b 127 128 ≡ cond (eqb b x) 0 128
-unlike-byte x b h k = high_is (bit_xor x b) (xor_lt 8 x b h k) ∙ ap (λ (t : Bool). cond t 0 128) (xor_none x b)
+unlike_byte : (x b : ℕ) → x < 256 → b < 256 → unlike x b 127 128 ≡ cond (eqb b x) 0 128
+unlike_byte x b h k = high_is (bit_xor x b) (xor_lt 8 x b h k) ∙ ap (λ (t : Bool). cond t 0 128) (xor_none x b)
 
 -- ---- a word, by its lowest byte and the rest
 
@@ -73,7 +73,7 @@ sought w c e s h = bit_xor (bit_and (unlike w c s h) (unlike w e s h)) h
 
 sought_byte : (x b d : ℕ) → x < 256 → b < 256 → d < 256 → sought x b d 127 128 ≡ cond (either b d x) 128 0
 sought_byte x b d hx hb hd =
-    ap₂ (λ (m n : ℕ). bit_xor (bit_and m n) 128) (unlike-byte x b hx hb) (unlike-byte x d hx hd) ∙ at (eqb b x) (eqb d x)
+    ap₂ (λ (m n : ℕ). bit_xor (bit_and m n) 128) (unlike_byte x b hx hb) (unlike_byte x d hx hd) ∙ at (eqb b x) (eqb d x)
   where
     at : (s t : Bool) → bit_xor (bit_and (cond s 0 128) (cond t 0 128)) 128 ≡ cond (s || t) 128 0
     at true true = refl
@@ -122,22 +122,22 @@ sought_eight l b d n h hb hd =
 
 -- ---- eight bytes one by one
 
-eight-listed : (l : List ℕ) → length l ≡ 8
+eight_listed : (l : List ℕ) → length l ≡ 8
     → get_or l 0 0 ∷ get_or l 1 0 ∷ get_or l 2 0 ∷ get_or l 3 0 ∷ get_or l 4 0 ∷ get_or l 5 0 ∷ get_or l 6 0 ∷ get_or l 7 0 ∷ [] ≡ l
-eight-listed [] h = absurd (omega arith)
-eight-listed (a ∷ []) h = absurd (omega arith)
-eight-listed (a ∷ b ∷ []) h = absurd (omega arith)
-eight-listed (a ∷ b ∷ c ∷ []) h = absurd (omega arith)
-eight-listed (a ∷ b ∷ c ∷ d ∷ []) h = absurd (omega arith)
-eight-listed (a ∷ b ∷ c ∷ d ∷ e ∷ []) h = absurd (omega arith)
-eight-listed (a ∷ b ∷ c ∷ d ∷ e ∷ f ∷ []) h = absurd (omega arith)
-eight-listed (a ∷ b ∷ c ∷ d ∷ e ∷ f ∷ g ∷ []) h = absurd (omega arith)
-eight-listed (a ∷ b ∷ c ∷ d ∷ e ∷ f ∷ g ∷ k ∷ []) h = refl
-eight-listed (a ∷ b ∷ c ∷ d ∷ e ∷ f ∷ g ∷ k ∷ x ∷ r) h = absurd (omega arith)
+eight_listed [] h = absurd (omega arith)
+eight_listed (a ∷ []) h = absurd (omega arith)
+eight_listed (a ∷ b ∷ []) h = absurd (omega arith)
+eight_listed (a ∷ b ∷ c ∷ []) h = absurd (omega arith)
+eight_listed (a ∷ b ∷ c ∷ d ∷ []) h = absurd (omega arith)
+eight_listed (a ∷ b ∷ c ∷ d ∷ e ∷ []) h = absurd (omega arith)
+eight_listed (a ∷ b ∷ c ∷ d ∷ e ∷ f ∷ []) h = absurd (omega arith)
+eight_listed (a ∷ b ∷ c ∷ d ∷ e ∷ f ∷ g ∷ []) h = absurd (omega arith)
+eight_listed (a ∷ b ∷ c ∷ d ∷ e ∷ f ∷ g ∷ k ∷ []) h = refl
+eight_listed (a ∷ b ∷ c ∷ d ∷ e ∷ f ∷ g ∷ k ∷ x ∷ r) h = absurd (omega arith)
 
-pub word-listed : (l : List ℕ) (n : ℕ) → length l ≡ 8
+pub word_listed : (l : List ℕ) (n : ℕ) → length l ≡ 8
     → n ≡ word_of (get_or l 0 0 ∷ get_or l 1 0 ∷ get_or l 2 0 ∷ get_or l 3 0 ∷ get_or l 4 0 ∷ get_or l 5 0 ∷ get_or l 6 0 ∷ get_or l 7 0 ∷ []) → n ≡ word_of l
-word-listed l n h e = e ∙ ap word_of (eight-listed l h)
+word_listed l n h e = e ∙ ap word_of (eight_listed l h)
 
 pub joined_is : (a b c d e f g h : ℕ)
     → a + b * 256 + c * 65536 + d * 16777216 + (e + f * 256 + g * 65536 + h * 16777216) * 4294967296 ≡ word_of (a ∷ b ∷ c ∷ d ∷ e ∷ f ∷ g ∷ h ∷ [])
@@ -186,14 +186,14 @@ module _ (test : ℕ → Bool) where
           omega arith
 
   -- the place of the first of eight bytes that passes, or 8
-  pub first-mark : (l : List ℕ) → length l ≡ 8 → count_trailing_zeros 64 (marks test l) / 8 ≡ first test l
-  first-mark l n = let e : 64 ≡ length l * 8 = omega arith in ap (λ (k : ℕ). count_trailing_zeros k (marks test l) / 8) e ∙ zeros_first l
+  pub first_mark : (l : List ℕ) → length l ≡ 8 → count_trailing_zeros 64 (marks test l) / 8 ≡ first test l
+  first_mark l n = let e : 64 ≡ length l * 8 = omega arith in ap (λ (k : ℕ). count_trailing_zeros k (marks test l) / 8) e ∙ zeros_first l
 
   -- where there is a mark a byte passes
-  pub marks-some : (l : List ℕ) → (marks test l ≡ 0 → ⊥) → first test l < length l
+  pub marks_some : (l : List ℕ) → (marks test l ≡ 0 → ⊥) → first test l < length l
   unfolding marks first
-  marks-some [] h = absurd (h refl)
-  marks-some (x ∷ l) h = at (test x) h (marks-some l)
+  marks_some [] h = absurd (h refl)
+  marks_some (x ∷ l) h = at (test x) h (marks_some l)
     where
       at : (t : Bool) → (marks test l * 256 + cond t 128 0 ≡ 0 → ⊥) → ((marks test l ≡ 0 → ⊥) → first test l < length l)
           → cond t 0 (suc (first test l)) < suc (length l)
@@ -201,10 +201,10 @@ module _ (test : ℕ → Bool) where
       at false h ih = let k = ih (λ (z : marks test l ≡ 0). h (omega arith)) in omega arith
 
 -- where both bytes that are sought are the same
-pub first-same : (b : ℕ) (l : List ℕ) → first (either b b) l ≡ find b l
+pub first_same : (b : ℕ) (l : List ℕ) → first (either b b) l ≡ find b l
 unfolding first
-first-same b [] = refl
-first-same b (x ∷ l) = at (eqb b x) (first-same b l)
+first_same b [] = refl
+first_same b (x ∷ l) = at (eqb b x) (first_same b l)
   where
     at : (t : Bool) → first (either b b) l ≡ find b l → cond (t || t) 0 (suc (first (either b b) l)) ≡ cond t 0 (suc (find b l))
     at true ih = refl

@@ -9,27 +9,27 @@ use Rattle.alphabet.specs.declared.answers.Check.TheVariants.{Passes, Fails}
 use Rattle.alphabet.specs.declared.parts.Part.TheVariants.{At, Absent}
 use Rattle.reading.specs.Segments.{segments, segment_at, name_of}
 use Rattle.reading.specs.Reading.{reading}
-use Rattle.reading.proofs.SegmentLaws.{segment-bytes}
+use Rattle.reading.proofs.SegmentLaws.{segment_bytes}
 use Rattle.segments.specs.Asked.{counting, segment_asked, refused_with, segment_found}
 use Rattle.segments.specs.declared.SegmentFound.{SegmentFound}
 
-pub counting-unread : (m : List ℕ) (kind : Refusal) (place : ℕ) → reading m ≡ Fails kind place → answered (Fails kind place) ≡ counting m
+pub counting_unread : (m : List ℕ) (kind : Refusal) (place : ℕ) → reading m ≡ Fails kind place → answered (Fails kind place) ≡ counting m
 unfolding counting
-counting-unread m kind place e = rw e
+counting_unread m kind place e = rw e
 
-pub counting-read : (m : List ℕ) → reading m ≡ Passes → record { kind = Refusal.None; place = 0; length = length (segments m) } ≡ counting m
+pub counting_read : (m : List ℕ) → reading m ≡ Passes → record { kind = Refusal.None; place = 0; length = length (segments m) } ≡ counting m
 unfolding counting
-counting-read m e = rw e
+counting_read m e = rw e
 
-pub asked-unread : (m : List ℕ) (k : ℕ) (kind : Refusal) (place : ℕ) → reading m ≡ Fails kind place → refused_with (Fails kind place) ≡ segment_found m k
+pub asked_unread : (m : List ℕ) (k : ℕ) (kind : Refusal) (place : ℕ) → reading m ≡ Fails kind place → refused_with (Fails kind place) ≡ segment_found m k
 unfolding segment_found segment_asked
-asked-unread m k kind place e = rw e
+asked_unread m k kind place e = rw e
 
-pub asked-missing : (m : List ℕ) (k : ℕ) → reading m ≡ Passes → segment_at m k ≡ Absent → refused_with (Fails Refusal.Address 0) ≡ segment_found m k
+pub asked_missing : (m : List ℕ) (k : ℕ) → reading m ≡ Passes → segment_at m k ≡ Absent → refused_with (Fails Refusal.Address 0) ≡ segment_found m k
 unfolding segment_found segment_asked
-asked-missing m k e q = rw (e, q)
+asked_missing m k e q = rw (e, q)
 
-pub asked-there : (m : List ℕ) (k s e : ℕ) → reading m ≡ Passes → segment_at m k ≡ At s e
+pub asked_there : (m : List ℕ) (k s e : ℕ) → reading m ≡ Passes → segment_at m k ≡ At s e
     → record { answer = answered Passes; name = name_of (take (e - s) (drop s m)); start = s; end = e } ≡ segment_found m k
 unfolding segment_found segment_asked
-asked-there m k s e r q = rw (r, q, (segment-bytes m k s e q).3)
+asked_there m k s e r q = rw (r, q, (segment_bytes m k s e q).3)

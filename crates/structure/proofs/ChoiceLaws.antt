@@ -6,7 +6,7 @@ use Prim.Native.Nat.{ℕ}
 use Rattle.alphabet.specs.Bytes.{ascii}
 use Rattle.alphabet.specs.Lists.{same}
 use Rattle.alphabet.proofs.BoolLaws.{and_both}
-use Rattle.alphabet.proofs.ListLaws.{same-own, same_is}
+use Rattle.alphabet.proofs.ListLaws.{same_own, same_is}
 use Rattle.structure.specs.Structures.{Choice, chosen, unlisted, choose, observation_report, acknowledgement, merge, admission, transfer, cancel, built_in}
 
 -- ---- an admission, by its event
@@ -23,9 +23,9 @@ not_report : same (ascii "ADT") (ascii "ORU") ≡ false
 unfolding same
 not_report = refl
 
-not-acknowledgement : same (ascii "ADT") (ascii "ACK") ≡ false
+not_acknowledgement : same (ascii "ADT") (ascii "ACK") ≡ false
 unfolding same
-not-acknowledgement = refl
+not_acknowledgement = refl
 
 module _ (event : List ℕ) where
   pub is_merge : same event (ascii "A40") ≡ true → admitted event ≡ chosen merge
@@ -43,7 +43,7 @@ module _ (event : List ℕ) where
   pub is_unlisted : same event (ascii "A40") ≡ false → same event (ascii "A01") ≡ false → same event (ascii "A02") ≡ false → same event (ascii "A12") ≡ false
       → admitted event ≡ unlisted
   unfolding choose built_in
-  is_unlisted a b c d = rw (not_report, not-acknowledgement, same-own (ascii "ADT"), a, b, c, d)
+  is_unlisted a b c d = rw (not_report, not_acknowledgement, same_own (ascii "ADT"), a, b, c, d)
 
 -- ---- a type
 

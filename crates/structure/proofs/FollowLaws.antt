@@ -13,16 +13,16 @@ use Rattle.structure.specs.Shapes.{Shape, Spans}
 use Rattle.structure.specs.Shapes.Shape.{end, seg, opt, rep}
 use Rattle.structure.specs.Shapes.Spans.{ended, stand, skip, once, last, more}
 use Rattle.structure.specs.Engine.{has, Entry, into, join, gate, only, nullable, first, via, enter, again, Fits}
-use Rattle.structure.proofs.SetLaws.{or_left, or_right, or_cases, has-zero, has_one, one_has}
+use Rattle.structure.proofs.SetLaws.{or_left, or_right, or_cases, has_zero, has_one, one_has}
 
 -- a list of places goes from set to set, and the message can end after it
 abbrev pub Acc : (ℕ → Entry) → Entry → List ℕ → Type 0
 Acc tab e [] = T e.ends
 Acc tab e (q ∷ ws) = has e.next q × Acc tab (tab q) ws
 
-pub T-left : (a b : Bool) → T a → T (a || b)
-T-left true b t = tt
-T-left false b t = absurd t
+pub T_left : (a b : Bool) → T a → T (a || b)
+T_left true b t = tt
+T_left false b t = absurd t
 
 pub T_right : (a b : Bool) → T b → T (a || b)
 T_right true b t = tt
@@ -34,7 +34,7 @@ T_cases false b t = inr t
 
 module _ (tab : ℕ → Entry) where
   pub acc_left : (a b : Entry) (ws : List ℕ) → Acc tab a ws → Acc tab (join a b) ws
-  acc_left a b [] h = T-left a.ends b.ends h
+  acc_left a b [] h = T_left a.ends b.ends h
   acc_left a b (q ∷ ws) h = (or_left a.next b.next q h.0, h.1)
 
   pub acc_right : (a b : Entry) (ws : List ℕ) → Acc tab b ws → Acc tab (join a b) ws
@@ -47,7 +47,7 @@ module _ (tab : ℕ → Entry) where
 
   acc_none : (ws : List ℕ) → Acc tab (into 0) ws → ⊥
   acc_none [] h = h
-  acc_none (q ∷ ws) h = has-zero q h.0
+  acc_none (q ∷ ws) h = has_zero q h.0
 
   -- the same for the sets of places alone
   in_left : (m n : ℕ) (ws : List ℕ) → Acc tab (into m) ws → Acc tab (into (bit_or m n)) ws
@@ -56,8 +56,8 @@ module _ (tab : ℕ → Entry) where
   in_right : (m n : ℕ) (ws : List ℕ) → Acc tab (into n) ws → Acc tab (into (bit_or m n)) ws
   in_right m n ws h = acc_right (into m) (into n) ws h
 
-  in-cases : (m n : ℕ) (ws : List ℕ) → Acc tab (into (bit_or m n)) ws → Acc tab (into m) ws ⊎ Acc tab (into n) ws
-  in-cases m n ws h = acc_cases (into m) (into n) ws h
+  in_cases : (m n : ℕ) (ws : List ℕ) → Acc tab (into (bit_or m n)) ws → Acc tab (into m) ws ⊎ Acc tab (into n) ws
+  in_cases m n ws h = acc_cases (into m) (into n) ws h
 
   -- through an optional group
   past : (fb fs : ℕ) (ns : Bool) (c : Entry) (ws : List ℕ) → Acc tab (via fs ns c) ws → Acc tab (via (bit_or fb fs) ns c) ws
@@ -77,23 +77,23 @@ module _ (tab : ℕ → Entry) where
       (acc_cases (into fb) (into 0) ws h)
 
   -- into a repeated group again
-  loop-in : (fb fs : ℕ) (nb ns : Bool) (c : Entry) (ws : List ℕ) → Acc tab (via (bit_or fb (only nb fs)) (nb && ns) c) ws → Acc tab (join (into fb) (via fs ns c)) ws
-  loop-in fb fs true ns c ws h =
+  loop_in : (fb fs : ℕ) (nb ns : Bool) (c : Entry) (ws : List ℕ) → Acc tab (via (bit_or fb (only nb fs)) (nb && ns) c) ws → Acc tab (join (into fb) (via fs ns c)) ws
+  loop_in fb fs true ns c ws h =
       ⊎_elim (λ l. ⊎_elim (λ p. acc_left (into fb) (via fs ns c) ws p)
-      (λ p. acc_right (into fb) (via fs ns c) ws (acc_left (into fs) (gate ns c) ws p)) (in-cases fb fs ws l))
+      (λ p. acc_right (into fb) (via fs ns c) ws (acc_left (into fs) (gate ns c) ws p)) (in_cases fb fs ws l))
       (λ r. acc_right (into fb) (via fs ns c) ws (acc_right (into fs) (gate ns c) ws r))
       (acc_cases (into (bit_or fb fs)) (gate ns c) ws h)
-  loop-in fb fs false ns c ws h =
-      ⊎_elim (λ l. ⊎_elim (λ p. acc_left (into fb) (via fs ns c) ws p) (λ p. absurd (acc_none ws p)) (in-cases fb 0 ws l))
+  loop_in fb fs false ns c ws h =
+      ⊎_elim (λ l. ⊎_elim (λ p. acc_left (into fb) (via fs ns c) ws p) (λ p. absurd (acc_none ws p)) (in_cases fb 0 ws l))
       (λ r. absurd (acc_none ws r))
       (acc_cases (into (bit_or fb 0)) (into 0) ws h)
 
-  loop-out : (fb fs : ℕ) (nb ns : Bool) (c : Entry) (ws : List ℕ) → Acc tab (via fb nb (join (into fb) (via fs ns c))) ws → Acc tab (via (bit_or fb (only nb fs)) (nb && ns) c) ws
-  loop-out fb fs true ns c ws h =
+  loop_out : (fb fs : ℕ) (nb ns : Bool) (c : Entry) (ws : List ℕ) → Acc tab (via fb nb (join (into fb) (via fs ns c))) ws → Acc tab (via (bit_or fb (only nb fs)) (nb && ns) c) ws
+  loop_out fb fs true ns c ws h =
       ⊎_elim (λ l. acc_left (into (bit_or fb fs)) (gate ns c) ws (in_left fb fs ws l))
       (λ r. ⊎_elim (λ l. acc_left (into (bit_or fb fs)) (gate ns c) ws (in_left fb fs ws l)) (λ p. past fb fs ns c ws p) (acc_cases (into fb) (via fs ns c) ws r))
       (acc_cases (into fb) (join (into fb) (via fs ns c)) ws h)
-  loop-out fb fs false ns c ws h =
+  loop_out fb fs false ns c ws h =
       ⊎_elim (λ l. acc_left (into (bit_or fb 0)) (into 0) ws (in_left fb 0 ws l))
       (λ r. absurd (acc_none ws r))
       (acc_cases (into fb) (into 0) ws h)
@@ -107,11 +107,11 @@ module _ (tab : ℕ → Entry) where
   complete (once {b = b} {s = s} {ws = ws} d e) c f a =
       through (first b) (first s) (nullable b) (nullable s) c ws (complete d (enter s c) f.0 (complete e c f.1 a))
   complete (last {b = b} {s = s} {ws = ws} {vs = vs} d e) c f a =
-      loop-out (first b) (first s) (nullable b) (nullable s) c ws
+      loop_out (first b) (first s) (nullable b) (nullable s) c ws
       (complete d (again b (enter s c)) f.0 (acc_right (into (first b)) (enter s c) vs (complete e c f.1 a)))
   complete (more {b = b} {s = s} {ws = ws} {vs = vs} d e) c f a =
-      loop-out (first b) (first s) (nullable b) (nullable s) c ws
-      (complete d (again b (enter s c)) f.0 (loop-in (first b) (first s) (nullable b) (nullable s) c vs (complete e c f a)))
+      loop_out (first b) (first s) (nullable b) (nullable s) c ws
+      (complete d (again b (enter s c)) f.0 (loop_in (first b) (first s) (nullable b) (nullable s) c vs (complete e c f a)))
 
 T_both : (a b : Bool) → T (a && b) → T a × T b
 T_both true b t = (tt, t)
@@ -192,7 +192,7 @@ module _ (tab : ℕ → Entry) where
   hollow b s c true e ps q vs h a =
       let k = ps q vs h a in
       record { rest = k.rest; spans = last (e tt (q ∷ vs)) k.spans; goes = k.goes; short = k.short }
-  hollow b s c false e ps q vs h a = absurd (has-zero q h)
+  hollow b s c false e ps q vs h a = absurd (has_zero q h)
 
   -- an optional group that is there, and then the rest
   group : (b s : Shape) (c : Entry) (ws : List ℕ) (m : ℕ) → Proper s c → Cut b (enter s c) ws m → Cut (opt b s) c ws m
@@ -207,7 +207,7 @@ module _ (tab : ℕ → Entry) where
 
   proper : (s : Shape) (c : Entry) → Fits tab s c → Proper s c
   unfolding Proper
-  proper end c f q vs h a = absurd (has-zero q h)
+  proper end c f q vs h a = absurd (has_zero q h)
   proper (seg n s) c f q vs h a =
       let e = one_has n q h in
       let k = enters s c (proper s c f.1) vs (subst (λ (e : Entry). Acc tab e vs) (ap tab e ∙ f.0) a) in
@@ -240,21 +240,21 @@ Label (opt b s) p = Label b p ⊎ Label s p
 Label (rep b s) p = Label b p ⊎ Label s p
 
 pub first_label : (s : Shape) (q : ℕ) → has (first s) q → Label s q
-first_label end q h = has-zero q h
+first_label end q h = has_zero q h
 first_label (seg n s) q h = inl (one_has n q h)
 first_label (opt b s) q h = ⊎_elim (λ l. inl (first_label b q l)) (λ r. inr (first_label s q r)) (or_cases (first b) (first s) q h)
 first_label (rep b s) q h = ⊎_elim (λ l. inl (first_label b q l)) (λ r. inr (pick (nullable b) (first_label s q) r)) (or_cases (first b) (only (nullable b) (first s)) q h)
   where
     pick : (n : Bool) → (has (first s) q → Label s q) → has (only n (first s)) q → Label s q
     pick true f r = f r
-    pick false f r = absurd (has-zero q r)
+    pick false f r = absurd (has_zero q r)
 
 pub enter_label : (s : Shape) (c : Entry) (q : ℕ) → has (enter s c).next q → Label s q ⊎ has c.next q
 enter_label s c q h = ⊎_elim (λ l. inl (first_label s q l)) (λ r. inr (pick (nullable s) r)) (or_cases (first s) (gate (nullable s) c).next q h)
   where
     pick : (n : Bool) → has (gate n c).next q → has c.next q
     pick true r = r
-    pick false r = absurd (has-zero q r)
+    pick false r = absurd (has_zero q r)
 
 module _ (tab : ℕ → Entry) where
   -- from every place the message can be completed

@@ -10,8 +10,8 @@ use native.Mathlib.Omega.{arith}
 use lib.Dec.{T, eqb}
 use borrow.Author.Tests.{eqb-true, eqb-false}
 use Rattle.structure.specs.Engine.{bit, has, hasb, Entry, into, join, entry_at, name_in, gathered}
-use Rattle.structure.proofs.SetLaws.{has-zero, or_left, or_right, or_cases}
-use Rattle.structure.proofs.FollowLaws.{T-left, T_right, T_cases}
+use Rattle.structure.proofs.SetLaws.{has_zero, or_left, or_right, or_cases}
+use Rattle.structure.proofs.FollowLaws.{T_left, T_right, T_cases}
 use Rattle.structure.proofs.RunLaws.{Gathered}
 
 -- the lowest digit
@@ -20,8 +20,8 @@ low_bit x = and_mask x 1
 
 module _ (tab : ℕ → Entry) where
   -- the same places
-  pub gather-same : (H K : ℕ → Type 0) (e : Entry) → ((p : ℕ) → H p → K p) → ((p : ℕ) → K p → H p) → Gathered tab H e → Gathered tab K e
-  gather-same H K e f g r = record {
+  pub gather_same : (H K : ℕ → Type 0) (e : Entry) → ((p : ℕ) → H p → K p) → ((p : ℕ) → K p → H p) → Gathered tab H e → Gathered tab K e
+  gather_same H K e f g r = record {
     next-from = λ q h. let k = r.next_from q h in (k.0, f k.0 k.1, k.2);
     next-to = λ p q h n. r.next_to p q (g p h) n;
     ends-from = λ t. let k = r.ends_from t in (k.0, f k.0 k.1, k.2);
@@ -29,13 +29,13 @@ module _ (tab : ℕ → Entry) where
   }
 
   -- one place more
-  gather-more : (H : ℕ → Type 0) (e : Entry) (k : ℕ) → Gathered tab H e → Gathered tab (λ (p : ℕ). H p ⊎ (p ≡ k)) (join e (tab k))
-  gather-more H e k r = record {
+  gather_more : (H : ℕ → Type 0) (e : Entry) (k : ℕ) → Gathered tab H e → Gathered tab (λ (p : ℕ). H p ⊎ (p ≡ k)) (join e (tab k))
+  gather_more H e k r = record {
     next-from = λ q h. ⊎_elim (λ l. let j = r.next_from q l in (j.0, inl j.1, j.2)) (λ m. (k, inr refl, m)) (or_cases e.next (tab k).next q h);
     next-to = λ p q h n. ⊎_elim (λ l. or_left e.next (tab k).next q (r.next_to p q l n))
         (λ m. or_right e.next (tab k).next q (subst (λ (x : ℕ). has (tab x).next q) m n)) h;
     ends-from = λ t. ⊎_elim (λ l. let j = r.ends_from l in (j.0, inl j.1, j.2)) (λ m. (k, inr refl, m)) (T_cases e.ends (tab k).ends t);
-    ends-to = λ p h n. ⊎_elim (λ l. T-left e.ends (tab k).ends (r.ends_to p l n))
+    ends-to = λ p h n. ⊎_elim (λ l. T_left e.ends (tab k).ends (r.ends_to p l n))
         (λ m. T_right e.ends (tab k).ends (subst (λ (x : ℕ). T (tab x).ends) m n)) h;
   }
 
@@ -46,14 +46,14 @@ module _ (tab : ℕ → Entry) where
 
     none : Gathered tab (Below 0) (into 0)
     none = record {
-      next-from = λ q h. absurd (has-zero q h);
+      next-from = λ q h. absurd (has_zero q h);
       next-to = λ p q h _. let l = h.0 in absurd (omega arith);
       ends-from = λ t. absurd t;
       ends-to = λ p h _. let l = h.0 in absurd (omega arith);
     }
 
     hit : (k : ℕ) (e : Entry) → H k → Gathered tab (Below k) e → Gathered tab (Below (suc k)) (join e (tab k))
-    hit k e h r = gather-same (λ (p : ℕ). Below k p ⊎ (p ≡ k)) (Below (suc k)) (join e (tab k)) more less (gather-more (Below k) e k r)
+    hit k e h r = gather_same (λ (p : ℕ). Below k p ⊎ (p ≡ k)) (Below (suc k)) (join e (tab k)) more less (gather_more (Below k) e k r)
       where
         more : (p : ℕ) → Below k p ⊎ (p ≡ k) → Below (suc k) p
         more p (inl b) = let l = b.0 in (omega arith, b.1)
@@ -67,7 +67,7 @@ module _ (tab : ℕ → Entry) where
             go (no d) = let l = b.0 in inr (omega arith)
 
     miss : (k : ℕ) (e : Entry) → (H k → ⊥) → Gathered tab (Below k) e → Gathered tab (Below (suc k)) e
-    miss k e n r = gather-same (Below k) (Below (suc k)) e (λ p b. let l = b.0 in (omega arith, b.1)) less r
+    miss k e n r = gather_same (Below k) (Below (suc k)) e (λ p b. let l = b.0 in (omega arith, b.1)) less r
       where
         less : (p : ℕ) → Below (suc k) p → Below k p
         less p b = go (dec_lt p k)
@@ -81,10 +81,10 @@ module _ (ns follow : List ℕ) (last set n : ℕ) where
   abbrev pub Hit : ℕ → Type 0
   Hit p = has set p × (name_in ns p ≡ n)
 
-  pub gathered-below : (k : ℕ) → Gathered (entry_at follow last) (Below (entry_at follow last) Hit k) (gathered ns follow last set n k)
+  pub gathered_below : (k : ℕ) → Gathered (entry_at follow last) (Below (entry_at follow last) Hit k) (gathered ns follow last set n k)
   unfolding gathered
-  gathered-below zero = none (entry_at follow last) Hit
-  gathered-below (suc k) = at (hasb set k) refl (eqb (name_in ns k) n) refl (gathered-below k)
+  gathered_below zero = none (entry_at follow last) Hit
+  gathered_below (suc k) = at (hasb set k) refl (eqb (name_in ns k) n) refl (gathered_below k)
     where
       now_at : Entry
       now_at = gathered ns follow last set n k

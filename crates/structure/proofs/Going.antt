@@ -14,11 +14,11 @@ use lib.ListN.{length}
 use Rattle.structure.specs.Shapes.{Shape, Yields, Viable, Fills, Possible, names, size, name_at, numbered}
 use Rattle.structure.specs.Shapes.Shape.{end, seg, opt, rep}
 use Rattle.structure.specs.Engine.{has, Entry, entry, stop, enter, Fits, entry_at, name_in, stepped}
-use Rattle.structure.proofs.SetLaws.{has-zero}
+use Rattle.structure.proofs.SetLaws.{has_zero}
 use Rattle.structure.proofs.FollowLaws.{Acc, live, some, Label}
 use Rattle.structure.proofs.PlaceLaws.{CouldEnd, yields_is, size_is}
-use Rattle.structure.proofs.RunLaws.{Stepped, Holds, start, step, Inside, start-inside, step-inside, ends_is, next_is}
-use Rattle.structure.proofs.GatherLaws.{Hit, Below, gather-same, gathered-below}
+use Rattle.structure.proofs.RunLaws.{Stepped, Holds, start, step, Inside, start_inside, step_inside_lem, ends_is, next_is}
+use Rattle.structure.proofs.GatherLaws.{Hit, Below, gather_same, gathered_below}
 
 -- the places of a structure whose first is k
 pub label_below : (s : Shape) (k p : ℕ) → Label (numbered k s) p → p < k + size s
@@ -30,9 +30,9 @@ label_below (opt b s) k p (inr l) = let h = label_below s (k + size b) p l in om
 label_below (rep b s) k p (inl l) = let h = label_below b k p l in omega arith
 label_below (rep b s) k p (inr l) = let h = label_below s (k + size b) p l in omega arith
 
-pub map-append : (f : ℕ → ℕ) (xs ys : List ℕ) → map f (xs ++ ys) ≡ map f xs ++ map f ys
-map-append f [] ys = refl
-map-append f (x ∷ xs) ys = ap (λ (l : List ℕ). f x ∷ l) (map-append f xs ys)
+pub map_append : (f : ℕ → ℕ) (xs ys : List ℕ) → map f (xs ++ ys) ≡ map f xs ++ map f ys
+map_append f [] ys = refl
+map_append f (x ∷ xs) ys = ap (λ (l : List ℕ). f x ∷ l) (map_append f xs ys)
 
 -- a list that maps to two lists joined is two lists joined
 Parts : (ℕ → ℕ) → List ℕ → List ℕ → Type 0
@@ -48,8 +48,8 @@ parts f (x ∷ xs) (y ∷ ys) zs e =
     (x ∷ k.0, k.1, ap (λ (l : List ℕ). x ∷ l) k.2, cc)
 
 -- a number that is not 0 has a digit that is 1
-some-bit : (m : ℕ) → (m ≡ 0 → ⊥) → (q : ℕ) × has m q
-some-bit = bin_ind (λ (m : ℕ). (m ≡ 0 → ⊥) → (q : ℕ) × has m q) (λ n. absurd (n refl)) up
+some_bit : (m : ℕ) → (m ≡ 0 → ⊥) → (q : ℕ) × has m q
+some_bit = bin_ind (λ (m : ℕ). (m ≡ 0 → ⊥) → (q : ℕ) × has m q) (λ n. absurd (n refl)) up
   where
     up : (m : ℕ) → ((m / 2 ≡ 0 → ⊥) → (q : ℕ) × has (m / 2) q) → (m ≡ 0 → ⊥) → (q : ℕ) × has m q
     up m ih n = go (ℕ_discrete (m / 2) 0)
@@ -68,7 +68,7 @@ module _ (s : Shape) (ns follow : List ℕ) (last : ℕ) (named : ns ≡ names s
     pub viable : Viable s ms
 
   pub begun : (begin : Entry) → begin ≡ enter (numbered 0 s) stop → Going [] begin
-  begun begin e = rw e (record { holds = start s tab fits; inside = start-inside s tab fits; viable = some s [] })
+  begun begin e = rw e (record { holds = start s tab fits; inside = start_inside s tab fits; viable = some s [] })
 
   -- some way on shows that the names begin a yielded list
   viable_of : (ns : List ℕ) (e : Entry) → Holds s tab ns e → (ws : List ℕ) → Acc tab e ws → Viable s ns
@@ -76,7 +76,7 @@ module _ (s : Shape) (ns follow : List ℕ) (last : ℕ) (named : ns ≡ names s
   viable_of ns e h ws a =
       let k = (h ws).0 a in
       let k1 = k.1 in
-      (map (name_at s) ws, (yields_is s (ns ++ map (name_at s) ws)).1 (k.0 ++ ws, map-append (name_at s) k.0 ws ∙ ap (λ (l : List ℕ). l ++ map (name_at s) ws) k1, k.2))
+      (map (name_at s) ws, (yields_is s (ns ++ map (name_at s) ws)).1 (k.0 ++ ws, map_append (name_at s) k.0 ws ∙ ap (λ (l : List ℕ). l ++ map (name_at s) ws) k1, k.2))
 
   way_of : (ns : List ℕ) (e : Entry) → Holds s tab ns e → Viable s ns → (ws : List ℕ) × Acc tab e ws
   unfolding Holds Parts
@@ -87,14 +87,14 @@ module _ (s : Shape) (ns follow : List ℕ) (last : ℕ) (named : ns ≡ names s
 
   no_way : (e : Entry) → e.next ≡ 0 → e.ends ≡ false → (ws : List ℕ) → Acc tab e ws → ⊥
   no_way e z f [] a = subst T f a
-  no_way e z f (q ∷ ws) a = has-zero q (subst (λ (x : ℕ). has x q) z a.0)
+  no_way e z f (q ∷ ws) a = has_zero q (subst (λ (x : ℕ). has x q) z a.0)
 
   -- a step of the tables is one of the structure
   steps : (e : Entry) (n : ℕ) → Inside s tab fits e → Stepped tab (name_at s) e.next n (stepped ns follow last e.next n)
   unfolding Inside
   steps e n i =
-      gather-same tab (Below tab (Hit ns follow last e.next n) (length ns)) (λ (p : ℕ). has e.next p × (name_at s p ≡ n)) (stepped ns follow last e.next n)
-      (λ p h. (h.1.0, sym (same p) ∙ h.1.1)) (λ p h. (inside_of p h.0, (h.0, same p ∙ h.1))) (gathered-below ns follow last e.next n (length ns))
+      gather_same tab (Below tab (Hit ns follow last e.next n) (length ns)) (λ (p : ℕ). has e.next p × (name_at s p ≡ n)) (stepped ns follow last e.next n)
+      (λ p h. (h.1.0, sym (same p) ∙ h.1.1)) (λ p h. (inside_of p h.0, (h.0, same p ∙ h.1))) (gathered_below ns follow last e.next n (length ns))
     where
       same : (p : ℕ) → name_in ns p ≡ name_at s p
       same p = ap (λ (l : List ℕ). name_in l p) named
@@ -110,12 +110,12 @@ module _ (s : Shape) (ns follow : List ℕ) (last : ℕ) (named : ns ≡ names s
       let e' = stepped ns follow last e.next n in
       let st = steps e n g.inside in
       let h = step s tab fits ms n e e' g.holds st in
-      let i = step-inside s tab fits n e e' g.inside st in
+      let i = step_inside_lem s tab fits n e e' g.inside st in
       record {
         holds = h;
         inside = i;
         viable = ⊎_elim
-            (λ nz. let b = some-bit e'.next nz in
+            (λ nz. let b = some_bit e'.next nz in
             let l = live tab (numbered 0 s) stop fits [] tt b.0 (i b.0 b.1) in
             viable_of (ms ++ (n ∷ [])) e' h (b.0 ∷ l.0) (b.1, l.1))
             (λ y. viable_of (ms ++ (n ∷ [])) e' h [] y) a;

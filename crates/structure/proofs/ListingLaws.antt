@@ -12,7 +12,7 @@ use native.Mathlib.Decide.{dec_lt, ℕ_discrete}
 use native.Mathlib.Omega.{arith}
 use lib.Dec.{eqb}
 use borrow.Author.Tests.{eqb-true, eqb-false, eq-eqb}
-use Rattle.alphabet.proofs.BoolLaws.{false-true}
+use Rattle.alphabet.proofs.BoolLaws.{false_true}
 use Rattle.structure.specs.SegmentNames.{among}
 use Rattle.structure.specs.Listed.{In, here, there, Rising, Earliest, Listed}
 use Rattle.structure.specs.Engine.{bit, has, hasb, name_in, listing}
@@ -21,23 +21,23 @@ use Rattle.structure.proofs.GatherLaws.{low_bit}
 
 -- ---- one of a list
 
-in-none : {x : ℕ} {l : List ℕ} → In x l → l ≡ [] → ⊥
-in-none here e = let z : ◌≡◌ {A = ℕ} 0 1 = cc in omega arith
-in-none (there i) e = let z : ◌≡◌ {A = ℕ} 0 1 = cc in omega arith
+in_none : {x : ℕ} {l : List ℕ} → In x l → l ≡ [] → ⊥
+in_none here e = let z : ◌≡◌ {A = ℕ} 0 1 = cc in omega arith
+in_none (there i) e = let z : ◌≡◌ {A = ℕ} 0 1 = cc in omega arith
 
 in_left : {x : ℕ} (l r : List ℕ) → In x l → In x (l ++ r)
 in_left (y ∷ l) r here = here
 in_left (y ∷ l) r (there i) = there (in_left l r i)
 
-in-last : (l : List ℕ) (x : ℕ) → In x (l ++ (x ∷ []))
-in-last [] x = here
-in-last (y ∷ l) x = there (in-last l x)
+in_last : (l : List ℕ) (x : ℕ) → In x (l ++ (x ∷ []))
+in_last [] x = here
+in_last (y ∷ l) x = there (in_last l x)
 
-in-snoc : {x : ℕ} (l : List ℕ) (y : ℕ) → In x (l ++ (y ∷ [])) → In x l ⊎ (x ≡ y)
-in-snoc [] y here = inr refl
-in-snoc [] y (there i) = absurd (in-none i refl)
-in-snoc (z ∷ l) y here = inl here
-in-snoc (z ∷ l) y (there i) = ⊎_elim (λ a. inl (there a)) (λ b. inr b) (in-snoc l y i)
+in_snoc : {x : ℕ} (l : List ℕ) (y : ℕ) → In x (l ++ (y ∷ [])) → In x l ⊎ (x ≡ y)
+in_snoc [] y here = inr refl
+in_snoc [] y (there i) = absurd (in_none i refl)
+in_snoc (z ∷ l) y here = inl here
+in_snoc (z ∷ l) y (there i) = ⊎_elim (λ a. inl (there a)) (λ b. inr b) (in_snoc l y i)
 
 in_map : (f : ℕ → ℕ) {x : ℕ} {l : List ℕ} → In x l → In (f x) (map f l)
 in_map f here = here
@@ -49,17 +49,17 @@ map_in f y (x ∷ l) (there i) = let k = map_in f y l i in (k.0, there k.1, k.2)
 
 pub among_in : (n : ℕ) (l : List ℕ) → among n l ≡ true → In n l
 unfolding among
-among_in n [] e = false-true e
+among_in n [] e = false_true e
 among_in n (x ∷ l) e = at (eqb n x) refl e (among_in n l)
   where
     at : (t : Bool) → eqb n x ≡ t → (t || among n l) ≡ true → (among n l ≡ true → In n l) → In n (x ∷ l)
     at true q e r = subst (λ (y : ℕ). In n (y ∷ l)) (eqb-true n x q) here
     at false q e r = there (r e)
 
-pub in-among : {n : ℕ} {l : List ℕ} → In n l → among n l ≡ true
+pub in_among : {n : ℕ} {l : List ℕ} → In n l → among n l ≡ true
 unfolding among
-in-among {n} here = rw (eq-eqb n n refl)
-in-among {n} (there {y} {l} i) = at (eqb n y) (in-among i)
+in_among {n} here = rw (eq-eqb n n refl)
+in_among {n} (there {y} {l} i) = at (eqb n y) (in_among i)
   where
     at : (t : Bool) → among n l ≡ true → (t || among n l) ≡ true
     at true e = refl
@@ -71,22 +71,22 @@ rising_snoc : (j k : ℕ) (ps : List ℕ) → Rising j ps → ((p : ℕ) → In 
 rising_snoc j k [] r h l = (l, tt)
 rising_snoc j k (p ∷ ps) r h l = (r.0, rising_snoc (suc p) k ps r.1 (λ q i. h q (there i)) (h p here))
 
-rising-least : (j x : ℕ) (ps : List ℕ) → Rising j ps → In x ps → j ≤ x
-rising-least j x (p ∷ ps) r here = r.0
-rising-least j x (p ∷ ps) r (there i) = let h = rising-least (suc p) x ps r.1 i in let g = r.0 in omega arith
+rising_least : (j x : ℕ) (ps : List ℕ) → Rising j ps → In x ps → j ≤ x
+rising_least j x (p ∷ ps) r here = r.0
+rising_least j x (p ∷ ps) r (there i) = let h = rising_least (suc p) x ps r.1 i in let g = r.0 in omega arith
 
 -- rising lists of the same numbers are the same
 pub rising_one : (j k : ℕ) (ps qs : List ℕ) → Rising j ps → Rising k qs → ((x : ℕ) → In x ps → In x qs) → ((x : ℕ) → In x qs → In x ps) → ps ≡ qs
 rising_one j k [] [] r t f g = refl
-rising_one j k [] (q ∷ qs) r t f g = absurd (in-none (g q here) refl)
-rising_one j k (p ∷ ps) [] r t f g = absurd (in-none (f p here) refl)
+rising_one j k [] (q ∷ qs) r t f g = absurd (in_none (g q here) refl)
+rising_one j k (p ∷ ps) [] r t f g = absurd (in_none (f p here) refl)
 rising_one j k (p ∷ ps) (q ∷ qs) r t f g =
-    let low = rising-least q p (q ∷ qs) (omega arith, t.1) (f p here) in
-    let high = rising-least p q (p ∷ ps) (omega arith, r.1) (g q here) in
+    let low = rising_least q p (q ∷ qs) (omega arith, t.1) (f p here) in
+    let high = rising_least p q (p ∷ ps) (omega arith, r.1) (g q here) in
     let e : p ≡ q = omega arith in
     let rest = rising_one (suc p) (suc q) ps qs r.1 t.1
-    (λ x i. let h = rising-least (suc p) x ps r.1 i in tail x q qs (λ z. omega arith) (f x (there i)))
-    (λ x i. let h = rising-least (suc q) x qs t.1 i in tail x p ps (λ z. omega arith) (g x (there i))) in
+    (λ x i. let h = rising_least (suc p) x ps r.1 i in tail x q qs (λ z. omega arith) (f x (there i)))
+    (λ x i. let h = rising_least (suc q) x qs t.1 i in tail x p ps (λ z. omega arith) (g x (there i))) in
     cc
   where
     tail : (x y : ℕ) (l : List ℕ) → (x ≡ y → ⊥) → In x (y ∷ l) → In x l
@@ -131,11 +131,11 @@ module _ (ns : List ℕ) (set : ℕ) where
   taken k l u f = record {
     places = u.places ++ (k ∷ []);
     rising = rising_snoc 0 k u.places u.rising (λ p h. (u.each p h).0) (omega arith);
-    each = λ p h. ⊎_elim (λ i. let e = u.each p i in let b = e.0 in (omega arith, e.1)) (λ e. (omega arith, subst First (sym e) f)) (in-snoc u.places k h);
-    all = λ p h g. ⊎_elim (λ b. in_left u.places (k ∷ []) (u.all p b g)) (λ e. subst (λ (x : ℕ). In x (u.places ++ (k ∷ []))) (sym e) (in-last u.places k)) (below_or p k h);
+    each = λ p h. ⊎_elim (λ i. let e = u.each p i in let b = e.0 in (omega arith, e.1)) (λ e. (omega arith, subst First (sym e) f)) (in_snoc u.places k h);
+    all = λ p h g. ⊎_elim (λ b. in_left u.places (k ∷ []) (u.all p b g)) (λ e. subst (λ (x : ℕ). In x (u.places ++ (k ∷ []))) (sym e) (in_last u.places k)) (below_or p k h);
     named = ap (λ (x : List ℕ). x ++ (name_in ns k ∷ [])) u.named ∙ sym (snoc_map (name_in ns) u.places k);
     every = λ q h m. ⊎_elim (λ b. in_left l (name_in ns k ∷ []) (u.every q b m))
-        (λ e. subst (λ (x : ℕ). In (name_in ns x) (l ++ (name_in ns k ∷ []))) (sym e) (in-last l (name_in ns k))) (below_or q k h);
+        (λ e. subst (λ (x : ℕ). In (name_in ns x) (l ++ (name_in ns k ∷ []))) (sym e) (in_last l (name_in ns k))) (below_or q k h);
   }
 
   upto : (k : ℕ) → Upto k (listing ns set k)
@@ -143,7 +143,7 @@ module _ (ns : List ℕ) (set : ℕ) where
   upto zero = record {
     places = [];
     rising = tt;
-    each = λ p h. absurd (in-none h refl);
+    each = λ p h. absurd (in_none h refl);
     all = λ p h f. absurd (omega arith);
     named = refl;
     every = λ q h m. absurd (omega arith);
@@ -165,7 +165,7 @@ module _ (ns : List ℕ) (set : ℕ) where
           taken k l u
           (record {
             possible = eqb-true (bit set k) 1 e;
-            no_earlier = λ q h m s. false-true (sym f ∙ in-among (subst (λ (x : ℕ). In x l) s (u.every q h m)));
+            no_earlier = λ q h m s. false_true (sym f ∙ in_among (subst (λ (x : ℕ). In x l) s (u.every q h m)));
           })
       at false e a f u = passed k l u (λ g. eqb-false (bit set k) 1 e g.possible) (λ m. absurd (eqb-false (bit set k) 1 e m))
 
@@ -214,10 +214,10 @@ abbrev pub filled : List ℕ → List ℕ
 filled l = l ++ replicate (64 - length l) 0
 
 module _ (ns : List ℕ) (set : ℕ) where
-  pub listing-short : (k : ℕ) → length (listing ns set k) ≤ k
+  pub listing_short : (k : ℕ) → length (listing ns set k) ≤ k
   unfolding listing
-  listing-short zero = omega arith
-  listing-short (suc k) = at (hasb set k && not (among (name_in ns k) (listing ns set k))) (listing-short k)
+  listing_short zero = omega arith
+  listing_short (suc k) = at (hasb set k && not (among (name_in ns k) (listing ns set k))) (listing_short k)
     where
       at : (t : Bool) → length (listing ns set k) ≤ k → length (cond t (listing ns set k ++ (name_in ns k ∷ [])) (listing ns set k)) ≤ suc k
       at true h = let n = length-append (listing ns set k) (name_in ns k ∷ []) in omega arith
@@ -228,10 +228,10 @@ module _ (ns : List ℕ) (set : ℕ) where
   unfolding listing
   listing_taken k t = rw add-one (rw (rw (low_bit (set / 2 ^ k)) at t))
 
-  pub listing-passed : (k : ℕ) → (eqb (bit_and (set / 2 ^ k) 1) 1 && not (among (get_or ns k 0) (listing ns set k))) ≡ false
+  pub listing_passed : (k : ℕ) → (eqb (bit_and (set / 2 ^ k) 1) 1 && not (among (get_or ns k 0) (listing ns set k))) ≡ false
       → listing ns set (k + 1) ≡ listing ns set k
   unfolding listing
-  listing-passed k t = rw add-one (rw (rw (low_bit (set / 2 ^ k)) at t))
+  listing_passed k t = rw add-one (rw (rw (low_bit (set / 2 ^ k)) at t))
 
   pub listing_none : listing ns set 0 ≡ []
   unfolding listing
@@ -245,8 +245,8 @@ filled_more l x h =
     ap (λ (i : ℕ). set (l ++ replicate i 0) (length l) x) n ∙ set-append_seam l 0 (replicate (64 - (length l + 1)) 0) x
     ∙ sym (append_snoc l x (replicate (64 - (length l + 1)) 0)) ∙ ap (λ (i : ℕ). (l ++ (x ∷ [])) ++ replicate (64 - i) 0) (sym m)
 
-pub filled-front : (l : List ℕ) → take (length l) (filled l) ≡ l
-filled-front l = take-append_seam l (replicate (64 - length l) 0)
+pub filled_front : (l : List ℕ) → take (length l) (filled l) ≡ l
+filled_front l = take-append_seam l (replicate (64 - length l) 0)
 
-pub filled-length : (l : List ℕ) → length l ≤ 64 → length (filled l) ≡ 64
-filled-length l h = let n = length-append l (replicate (64 - length l) 0) in let m = length-replicate {A = ℕ} (64 - length l) 0 in omega arith
+pub filled_length : (l : List ℕ) → length l ≤ 64 → length (filled l) ≡ 64
+filled_length l h = let n = length-append l (replicate (64 - length l) 0) in let m = length-replicate {A = ℕ} (64 - length l) 0 in omega arith

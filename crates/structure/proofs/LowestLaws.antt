@@ -13,7 +13,7 @@ use lib.ListN.{get_or}
 use lib.Pow.{shr-shr, shr_lt}
 use borrow.Author.Tests.{eq-eqb, ne_eqb}
 use Rattle.structure.specs.Engine.{bit, hasb, Entry, entry, into, join, entry_at, name_in, gathered}
-use Rattle.structure.proofs.SetLaws.{bit-or}
+use Rattle.structure.proofs.SetLaws.{bit_or}
 use Rattle.structure.proofs.GatherLaws.{low_bit}
 
 -- ---- the lowest place
@@ -86,7 +86,7 @@ or_grouped_below (suc k) a b c h =
     let i = or_grouped_below k (a / 2) (b / 2) (c / 2) (omega arith) in
     let l : bit_or (bit_or a b) c / 2 ≡ bit_or (bit_or (a / 2) (b / 2)) (c / 2) = or_half (bit_or a b) c ∙ ap (λ (x : ℕ). bit_or x (c / 2)) (or_half a b) in
     let r : bit_or a (bit_or b c) / 2 ≡ bit_or (a / 2) (bit_or (b / 2) (c / 2)) = or_half a (bit_or b c) ∙ ap (bit_or (a / 2)) (or_half b c) in
-    omega (arith, i, l, r, bit-or (bit_or a b) c 0, bit-or a b 0, bit-or a (bit_or b c) 0, bit-or b c 0)
+    omega (arith, i, l, r, bit_or (bit_or a b) c 0, bit_or a b 0, bit_or a (bit_or b c) 0, bit_or b c 0)
 
 or_grouped : (a b c : ℕ) → bit_or (bit_or a b) c ≡ bit_or a (bit_or b c)
 or_grouped a b c = or_grouped_below a a b c (omega arith)
@@ -110,8 +110,8 @@ join_turned a b = ap₂ entry (or_comm a.next b.next) (either_turned a.ends b.en
 join_swapped : (a b c : Entry) → join (join a b) c ≡ join (join a c) b
 join_swapped a b c = join_grouped a b c ∙ ap (join a) (join_turned b c) ∙ sym (join_grouped a c b)
 
-pub join-none : (a : Entry) → join (into 0) a ≡ a
-join-none a = ap (λ (m : ℕ). entry m a.ends) (or_zero_l a.next)
+pub join_none : (a : Entry) → join (into 0) a ≡ a
+join_none a = ap (λ (m : ℕ). entry m a.ends) (or_zero_l a.next)
 
 -- ---- what a step gathers of a set, and of the set without a place
 
@@ -180,13 +180,13 @@ module _ (ns follow : List ℕ) (last n : ℕ) where
       ∙ ap (join (entry next ends)) (join_turned (entry_at follow last p) (of y k) ∙ sym (taken x p y w m k h))
 
   -- nothing is gathered of no place
-  gathered-nothing : (k : ℕ) → of 0 k ≡ into 0
+  gathered_nothing : (k : ℕ) → of 0 k ≡ into 0
   unfolding gathered
-  gathered-nothing zero = refl
-  gathered-nothing (suc k) =
+  gathered_nothing zero = refl
+  gathered_nothing (suc k) =
       let o : hasb 0 k ≡ false = ne_eqb (bit 0 k) 1 (λ (z : bit 0 k ≡ 1). omega (arith, zero-div (2 ^ k))) in
-      rw o (gathered-nothing k)
+      rw o (gathered_nothing k)
 
   pub nothing_left : (k next : ℕ) (ends : Bool) → join (entry next ends) (of 0 k) ≡ entry next ends
   nothing_left k next ends =
-      ap (join (entry next ends)) (gathered-nothing k) ∙ join_turned (entry next ends) (into 0) ∙ join-none (entry next ends)
+      ap (join (entry next ends)) (gathered_nothing k) ∙ join_turned (entry next ends) (into 0) ∙ join_none (entry next ends)

@@ -19,11 +19,11 @@ use Rattle.structure.specs.Shapes.{Shape, Yields, Viable, Fills, Possible, names
 use Rattle.structure.specs.SegmentNames.{kept, segment_names}
 use Rattle.structure.specs.Listed.{In, Listed}
 use Rattle.structure.specs.Structures.{ListedStructure, chosen, unlisted, structure_for, built_in}
-use Rattle.structure.specs.Judged.{front, Refused, refused_as, Judged, accepted, refused, StructuredBy, no-structure, by, AnswersBy, unread, read, Answers}
+use Rattle.structure.specs.Judged.{front, Refused, refused_as, Judged, accepted, refused, StructuredBy, no_structure, by, AnswersBy, unread, read, Answers}
 use Rattle.fault.specs.Faults.{plain}
 use Rattle.fault.specs.declared.FaultRecord.{FaultRecord}
 use Rattle.structure.proofs.PlaceLaws.{CouldEnd, yields_is}
-use Rattle.structure.proofs.Going.{map-append}
+use Rattle.structure.proofs.Going.{map_append}
 use Rattle.structure.proofs.ListingLaws.{one_list, in_list}
 use Rattle.structure.proofs.WalkLaws.{kept_append}
 
@@ -53,15 +53,15 @@ module _ (s : Shape) where
     pub goes_on : (place : ℕ) (ends : Bool) (list : List ℕ) → Refused s ns place ends list → (i : ℕ) → i ≤ place → Viable s (front s i ns)
     goes_on place ends list r i h = viable_front (front s i ns) (kept (names s) (drop i (take place ns))) (subst (Viable s) (front_of i place ns h) r.begun)
 
-    not-before : (p q : ℕ) (d e : Bool) (k l : List ℕ) → Refused s ns p d k → Refused s ns q e l → p < q → ⊥
-    not-before p q d e k l a b h = let w = b.within in a.stuck (omega arith) (goes_on q e l b (p + 1) (omega arith))
+    not_before : (p q : ℕ) (d e : Bool) (k l : List ℕ) → Refused s ns p d k → Refused s ns q e l → p < q → ⊥
+    not_before p q d e k l a b h = let w = b.within in a.stuck (omega arith) (goes_on q e l b (p + 1) (omega arith))
 
     one_place : (p q : ℕ) (d e : Bool) (k l : List ℕ) → Refused s ns p d k → Refused s ns q e l → p ≡ q
     one_place p q d e k l a b = go (dec_lt p q) (dec_lt q p)
       where
         go : Dec (p < q) → Dec (q < p) → p ≡ q
-        go (yes h) x = absurd (not-before p q d e k l a b h)
-        go (no h) (yes g) = absurd (not-before q p e d l k b a g)
+        go (yes h) x = absurd (not_before p q d e k l a b h)
+        go (no h) (yes g) = absurd (not_before q p e d l k b a g)
         go (no h) (no g) = omega arith
 
     one_flag : (d e : Bool) (Y : Type 0) → T d ↔ Y → T e ↔ Y → d ≡ e
@@ -91,7 +91,7 @@ module _ (s : Shape) where
           let k = in_list (Possible s (front s place ns)) (name_at s) list r.could_stand n i in
           let c = k.1 in
           let way : CouldEnd s (front s place ns ++ (name_at s k.0 ∷ map (name_at s) c.1)) =
-          (c.0 ++ (k.0 ∷ c.1), map-append (name_at s) c.0 (k.0 ∷ c.1) ∙ ap (λ (l : List ℕ). l ++ (name_at s k.0 ∷ map (name_at s) c.1)) c.2, c.3) in
+          (c.0 ++ (k.0 ∷ c.1), map_append (name_at s) c.0 (k.0 ∷ c.1) ∙ ap (λ (l : List ℕ). l ++ (name_at s k.0 ∷ map (name_at s) c.1)) c.2, c.3) in
           subst (λ (x : ℕ). Viable s (front s place ns ++ (x ∷ []))) k.2
           (map (name_at s) c.1, subst (Yields s) (sym (append_snoc (front s place ns) (name_at s k.0) (map (name_at s) c.1))) ((yields_is s _).1 way)),
       λ v.
@@ -115,9 +115,9 @@ module _ (s : Shape) where
 module _ (book : List ListedStructure) (m : List ℕ) where
   -- no second judgement of a message that was read
   one_structured_by : {r t : FaultRecord} → StructuredBy book m r → StructuredBy book m t → r ≡ t
-  one_structured_by (no-structure e) (no-structure f) = refl
-  one_structured_by (no-structure e) (by x f j) = absurd (let z : ◌≡◌ {A = ℕ} 0 1 = cc in omega arith)
-  one_structured_by (by x e j) (no-structure f) = absurd (let z : ◌≡◌ {A = ℕ} 0 1 = cc in omega arith)
+  one_structured_by (no_structure e) (no_structure f) = refl
+  one_structured_by (no_structure e) (by x f j) = absurd (let z : ◌≡◌ {A = ℕ} 0 1 = cc in omega arith)
+  one_structured_by (by x e j) (no_structure f) = absurd (let z : ◌≡◌ {A = ℕ} 0 1 = cc in omega arith)
   one_structured_by (by x e j) (by {r = t} y f k) =
       let q : y ≡ x = cc in
       one_judgement x.shape (segment_names m) j (subst (λ (z : ListedStructure). Judged z.shape (segment_names m) t) q k)

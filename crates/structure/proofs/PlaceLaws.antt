@@ -40,9 +40,9 @@ size_is (rep b s) = ap₂ (λ (x y : ℕ). x + y) (size_is b) (size_is s) ∙ sy
 Reads : (ℕ → ℕ) → ℕ → List ℕ → Type 0
 Reads f k ns = (i : ℕ) → i < length ns → f (k + i) ≡ get_or ns i 0
 
-reads-left : (f : ℕ → ℕ) (k : ℕ) (b s : Shape) → Reads f k (names b ++ names s) → Reads f k (names b)
+reads_left : (f : ℕ → ℕ) (k : ℕ) (b s : Shape) → Reads f k (names b ++ names s) → Reads f k (names b)
 unfolding Reads
-reads-left f k b s h i l = h i (rw length-append (omega arith)) ∙ get_or-append (names b) (names s) 0 i l
+reads_left f k b s h i l = h i (rw length-append (omega arith)) ∙ get_or-append (names b) (names s) 0 i l
 
 reads_right : (f : ℕ → ℕ) (k : ℕ) (b s : Shape) → Reads f k (names b ++ names s) → Reads f (k + size b) (names s)
 unfolding Reads
@@ -56,8 +56,8 @@ named f end k h = refl
 named f (seg n s) k h =
     ap₂ seg (ap f (sym (add-zero k)) ∙ h 0 (omega arith))
     (named f s (suc k) (λ i l. ap f (suc-add k i ∙ sym (add-suc k i)) ∙ h (suc i) (omega arith)))
-named f (opt b s) k h = ap₂ opt (named f b k (reads-left f k b s h)) (named f s (k + size b) (reads_right f k b s h))
-named f (rep b s) k h = ap₂ rep (named f b k (reads-left f k b s h)) (named f s (k + size b) (reads_right f k b s h))
+named f (opt b s) k h = ap₂ opt (named f b k (reads_left f k b s h)) (named f s (k + size b) (reads_right f k b s h))
+named f (rep b s) k h = ap₂ rep (named f b k (reads_left f k b s h)) (named f s (k + size b) (reads_right f k b s h))
 
 pub relabelled : (s : Shape) → relabel (name_at s) (numbered 0 s) ≡ s
 unfolding Reads

@@ -10,7 +10,7 @@ use Rattle.structure.specs.Shapes.{Shape}
 use Rattle.structure.specs.Structures.{ListedStructure, Choice, chosen, unlisted}
 use Rattle.structure.specs.Engine.{into, Tables, rows_with, RowsAre, RowsOf}
 use Rattle.structure.specs.declared.rows.Rows.{Rows}
-use Rattle.structure.proofs.ListingLaws.{filled, filled_more, filled-front}
+use Rattle.structure.proofs.ListingLaws.{filled, filled_more, filled_front}
 
 -- one more of a list that is copied
 pub copied_more : (l : List ℕ) (p : ℕ) → p < length l → length l ≤ 64 → set (filled (take p l)) p (get_or l p 0) ≡ filled (take (p + 1) l)
@@ -27,8 +27,8 @@ rows_are s ns follow last r e some most same t =
     subst (RowsAre s) (sym e) (
       some,
       most,
-      subst (λ (l : List ℕ). Tables s l (take (length ns) (filled follow)) last (into 1)) (sym (filled-front ns))
-          (subst (λ (l : List ℕ). Tables s ns l last (into 1)) (sym (ap (λ (i : ℕ). take i (filled follow)) (sym same) ∙ filled-front follow)) t),
+      subst (λ (l : List ℕ). Tables s l (take (length ns) (filled follow)) last (into 1)) (sym (filled_front ns))
+          (subst (λ (l : List ℕ). Tables s ns l last (into 1)) (sym (ap (λ (i : ℕ). take i (filled follow)) (sym same) ∙ filled_front follow)) t),
     )
 
 pub no_rows : (r : Rows) → r ≡ rows_with [] [] 0 → r.count ≡ 0
@@ -42,9 +42,9 @@ rows_few (chosen x) r h = h.1
 rows_few unlisted r h = omega arith
 
 -- where there are none, none was chosen
-pub none-chosen : (choice : Choice) (r : Rows) → RowsOf choice r → r.count ≡ 0 → choice ≡ unlisted
-none-chosen (chosen x) r h n = let some = h.0 in absurd (omega arith)
-none-chosen unlisted r h n = refl
+pub none_chosen : (choice : Choice) (r : Rows) → RowsOf choice r → r.count ≡ 0 → choice ≡ unlisted
+none_chosen (chosen x) r h n = let some = h.0 in absurd (omega arith)
+none_chosen unlisted r h n = refl
 
 -- where there are some, they are the tables of the one that was
 pub one_chosen : (choice : Choice) (r : Rows) → RowsOf choice r → (r.count ≡ 0 → ⊥)

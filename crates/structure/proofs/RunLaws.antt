@@ -9,7 +9,7 @@ use lib.Dec.{T}
 use lib.Seq.{append_snoc}
 use Rattle.structure.specs.Shapes.{Shape, Spans, Fills, Possible, name_at, numbered}
 use Rattle.structure.specs.Engine.{has, Entry, stop, enter, Fits}
-use Rattle.structure.proofs.SetLaws.{has-zero}
+use Rattle.structure.proofs.SetLaws.{has_zero}
 use Rattle.structure.proofs.PlaceLaws.{CouldEnd}
 use Rattle.structure.proofs.FollowLaws.{Acc, complete, sound, live, Label, enter_label, next_label}
 
@@ -60,7 +60,7 @@ module _ (s : Shape) (tab : ℕ → Entry) where
       where
         ended_is : (us : List ℕ) → Acc tab stop us → us ≡ []
         ended_is [] a = refl
-        ended_is (q ∷ us) a = absurd (has-zero q a.0)
+        ended_is (q ∷ us) a = absurd (has_zero q a.0)
 
         no_names : (ps : List ℕ) → map (name_at s) ps ≡ [] → ps ≡ []
         no_names [] e = refl
@@ -91,15 +91,15 @@ module _ (s : Shape) (tab : ℕ → Entry) where
     unfoldable pub Inside : Entry → Type 0
     Inside e = (q : ℕ) → has e.next q → Label (numbered 0 s) q
 
-    pub start-inside : Inside (enter (numbered 0 s) stop)
+    pub start_inside : Inside (enter (numbered 0 s) stop)
     unfolding Inside
-    start-inside q h = ⊎_elim (λ l. l) (λ r. absurd (has-zero q r)) (enter_label (numbered 0 s) stop q h)
+    start_inside q h = ⊎_elim (λ l. l) (λ r. absurd (has_zero q r)) (enter_label (numbered 0 s) stop q h)
 
-    pub step-inside : (n : ℕ) (e e' : Entry) → Inside e → Stepped tab (name_at s) e.next n e' → Inside e'
+    pub step_inside_lem : (n : ℕ) (e e' : Entry) → Inside e → Stepped tab (name_at s) e.next n e' → Inside e'
     unfolding Inside
-    step-inside n e e' i st q h =
+    step_inside_lem n e e' i st q h =
         let k = st.next_from q h in
-        ⊎_elim (λ l. l) (λ r. absurd (has-zero q r)) (next_label tab (numbered 0 s) stop fits k.0 q (i k.0 k.1.0) k.2)
+        ⊎_elim (λ l. l) (λ r. absurd (has_zero q r)) (next_label tab (numbered 0 s) stop fits k.0 q (i k.0 k.1.0) k.2)
 
     pub ends_is : (ns : List ℕ) (e : Entry) → Holds ns e → T e.ends ↔ CouldEnd s ns
     unfolding Holds

@@ -8,7 +8,7 @@ use Rattle.alphabet.specs.Bytes.{carriage_return}
 use Rattle.alphabet.specs.Lists.{find}
 use Rattle.alphabet.specs.Parts.{split}
 use Rattle.reading.specs.Segments.{all_but_last, segments, name_of}
-use Rattle.reading.proofs.SegmentLaws.{segments_walk, segments-over}
+use Rattle.reading.proofs.SegmentLaws.{segments_walk, segments_over}
 use Rattle.structure.specs.SegmentNames.{segment_names, passed_over}
 use Rattle.structure.specs.Engine.{Entry, entry, stepped, stuck_at, ended_with, walked, resumed}
 use Rattle.structure.specs.declared.walking.Course.{Course}
@@ -19,28 +19,28 @@ use Rattle.structure.specs.declared.walking.Walked.TheVariants.{Accepted, Mispla
 abbrev pub names_from : List ℕ → ℕ → List ℕ
 names_from m start = map name_of (all_but_last (split carriage_return (drop start m)))
 
-pub names-all : (m : List ℕ) → segment_names m ≡ names_from m 0
+pub names_all : (m : List ℕ) → segment_names m ≡ names_from m 0
 unfolding segment_names segments
-names-all m = refl
+names_all m = refl
 
 pub names_walk : (m : List ℕ) (start end : ℕ) → end ≡ start + find carriage_return (drop start m) → end < length m
     → names_from m start ≡ name_of (take (end - start) (drop start m)) ∷ names_from m (end + 1)
 names_walk m start end e h = ap (map name_of) (segments_walk m start end e h)
 
-pub names-over : (m : List ℕ) (start : ℕ) → length m ≤ start + find carriage_return (drop start m) → names_from m start ≡ []
-names-over m start h = ap (map name_of) (segments-over m start h)
+pub names_over : (m : List ℕ) (start : ℕ) → length m ≤ start + find carriage_return (drop start m) → names_from m start ≡ []
+names_over m start h = ap (map name_of) (segments_over m start h)
 
 -- ---- one turn
 
 module _ (ns follow : List ℕ) (last : ℕ) (e : Entry) (i : ℕ) (n : ℕ) (l : List ℕ) where
-  walked-over : passed_over ns n ≡ true → walked ns follow last e i (n ∷ l) ≡ walked ns follow last e (i + 1) l
+  walked_over : passed_over ns n ≡ true → walked ns follow last e i (n ∷ l) ≡ walked ns follow last e (i + 1) l
   unfolding walked
-  walked-over p = rw p
+  walked_over p = rw p
 
   module _ (p : passed_over ns n ≡ false) where
-    walked-stuck : stuck_at (stepped ns follow last e.next n) ≡ true → walked ns follow last e i (n ∷ l) ≡ Misplaced i e.next e.ends
+    walked_stuck : stuck_at (stepped ns follow last e.next n) ≡ true → walked ns follow last e i (n ∷ l) ≡ Misplaced i e.next e.ends
     unfolding walked
-    walked-stuck q = rw p (rw q)
+    walked_stuck q = rw p (rw q)
 
     walked_on : stuck_at (stepped ns follow last e.next n) ≡ false → walked ns follow last e i (n ∷ l) ≡ walked ns follow last (stepped ns follow last e.next n) (i + 1) l
     unfolding walked
@@ -69,11 +69,11 @@ module _ (ns follow : List ℕ) (last : ℕ) {c : Course} where
 
     module _ (n : ℕ) (l : List ℕ) where
       pub passes_over : passed_over ns n ≡ true → walked ns follow last (entry places ends) (i + 1) l ≡ resumed ns follow last c i (n ∷ l)
-      passes_over p = sym (on_its_way (n ∷ l) ∙ walked-over ns follow last (entry places ends) i n l p)
+      passes_over p = sym (on_its_way (n ∷ l) ∙ walked_over ns follow last (entry places ends) i n l p)
 
       module _ (p : passed_over ns n ≡ false) {e : Entry} (s : e ≡ stepped ns follow last places n) where
         pub gets_stuck : stuck_at e ≡ true → Misplaced i places ends ≡ resumed ns follow last c i (n ∷ l)
-        gets_stuck q = sym (on_its_way (n ∷ l) ∙ walked-stuck ns follow last (entry places ends) i n l p (ap stuck_at (sym s) ∙ q))
+        gets_stuck q = sym (on_its_way (n ∷ l) ∙ walked_stuck ns follow last (entry places ends) i n l p (ap stuck_at (sym s) ∙ q))
 
         pub goes_on : stuck_at e ≡ false → walked ns follow last e (i + 1) l ≡ resumed ns follow last c i (n ∷ l)
         goes_on q = sym (on_its_way (n ∷ l) ∙ walked_on ns follow last (entry places ends) i n l p (ap stuck_at (sym s) ∙ q) ∙ ap (λ (x : Entry). walked ns follow last x (i + 1) l) (sym s))

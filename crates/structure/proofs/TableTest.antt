@@ -25,8 +25,8 @@ beq_eq false false t = refl
 abbrev pub same : Entry → Entry → Bool
 same a b = eqb a.next b.next && beq a.ends b.ends
 
-same-eq : (a b : Entry) → T (same a b) → a ≡ b
-same-eq a b t =
+same_eq : (a b : Entry) → T (same a b) → a ≡ b
+same_eq a b t =
     ap₂ entry (eqb→eq a.next b.next (both_left (eqb a.next b.next) (beq a.ends b.ends) t))
     (beq_eq a.ends b.ends (both_right (eqb a.next b.next) (beq a.ends b.ends) t))
 
@@ -39,7 +39,7 @@ fitsb tab (rep b s) c = fitsb tab b (again b (enter s c)) && fitsb tab s c
 pub fits_of : (tab : ℕ → Entry) (s : Shape) (c : Entry) → T (fitsb tab s c) → Fits tab s c
 fits_of tab end c t = tt
 fits_of tab (seg n s) c t =
-    (same-eq (tab n) (enter s c) (both_left (same (tab n) (enter s c)) (fitsb tab s c) t), fits_of tab s c (both_right (same (tab n) (enter s c)) (fitsb tab s c) t))
+    (same_eq (tab n) (enter s c) (both_left (same (tab n) (enter s c)) (fitsb tab s c) t), fits_of tab s c (both_right (same (tab n) (enter s c)) (fitsb tab s c) t))
 fits_of tab (opt b s) c t =
     (fits_of tab b (enter s c) (both_left (fitsb tab b (enter s c)) (fitsb tab s c) t), fits_of tab s c (both_right (fitsb tab b (enter s c)) (fitsb tab s c) t))
 fits_of tab (rep b s) c t = (
@@ -49,4 +49,4 @@ fits_of tab (rep b s) c t = (
 
 pub tables_of : (s : Shape) (ns follow : List ℕ) (last : ℕ) (begin : Entry) → ns ≡ names s → T (fitsb (entry_at follow last) (numbered 0 s) stop)
     → T (same begin (enter (numbered 0 s) stop)) → Tables s ns follow last begin
-tables_of s ns follow last begin a b c = record { named = a; fits = fits_of (entry_at follow last) (numbered 0 s) stop b; begins = same-eq begin (enter (numbered 0 s) stop) c }
+tables_of s ns follow last begin a b c = record { named = a; fits = fits_of (entry_at follow last) (numbered 0 s) stop b; begins = same_eq begin (enter (numbered 0 s) stop) c }

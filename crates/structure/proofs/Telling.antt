@@ -19,8 +19,8 @@ use Rattle.fault.specs.declared.FaultRecord.{FaultRecord}
 use Rattle.structure.proofs.WalkLaws.{Walks, walk_is}
 
 -- what the walk does not accept is of another kind than `None`
-pub misplaced-refuses : SegmentMisplaced ≡ None → ⊥
-misplaced-refuses q = let z : ◌≡◌ {A = ℕ} 0 1 = cc in omega arith
+pub misplaced_refuses : SegmentMisplaced ≡ None → ⊥
+misplaced_refuses q = let z : ◌≡◌ {A = ℕ} 0 1 = cc in omega arith
 
 pub early_refuses : EndedEarly ≡ None → ⊥
 early_refuses q = let z : ◌≡◌ {A = ℕ} 0 1 = cc in omega arith
@@ -36,8 +36,8 @@ module _ (s : Shape) (ns follow : List ℕ) (last : ℕ) (begin : Entry) (t : Ta
   listed_is : (places : ℕ) → listing (names s) places (length (names s)) ≡ listed places
   listed_is places = ap (λ (x : List ℕ). listing x places (length x)) (sym t.named)
 
-  pub told-accepted : (w : Walked) → w ≡ walked ns follow last begin 0 all → w ≡ Accepted → Judged s all (plain None 0)
-  told-accepted w e f = accepted (subst (Walks s follow last t.fits all) f (came_to w e))
+  pub told_accepted : (w : Walked) → w ≡ walked ns follow last begin 0 all → w ≡ Accepted → Judged s all (plain None 0)
+  told_accepted w e f = accepted (subst (Walks s follow last t.fits all) f (came_to w e))
 
   module _ (place places : ℕ) (n : Names) (same : n ≡ name_list (listed places)) where
     -- refused, of a kind that is the place's
@@ -48,9 +48,9 @@ module _ (s : Shape) (ns follow : List ℕ) (last : ℕ) (begin : Entry) (t : Ta
         (subst (λ (x : Refusal). Judged s all (record { kind = x; place = place; field = 0; repetition = 0; could_end = ends; names = name_list (listed places) })) k
         (refused place ends (listed places) (subst (Refused s all place ends) (listed_is places) r)))
 
-    pub told-misplaced : (ends : Bool) (w : Walked) → w ≡ walked ns follow last begin 0 all → w ≡ Misplaced place places ends
+    pub told_misplaced : (ends : Bool) (w : Walked) → w ≡ walked ns follow last begin 0 all → w ≡ Misplaced place places ends
         → Judged s all (record { kind = SegmentMisplaced; place = place; field = 0; repetition = 0; could_end = ends; names = n })
-    told-misplaced ends w e f =
+    told_misplaced ends w e f =
         let c = subst (Walks s follow last t.fits all) f (came_to w e) in
         told_as ends SegmentMisplaced (rw (lt-ltb place (length all) c.0)) c.1
 

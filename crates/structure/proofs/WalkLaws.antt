@@ -11,7 +11,7 @@ use lib.Dec.{T, eqb}
 use lib.ListN.{length, take, length-append}
 use lib.Seq.{take-append_seam, append_snoc}
 use borrow.Author.Tests.{eqb-true, eqb-false}
-use Rattle.alphabet.proofs.BoolLaws.{false-true}
+use Rattle.alphabet.proofs.BoolLaws.{false_true}
 use Rattle.structure.specs.Shapes.{Shape, Yields, Viable, Possible, names, name_at, numbered}
 use Rattle.structure.specs.SegmentNames.{passed_over, kept}
 use Rattle.structure.specs.Judged.{front, Refused}
@@ -34,9 +34,9 @@ module _ (ns : List ℕ) where
       at true e = e
       at false e = ap (λ (l : List ℕ). x ∷ l) e
 
-  kept-over : (xs : List ℕ) (n : ℕ) → passed_over ns n ≡ true → kept ns (xs ++ (n ∷ [])) ≡ kept ns xs
+  kept_over : (xs : List ℕ) (n : ℕ) → passed_over ns n ≡ true → kept ns (xs ++ (n ∷ [])) ≡ kept ns xs
   unfolding kept
-  kept-over xs n e = kept_append xs (n ∷ []) ∙ ap (λ (t : Bool). kept ns xs ++ cond t [] (n ∷ [])) e ∙ append-nil (kept ns xs)
+  kept_over xs n e = kept_append xs (n ∷ []) ∙ ap (λ (t : Bool). kept ns xs ++ cond t [] (n ∷ [])) e ∙ append-nil (kept ns xs)
 
   kept_on : (xs : List ℕ) (n : ℕ) → passed_over ns n ≡ false → kept ns (xs ++ (n ∷ [])) ≡ kept ns xs ++ (n ∷ [])
   unfolding kept
@@ -48,16 +48,16 @@ stuck_both e q = at (eqb e.next 0) refl e.ends refl q
   where
     at : (t : Bool) → eqb e.next 0 ≡ t → (u : Bool) → e.ends ≡ u → (t && not u) ≡ true → (e.next ≡ 0) × (e.ends ≡ false)
     at true f false g h = (eqb-true e.next 0 f, g)
-    at true f true g h = false-true h
-    at false f u g h = false-true h
+    at true f true g h = false_true h
+    at false f u g h = false_true h
 
-stuck-not : (e : Entry) → stuck_at e ≡ false → (e.next ≡ 0 → ⊥) ⊎ T e.ends
-stuck-not e q = at (eqb e.next 0) refl e.ends refl q
+stuck_not : (e : Entry) → stuck_at e ≡ false → (e.next ≡ 0 → ⊥) ⊎ T e.ends
+stuck_not e q = at (eqb e.next 0) refl e.ends refl q
   where
     at : (t : Bool) → eqb e.next 0 ≡ t → (u : Bool) → e.ends ≡ u → (t && not u) ≡ false → (e.next ≡ 0 → ⊥) ⊎ T e.ends
     at false f u g h = inl (eqb-false e.next 0 f)
     at true f true g h = inr (subst T (sym g) tt)
-    at true f false g h = false-true (sym h)
+    at true f false g h = false_true (sym h)
 
 module _ (s : Shape) (follow : List ℕ) (last : ℕ) (fits : Fits (entry_at follow last) (numbered 0 s) stop) where
   abbrev ns : List ℕ
@@ -104,8 +104,8 @@ module _ (s : Shape) (follow : List ℕ) (last : ℕ) (fits : Fits (entry_at fol
         }
 
     -- at the end, where more are missing
-    at-end : e.ends ≡ false → Refused s (before ++ []) (length before) false (listed e.next)
-    at-end f =
+    at_end : e.ends ≡ false → Refused s (before ++ []) (length before) false (listed e.next)
+    at_end f =
         let here : take (length before) (before ++ []) ≡ before = take-append_seam before [] in
         let ends = yielded s ns follow last refl fits (kept ns before) e g in
         let none : Yields s (kept ns before) → ⊥ = λ y. subst T f (ends.1 y) in
@@ -129,7 +129,7 @@ module _ (s : Shape) (follow : List ℕ) (last : ℕ) (fits : Fits (entry_at fol
         at true f =
             subst (λ (x : List ℕ). Yields s (kept ns x)) (sym (append-nil before))
             ((yielded s ns follow last refl fits (kept ns before) e g).0 (subst T (sym f) tt))
-        at false f = (omega (arith, length-append before []), at-end f)
+        at false f = (omega (arith, length-append before []), at_end f)
 
   -- the names before, and the walk over the others from what is known after them
   walk_from : (before l : List ℕ) (e : Entry) → Goes before e → Walks (before ++ l) (walked ns follow last e (length before) l)
@@ -153,11 +153,11 @@ module _ (s : Shape) (follow : List ℕ) (last : ℕ) (fits : Fits (entry_at fol
           → Walks (before ++ n ∷ l)
           (cond t (walked ns follow last e (length before + 1) l)
           (cond u (Misplaced (length before) e.next e.ends) (walked ns follow last (stepped ns follow last e.next n) (length before + 1) l)))
-      at true p u q over on = over (subst (λ (x : List ℕ). Going s ns follow last refl fits x e) (sym (kept-over ns before n p)) g)
+      at true p u q over on = over (subst (λ (x : List ℕ). Going s ns follow last refl fits x e) (sym (kept_over ns before n p)) g)
       at false p true q over on = (omega (arith, length-append before (n ∷ l)), at_name before e g n l p q)
       at false p false q over on =
           on (subst (λ (x : List ℕ). Going s ns follow last refl fits x (stepped ns follow last e.next n)) (sym (kept_on ns before n p))
-          (onward s ns follow last refl fits (kept ns before) n e g (stuck-not (stepped ns follow last e.next n) q)))
+          (onward s ns follow last refl fits (kept ns before) n e g (stuck_not (stepped ns follow last e.next n) q)))
 
 -- the whole walk, with 'the tables are the structure's' as its only premise
 pub walk_is : (s : Shape) (ns follow : List ℕ) (last : ℕ) (begin : Entry) (t : Tables s ns follow last begin) (all : List ℕ)

@@ -38,7 +38,7 @@ pub data Judged (s : Shape) (ns : List ℕ) : FaultRecord → Type 0 where
 
 -- "20, 21, 22": a message judged by a book, a list of structures, where no reading fault is looked for
 pub data StructuredBy (book : List ListedStructure) (m : List ℕ) : FaultRecord → Type 0 where
-  no-structure : structure_for book m ≡ unlisted → StructuredBy book m (plain NoStructure 0)
+  no_structure : structure_for book m ≡ unlisted → StructuredBy book m (plain NoStructure 0)
   by : {r : FaultRecord} (x : ListedStructure) → structure_for book m ≡ chosen x → Judged x.shape (segment_names m) r → StructuredBy book m r
 
 -- "Judges answer a reading fault first, then 20, 21, 22"

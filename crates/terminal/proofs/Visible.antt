@@ -9,13 +9,13 @@ use lib.ListN.{length, get_or, take}
 use borrow.Author.Tests.{ltb-true, ltb-false}
 use Rattle.alphabet.specs.Bytes.{from_to, hex_digit}
 use Rattle.alphabet.specs.Lists.{first}
-use Rattle.alphabet.proofs.BoolLaws.{and_both, from_to_lem, false-true}
-use Rattle.alphabet.proofs.ListLaws.{first-before}
+use Rattle.alphabet.proofs.BoolLaws.{and_both, from_to_lem, false_true}
+use Rattle.alphabet.proofs.ListLaws.{first_before}
 use Rattle.terminal.specs.Terminal.{plain, not_plain, in_braces, Visible}
 
 -- a byte before the first that is not plain
 pub run_visible : (l : List ℕ) (i : ℕ) → i < first not_plain l → Visible (get_or l i 0)
-run_visible l i h = from_to_lem 32 126 (get_or l i 0) (and_both (from_to 32 126 (get_or l i 0)) (not (eqb (get_or l i 0) 123)) (at (plain (get_or l i 0)) (first-before not_plain l i h))).0
+run_visible l i h = from_to_lem 32 126 (get_or l i 0) (and_both (from_to 32 126 (get_or l i 0)) (not (eqb (get_or l i 0) 123)) (at (plain (get_or l i 0)) (first_before not_plain l i h))).0
   where
     at : (t : Bool) → not t ≡ false → t ≡ true
     at true e = refl

@@ -9,8 +9,8 @@ use lib.Dec.{ltb, eqb}
 use lib.ListN.{length, get_or, take, drop, length-append, drop_of_length-le}
 use lib.Seq.{drop-drop, length-take-le}
 use borrow.Author.Tests.{eq-eqb, ne_eqb, lt-ltb, le-ltb, ltb-true, ltb-false}
-use Rattle.alphabet.proofs.BoolLaws.{false-true}
-use Rattle.alphabet.proofs.ListLaws.{drop-next}
+use Rattle.alphabet.proofs.BoolLaws.{false_true}
+use Rattle.alphabet.proofs.ListLaws.{drop_next}
 use Rattle.alphabet.specs.Lists.{find}
 use Rattle.alphabet.specs.Bytes.{printable}
 use Rattle.alphabet.specs.declared.answers.Refusal.{Refusal}
@@ -20,38 +20,38 @@ use Rattle.text.specs.Unescape.{Sequences, plain_text, Step, stop, emit, sequenc
 use Rattle.escaping.specs.Outcomes.{Outcome, text, fault}
 use Rattle.text.specs.Judging.{is_text, text_of, seen}
 use Rattle.text.specs.declared.unescaping.Found.{Found}
-use Rattle.text.proofs.SequenceLaws.{meaning-short}
+use Rattle.text.proofs.SequenceLaws.{meaning_short}
 
 -- ---- what a step is
 
 module _ {A : Type 0} (q : Sequences A) (ds : List ℕ) (b : ℕ) (r : List ℕ) where
-  pub step-opens : b ≡ escape_of ds → step q ds b r ≡ sequence q ds r (find (escape_of ds) r)
+  pub step_opens : b ≡ escape_of ds → step q ds b r ≡ sequence q ds r (find (escape_of ds) r)
   unfolding step
-  step-opens o = rw (eq-eqb b (escape_of ds) o)
+  step_opens o = rw (eq-eqb b (escape_of ds) o)
 
-  pub step-known : (n : ℕ) → b ≡ escape_of ds → find (escape_of ds) r ≡ n → n < length r → q.known (take n r) ≡ true → step q ds b r ≡ emit (q.meaning ds (take n r)) (n + 1)
+  pub step_known : (n : ℕ) → b ≡ escape_of ds → find (escape_of ds) r ≡ n → n < length r → q.known (take n r) ≡ true → step q ds b r ≡ emit (q.meaning ds (take n r)) (n + 1)
   unfolding step sequence
-  step-known n o e h k = rw (eq-eqb b (escape_of ds) o) (rw e (rw (lt-ltb _ _ h) (rw k)))
+  step_known n o e h k = rw (eq-eqb b (escape_of ds) o) (rw e (rw (lt-ltb _ _ h) (rw k)))
 
-  pub step-unknown : (n : ℕ) → b ≡ escape_of ds → find (escape_of ds) r ≡ n → n < length r → q.known (take n r) ≡ false → step q ds b r ≡ stop UnknownEscape
+  pub step_unknown : (n : ℕ) → b ≡ escape_of ds → find (escape_of ds) r ≡ n → n < length r → q.known (take n r) ≡ false → step q ds b r ≡ stop UnknownEscape
   unfolding step sequence
-  step-unknown n o e h k = rw (eq-eqb b (escape_of ds) o) (rw e (rw (lt-ltb _ _ h) (rw k)))
+  step_unknown n o e h k = rw (eq-eqb b (escape_of ds) o) (rw e (rw (lt-ltb _ _ h) (rw k)))
 
-  pub step-unclosed : b ≡ escape_of ds → length r ≤ find (escape_of ds) r → step q ds b r ≡ stop UnclosedEscape
+  pub step_unclosed : b ≡ escape_of ds → length r ≤ find (escape_of ds) r → step q ds b r ≡ stop UnclosedEscape
   unfolding step sequence
-  step-unclosed o h = rw (eq-eqb b (escape_of ds) o) (rw (le-ltb _ _ h))
+  step_unclosed o h = rw (eq-eqb b (escape_of ds) o) (rw (le-ltb _ _ h))
 
-  pub step-unprintable : (b ≡ escape_of ds → ⊥) → printable b ≡ false → step q ds b r ≡ stop NotAllowed
+  pub step_unprintable : (b ≡ escape_of ds → ⊥) → printable b ≡ false → step q ds b r ≡ stop NotAllowed
   unfolding step
-  step-unprintable n a = rw (ne_eqb b (escape_of ds) n) (rw a)
+  step_unprintable n a = rw (ne_eqb b (escape_of ds) n) (rw a)
 
-  pub step-separator : (b ≡ escape_of ds → ⊥) → printable b ≡ true → find b ds < 5 → step q ds b r ≡ stop Separator
+  pub step_separator : (b ≡ escape_of ds → ⊥) → printable b ≡ true → find b ds < 5 → step q ds b r ≡ stop Separator
   unfolding step
-  step-separator n a h = rw (ne_eqb b (escape_of ds) n) (rw a (rw (lt-ltb _ _ h)))
+  step_separator n a h = rw (ne_eqb b (escape_of ds) n) (rw a (rw (lt-ltb _ _ h)))
 
-  pub step-plain : (b ≡ escape_of ds → ⊥) → printable b ≡ true → 5 ≤ find b ds → step q ds b r ≡ emit (q.plain b ∷ []) 0
+  pub step_plain : (b ≡ escape_of ds → ⊥) → printable b ≡ true → 5 ≤ find b ds → step q ds b r ≡ emit (q.plain b ∷ []) 0
   unfolding step
-  step-plain n a h = rw (ne_eqb b (escape_of ds) n) (rw a (rw (le-ltb _ _ h)))
+  step_plain n a h = rw (ne_eqb b (escape_of ds) n) (rw a (rw (le-ltb _ _ h)))
 
 -- ---- what holds of every step that says something: what holds of a plain byte, and of each sequence that is closed and known
 
@@ -71,9 +71,9 @@ module _ {A : Type 0} (q : Sequences A) (ds : List ℕ) (b : ℕ) (r : List ℕ)
       at true e false f = tt
       at false e u f = tt
 
-  step-all : Emits P (step q ds b r)
+  step_all : Emits P (step q ds b r)
   unfolding step
-  step-all = at (eqb b (escape_of ds)) (printable b) (ltb (find b ds) 5)
+  step_all = at (eqb b (escape_of ds)) (printable b) (ltb (find b ds) 5)
     where
       at : (t u v : Bool) → Emits P (cond t (sequence q ds r (find (escape_of ds) r)) (cond u (cond v (stop Separator) (emit (q.plain b ∷ []) 0)) (stop NotAllowed)))
       at true u v = sequence_emits (find (escape_of ds) r)
@@ -82,7 +82,7 @@ module _ {A : Type 0} (q : Sequences A) (ds : List ℕ) (b : ℕ) (r : List ℕ)
       at false false v = tt
 
   pub step_emits : (xs : List A) (k : ℕ) → step q ds b r ≡ emit xs k → P xs k
-  step_emits xs k e = subst (Emits P) e step-all
+  step_emits xs k e = subst (Emits P) e step_all
 
 -- ---- how far a step goes
 
@@ -96,14 +96,14 @@ step_bounds ds b r xs k e = (step_emits plain_text ds b r (λ (xs : List ℕ) (k
     short : (n : ℕ) → n < length r → plain_text.known (take n r) ≡ true → length (plain_text.meaning ds (take n r)) ≤ (n + 1) + 1
     short n h e =
         let l = length-take-le n r (omega arith) in
-        let m = meaning-short ds (take n r) in
+        let m = meaning_short ds (take n r) in
         omega arith
 
 -- what the code's step says
-pub seen-fault : (t : Step ℕ) (k : Refusal) → Found.Fault k ≡ seen t → t ≡ stop k
+pub seen_fault : (t : Step ℕ) (k : Refusal) → Found.Fault k ≡ seen t → t ≡ stop k
 unfolding seen
-seen-fault (stop j) k e = cc
-seen-fault (emit xs j) k e = absurd (let z : ◌≡◌ {A = ℕ} 0 1 = cc in omega arith)
+seen_fault (stop j) k e = cc
+seen_fault (emit xs j) k e = absurd (let z : ◌≡◌ {A = ℕ} 0 1 = cc in omega arith)
 
 pub seen_bytes : (t : Step ℕ) (n k : ℕ) → Found.Bytes n k ≡ seen t → (xs : List ℕ) × (t ≡ emit xs k) × (length xs ≡ n)
 unfolding seen
@@ -112,62 +112,62 @@ seen_bytes (emit xs j) n k e = (xs, cc, cc)
 
 -- ---- something said before an outcome
 
-pub before-before : {A : Type 0} (xs ys : List A) (r : Outcome A) → before xs (before ys r) ≡ before (xs ++ ys) r
-before-before xs ys (text t) = ap text (sym (append_assoc xs ys t))
-before-before xs ys (fault k p) = refl
+pub before_before : {A : Type 0} (xs ys : List A) (r : Outcome A) → before xs (before ys r) ≡ before (xs ++ ys) r
+before_before xs ys (text t) = ap text (sym (append_assoc xs ys t))
+before_before xs ys (fault k p) = refl
 
-pub before-none : {A : Type 0} (r : Outcome A) → r ≡ before [] r
-before-none (text t) = refl
-before-none (fault k p) = refl
+pub before_none : {A : Type 0} (r : Outcome A) → r ≡ before [] r
+before_none (text t) = refl
+before_none (fault k p) = refl
 
 pub before_text : {A : Type 0} (xs : List A) (r : Outcome A) → is_text (before xs r) ≡ true → (is_text r ≡ true) × (text_of (before xs r) ≡ xs ++ text_of r)
 unfolding is_text text_of
 before_text xs (text t) e = (refl, refl)
-before_text xs (fault k p) e = false-true e
+before_text xs (fault k p) e = false_true e
 
-text-not-fault : {A : Type 0} (r : Outcome A) (k : Refusal) (p : ℕ) → is_text r ≡ true → r ≡ fault k p → ⊥
+text_not_fault : {A : Type 0} (r : Outcome A) (k : Refusal) (p : ℕ) → is_text r ≡ true → r ≡ fault k p → ⊥
 unfolding is_text
-text-not-fault (text t) k p e f = let z : ◌≡◌ {A = ℕ} 0 1 = cc in omega arith
-text-not-fault (fault j o) k p e f = false-true e
+text_not_fault (text t) k p e f = let z : ◌≡◌ {A = ℕ} 0 1 = cc in omega arith
+text_not_fault (fault j o) k p e f = false_true e
 
 -- ---- the scan
 
 module _ {A : Type 0} (q : Sequences A) (ds : List ℕ) where
-  pub scan-emit : (at b : ℕ) (r : List ℕ) (xs : List A) (k : ℕ) → step q ds b r ≡ emit xs k → scan q ds at 0 (b ∷ r) ≡ before xs (scan q ds (at + 1) k r)
+  pub scan_emit : (at b : ℕ) (r : List ℕ) (xs : List A) (k : ℕ) → step q ds b r ≡ emit xs k → scan q ds at 0 (b ∷ r) ≡ before xs (scan q ds (at + 1) k r)
   unfolding scan
-  scan-emit at b r xs k e = rw e
+  scan_emit at b r xs k e = rw e
 
-  pub scan-stop : (at b : ℕ) (r : List ℕ) (k : Refusal) → step q ds b r ≡ stop k → scan q ds at 0 (b ∷ r) ≡ fault k at
+  pub scan_stop : (at b : ℕ) (r : List ℕ) (k : Refusal) → step q ds b r ≡ stop k → scan q ds at 0 (b ∷ r) ≡ fault k at
   unfolding scan
-  scan-stop at b r k e = rw e
+  scan_stop at b r k e = rw e
 
-  pub scan-skip : (at k : ℕ) (s : List ℕ) → scan q ds at k s ≡ scan q ds (at + k) 0 (drop k s)
+  pub scan_skip : (at k : ℕ) (s : List ℕ) → scan q ds at k s ≡ scan q ds (at + k) 0 (drop k s)
   unfolding scan
-  scan-skip at zero s = ap (λ (n : ℕ). scan q ds n 0 s) (sym (add-zero at))
-  scan-skip at (suc k) [] = refl
-  scan-skip at (suc k) (b ∷ r) =
+  scan_skip at zero s = ap (λ (n : ℕ). scan q ds n 0 s) (sym (add-zero at))
+  scan_skip at (suc k) [] = refl
+  scan_skip at (suc k) (b ∷ r) =
       let e : (at + 1) + k ≡ at + suc k = omega arith in
-      scan-skip (at + 1) k r ∙ ap (λ (n : ℕ). scan q ds n 0 (drop k r)) e
+      scan_skip (at + 1) k r ∙ ap (λ (n : ℕ). scan q ds n 0 (drop k r)) e
 
   -- ---- the rest of the scan, from i on
 
   module _ (s : List ℕ) (i : ℕ) where
     -- past one step
-    pub rest-emit : (i' k : ℕ) (xs : List A) → i < length s → step q ds (get_or s i 0) (drop (i + 1) s) ≡ emit xs k → i' ≡ (i + 1) + k
+    pub rest_emit : (i' k : ℕ) (xs : List A) → i < length s → step q ds (get_or s i 0) (drop (i + 1) s) ≡ emit xs k → i' ≡ (i + 1) + k
         → scan q ds i 0 (drop i s) ≡ before xs (scan q ds i' 0 (drop i' s))
-    rest-emit i' k xs h e ei =
-        ap (scan q ds i 0) (drop-next s i h) ∙ scan-emit i (get_or s i 0) (drop (i + 1) s) xs k e
-        ∙ ap (before xs) (scan-skip (i + 1) k (drop (i + 1) s) ∙ ap (scan q ds ((i + 1) + k) 0) (drop-drop k (i + 1) s))
+    rest_emit i' k xs h e ei =
+        ap (scan q ds i 0) (drop_next s i h) ∙ scan_emit i (get_or s i 0) (drop (i + 1) s) xs k e
+        ∙ ap (before xs) (scan_skip (i + 1) k (drop (i + 1) s) ∙ ap (scan q ds ((i + 1) + k) 0) (drop-drop k (i + 1) s))
         ∙ ap (λ (n : ℕ). before xs (scan q ds n 0 (drop n s))) (sym ei)
 
     -- that stops
-    pub rest-stop : (k : Refusal) → i < length s → step q ds (get_or s i 0) (drop (i + 1) s) ≡ stop k → scan q ds i 0 (drop i s) ≡ fault k i
-    rest-stop k h e = ap (scan q ds i 0) (drop-next s i h) ∙ scan-stop i (get_or s i 0) (drop (i + 1) s) k e
+    pub rest_stop : (k : Refusal) → i < length s → step q ds (get_or s i 0) (drop (i + 1) s) ≡ stop k → scan q ds i 0 (drop i s) ≡ fault k i
+    rest_stop k h e = ap (scan q ds i 0) (drop_next s i h) ∙ scan_stop i (get_or s i 0) (drop (i + 1) s) k e
 
     -- of which there is nothing
-    pub scan-end : length s ≤ i → scan q ds i 0 (drop i s) ≡ text []
+    pub scan_end : length s ≤ i → scan q ds i 0 (drop i s) ≡ text []
     unfolding scan
-    scan-end h = rw (drop_of_length-le s h)
+    scan_end h = rw (drop_of_length-le s h)
 
 -- ---- a scan that has come to place i and has said n things so far
 
@@ -177,7 +177,7 @@ pub record Scanning {A : Type 0} (q : Sequences A) (ds s : List ℕ) (i n : ℕ)
   pub size : length front ≡ n
 
 pub scanning_start : {A : Type 0} (q : Sequences A) (ds s : List ℕ) → Scanning q ds s 0 0
-scanning_start q ds s = record { front = []; whole = before-none (scan q ds 0 0 s); size = refl }
+scanning_start q ds s = record { front = []; whole = before_none (scan q ds 0 0 s); size = refl }
 
 module _ {A : Type 0} {q : Sequences A} {ds s : List ℕ} {i n : ℕ} where
   pub scanning_more : (xs : List A) (k i' n' : ℕ) → Scanning q ds s i n → i < length s → step q ds (get_or s i 0) (drop (i + 1) s) ≡ emit xs k
@@ -185,33 +185,33 @@ module _ {A : Type 0} {q : Sequences A} {ds s : List ℕ} {i n : ℕ} where
   scanning_more xs k i' n' g h e ei en =
       record {
         front = g.front ++ xs;
-        whole = g.whole ∙ ap (before g.front) (rest-emit q ds s i i' k xs h e ei) ∙ before-before g.front xs (scan q ds i' 0 (drop i' s));
+        whole = g.whole ∙ ap (before g.front) (rest_emit q ds s i i' k xs h e ei) ∙ before_before g.front xs (scan q ds i' 0 (drop i' s));
         size = length-append g.front xs ∙ ap (λ (m : ℕ). m + length xs) g.size ∙ sym en;
       }
 
   pub scanning_stop : (k : Refusal) → Scanning q ds s i n → i < length s → step q ds (get_or s i 0) (drop (i + 1) s) ≡ stop k → scan q ds 0 0 s ≡ fault k i
-  scanning_stop k g h e = g.whole ∙ ap (before g.front) (rest-stop q ds s i k h e)
+  scanning_stop k g h e = g.whole ∙ ap (before g.front) (rest_stop q ds s i k h e)
 
   pub scanning_end : (g : Scanning q ds s i n) → length s ≤ i → scan q ds 0 0 s ≡ text g.front
-  scanning_end g h = g.whole ∙ ap (before g.front) (scan-end q ds s i h) ∙ ap text (append-nil g.front)
+  scanning_end g h = g.whole ∙ ap (before g.front) (scan_end q ds s i h) ∙ ap text (append-nil g.front)
 
 -- ---- a rest that has no fault
 
 module _ {A : Type 0} (q : Sequences A) (ds s : List ℕ) (i : ℕ) (h : i < length s) (good : is_text (scan q ds i 0 (drop i s)) ≡ true) where
-  text-step : (k : Refusal) → step q ds (get_or s i 0) (drop (i + 1) s) ≡ stop k → ⊥
-  text-step k e = text-not-fault (scan q ds i 0 (drop i s)) k i good (rest-stop q ds s i k h e)
+  text_step : (k : Refusal) → step q ds (get_or s i 0) (drop (i + 1) s) ≡ stop k → ⊥
+  text_step k e = text_not_fault (scan q ds i 0 (drop i s)) k i good (rest_stop q ds s i k h e)
 
   pub text_past : (i' k : ℕ) (xs : List A) → step q ds (get_or s i 0) (drop (i + 1) s) ≡ emit xs k → i' ≡ (i + 1) + k
       → (is_text (scan q ds i' 0 (drop i' s)) ≡ true) × (text_of (scan q ds i 0 (drop i s)) ≡ xs ++ text_of (scan q ds i' 0 (drop i' s)))
   text_past i' k xs e ei =
-      let o = rest-emit q ds s i i' k xs h e ei in
+      let o = rest_emit q ds s i i' k xs h e ei in
       let z = before_text xs (scan q ds i' 0 (drop i' s)) (ap is_text (sym o) ∙ good) in
       (z.0, ap text_of o ∙ z.1)
 
   -- at an escape delimiter the sequence is closed and known
-  pub text-opens : get_or s i 0 ≡ escape_of ds
+  pub text_opens : get_or s i 0 ≡ escape_of ds
       → (find (escape_of ds) (drop (i + 1) s) < length (drop (i + 1) s)) × (q.known (take (find (escape_of ds) (drop (i + 1) s)) (drop (i + 1) s)) ≡ true)
-  text-opens o = at (ltb n (length r)) refl (q.known (take n r)) refl
+  text_opens o = at (ltb n (length r)) refl (q.known (take n r)) refl
     where
       r : List ℕ
       r = drop (i + 1) s
@@ -221,12 +221,12 @@ module _ {A : Type 0} (q : Sequences A) (ds s : List ℕ) (i : ℕ) (h : i < len
 
       at : (t : Bool) → ltb n (length r) ≡ t → (u : Bool) → q.known (take n r) ≡ u → (n < length r) × (q.known (take n r) ≡ true)
       at true e true f = (ltb-true n (length r) e, f)
-      at true e false f = absurd (text-step UnknownEscape (step-unknown q ds (get_or s i 0) r n o refl (ltb-true n (length r) e) f))
-      at false e u f = absurd (text-step UnclosedEscape (step-unclosed q ds (get_or s i 0) r o (ltb-false n (length r) e)))
+      at true e false f = absurd (text_step UnknownEscape (step_unknown q ds (get_or s i 0) r n o refl (ltb-true n (length r) e) f))
+      at false e u f = absurd (text_step UnclosedEscape (step_unclosed q ds (get_or s i 0) r o (ltb-false n (length r) e)))
 
   -- at any other byte it is plain
-  pub text-allowed : (get_or s i 0 ≡ escape_of ds → ⊥) → (printable (get_or s i 0) ≡ true) × (5 ≤ find (get_or s i 0) ds)
-  text-allowed o = at (printable (get_or s i 0)) refl (ltb (find (get_or s i 0) ds) 5) refl
+  pub text_allowed : (get_or s i 0 ≡ escape_of ds → ⊥) → (printable (get_or s i 0) ≡ true) × (5 ≤ find (get_or s i 0) ds)
+  text_allowed o = at (printable (get_or s i 0)) refl (ltb (find (get_or s i 0) ds) 5) refl
     where
       b : ℕ
       b = get_or s i 0
@@ -235,6 +235,6 @@ module _ {A : Type 0} (q : Sequences A) (ds s : List ℕ) (i : ℕ) (h : i < len
       r = drop (i + 1) s
 
       at : (t : Bool) → printable b ≡ t → (u : Bool) → ltb (find b ds) 5 ≡ u → (printable b ≡ true) × (5 ≤ find b ds)
-      at true e true f = absurd (text-step Separator (step-separator q ds b r o e (ltb-true (find b ds) 5 f)))
+      at true e true f = absurd (text_step Separator (step_separator q ds b r o e (ltb-true (find b ds) 5 f)))
       at true e false f = (e, ltb-false (find b ds) 5 f)
-      at false e u f = absurd (text-step NotAllowed (step-unprintable q ds b r o e))
+      at false e u f = absurd (text_step NotAllowed (step_unprintable q ds b r o e))

@@ -8,7 +8,7 @@ use native.Mathlib.Omega.{arith}
 use lib.ListN.{length, get_or, take, drop, length-take}
 use borrow.Author.Tests.{le-leb, lt-leb, eq-eqb, ne_eqb}
 use Rattle.alphabet.specs.Digits.{all_digits, decimal}
-use Rattle.alphabet.proofs.DigitLaws.{digits-take, digits-drop}
+use Rattle.alphabet.proofs.DigitLaws.{digits_take, digits_drop}
 use Rattle.calendar.specs.Calendar.{no_offset}
 use Rattle.times.specs.Times.{figure_at, fraction_of, offset_of}
 use Rattle.calendar.specs.declared.figures.Figure.TheVariants.{NotSent, Sent}
@@ -20,7 +20,7 @@ use Rattle.numbers.proofs.NumberLaws.{si_of_digits}
 pub piece_said : (l : List ℕ) (s k : ℕ) → all_digits l ≡ true → k ≤ 4 → si_value (take k (drop s l)) ≡ decimal (take k (drop s l))
 piece_said l s k e most =
     let n = length-take k (drop s l) in
-    si_of_digits (take k (drop s l)) (digits-take k (drop s l) (digits-drop s l e)) (omega arith)
+    si_of_digits (take k (drop s l)) (digits_take k (drop s l) (digits_drop s l e)) (omega arith)
 
 -- ---- case by case
 
@@ -32,13 +32,13 @@ pub figure_not : (l : List ℕ) (start width : ℕ) → length l < start + width
 unfolding figure_at
 figure_not l start width h = rw (lt-leb (start + width) (length l) h)
 
-pub fraction-not : (l : List ℕ) → length l ≡ 0 → fraction_of l ≡ NotSent
+pub fraction_not : (l : List ℕ) → length l ≡ 0 → fraction_of l ≡ NotSent
 unfolding fraction_of
-fraction-not l h = rw (eq-eqb (length l) 0 h)
+fraction_not l h = rw (eq-eqb (length l) 0 h)
 
-pub fraction-sent : (l : List ℕ) → (length l ≡ 0 → ⊥) → fraction_of l ≡ Sent (decimal (drop 1 l))
+pub fraction_sent : (l : List ℕ) → (length l ≡ 0 → ⊥) → fraction_of l ≡ Sent (decimal (drop 1 l))
 unfolding fraction_of
-fraction-sent l h = rw (ne_eqb (length l) 0 h)
+fraction_sent l h = rw (ne_eqb (length l) 0 h)
 
 pub offset_not : (l : List ℕ) → length l ≡ 0 → offset_of l ≡ no_offset
 unfolding offset_of

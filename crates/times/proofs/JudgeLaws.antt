@@ -9,9 +9,9 @@ use lib.Seq.{drop-drop, length-take-le, take_all}
 use native.Mathlib.Numerals.{add-one}
 use Rattle.alphabet.specs.Bytes.{digit}
 use Rattle.alphabet.specs.Digits.{all_digits, counted, decimal}
-use Rattle.alphabet.proofs.BoolLaws.{false-true, and_both, both_and, from_to_lem}
-use Rattle.alphabet.proofs.DigitLaws.{digits_append, digits-take, digits-drop}
-use Rattle.alphabet.proofs.ListLaws.{drop-next}
+use Rattle.alphabet.proofs.BoolLaws.{false_true, and_both, both_and, from_to_lem}
+use Rattle.alphabet.proofs.DigitLaws.{digits_append, digits_take, digits_drop}
+use Rattle.alphabet.proofs.ListLaws.{drop_next}
 use mathlib.Core.Logic.{◌⊎◌, inl, inr, ⊎_elim}
 use lib.Dec.{leb, ltb, eqb}
 use borrow.Author.Tests.{le-leb}
@@ -23,7 +23,7 @@ use Rattle.forms.specs.declared.layouts.Form.{Form}
 use Rattle.forms.specs.declared.layouts.Form.TheVariants.{Tm, Ts}
 use Rattle.forms.specs.Forms.{one_of, dt_length, dt_form, layout_of, front_length, front_of, tail_of, zone_of, fraction_form, zone_form, parts_form, time_form}
 use Rattle.forms.specs.Places.{sign_place, point_place, body_at, front_at, tail_at, zone_at}
-use Rattle.forms.proofs.FormLaws.{one_of_lem, fraction-none}
+use Rattle.forms.proofs.FormLaws.{one_of_lem, fraction_none}
 use Rattle.forms.proofs.PlaceLaws.{same_parts, placed_form}
 use Rattle.times.specs.Times.{figure_at, date_of, date_in, clock_of, offset_of, dt_time, is_dt, parts_time, time_of, is_time}
 use Rattle.times.specs.Judged.{front_judged, zone_judged}
@@ -32,7 +32,7 @@ use Rattle.times.proofs.FigureLaws.{figure_sent, figure_not}
 -- ---- two digits
 
 two_are : (l : List ℕ) (p : ℕ) → p + 2 ≤ length l → take 2 (drop p l) ≡ get_or l p 0 ∷ get_or l (p + 1) 0 ∷ []
-two_are l p h = ap (take 2) (drop-next l p (omega arith) ∙ ap (λ (r : List ℕ). get_or l p 0 ∷ r) (drop-next l (p + 1) (omega arith)))
+two_are l p h = ap (take 2) (drop_next l p (omega arith) ∙ ap (λ (r : List ℕ). get_or l p 0 ∷ r) (drop_next l (p + 1) (omega arith)))
 
 pub record Two (a b n : ℕ) : Type 0 where
   pub tens_least : 48 ≤ a
@@ -61,7 +61,7 @@ two_told l p e h =
 
 -- two of some digits are digits
 pub two_digits : (l : List ℕ) (p : ℕ) → all_digits l ≡ true → all_digits (take 2 (drop p l)) ≡ true
-two_digits l p e = digits-take 2 (drop p l) (digits-drop p l e)
+two_digits l p e = digits_take 2 (drop p l) (digits_drop p l e)
 
 -- four digits are twice two
 pub year_said : (l : List ℕ) → 4 ≤ length l → decimal (take 2 (drop 0 l)) * 100 + decimal (take 2 (drop 2 l)) ≡ decimal (take 4 (drop 0 l))
@@ -82,26 +82,26 @@ two_below l p e h =
 
 -- ---- digits looked at together
 
-pub digits-none : (l : List ℕ) → true ≡ all_digits (take 0 l)
+pub digits_none : (l : List ℕ) → true ≡ all_digits (take 0 l)
 unfolding all_digits
-digits-none l = refl
+digits_none l = refl
 
-digits-suc : (l : List ℕ) (i : ℕ) → i < length l → (all_digits (take i l) && digit (get_or l i 0)) ≡ all_digits (take (suc i) l)
+digits_suc : (l : List ℕ) (i : ℕ) → i < length l → (all_digits (take i l) && digit (get_or l i 0)) ≡ all_digits (take (suc i) l)
 unfolding all_digits
-digits-suc [] i h = absurd (omega arith)
-digits-suc (x ∷ r) zero h = and-end (digit x)
+digits_suc [] i h = absurd (omega arith)
+digits_suc (x ∷ r) zero h = and_end (digit x)
   where
-    and-end : (t : Bool) → t ≡ (t && true)
-    and-end true = refl
-    and-end false = refl
-digits-suc (x ∷ r) (suc i) h = assoc (digit x) (all_digits (take i r)) (digit (get_or r i 0)) ∙ ap (λ (t : Bool). digit x && t) (digits-suc r i (omega arith))
+    and_end : (t : Bool) → t ≡ (t && true)
+    and_end true = refl
+    and_end false = refl
+digits_suc (x ∷ r) (suc i) h = assoc (digit x) (all_digits (take i r)) (digit (get_or r i 0)) ∙ ap (λ (t : Bool). digit x && t) (digits_suc r i (omega arith))
   where
     assoc : (a b c : Bool) → ((a && b) && c) ≡ (a && (b && c))
     assoc true b c = refl
     assoc false b c = refl
 
 pub digits_step : (l : List ℕ) (i : ℕ) → i < length l → (all_digits (take i l) && digit (get_or l i 0)) ≡ all_digits (take (i + 1) l)
-digits_step l i h = rw (add-one i) (digits-suc l i h)
+digits_step l i h = rw (add-one i) (digits_suc l i h)
 
 whole : (n : ℕ) (l : List ℕ) → all_digits (take n l) ≡ true → all_digits (drop n l) ≡ true → all_digits l ≡ true
 unfolding all_digits
@@ -116,19 +116,19 @@ module _ (l : List ℕ) (n : ℕ) where
   first_block e = at (all_digits l) refl
     where
       at : (t : Bool) → all_digits l ≡ t → false ≡ t
-      at true q = absurd (false-true (sym e ∙ digits-take n l q))
+      at true q = absurd (false_true (sym e ∙ digits_take n l q))
       at false q = refl
 
   pub last_block : (k : ℕ) → k ≤ n → all_digits (take n l) ≡ true → all_digits (drop k l) ≡ all_digits l
   last_block k h e = at (all_digits l) (all_digits (drop k l)) refl refl
     where
       at : (t u : Bool) → all_digits l ≡ t → all_digits (drop k l) ≡ u → all_digits (drop k l) ≡ all_digits l
-      at true u p q = digits-drop k l p ∙ sym p
+      at true u p q = digits_drop k l p ∙ sym p
       at false false p q = q ∙ sym p
       at false true p q =
           let m : k + (n - k) ≡ n = omega arith in
-          let d = subst (λ (j : List ℕ). all_digits j ≡ true) (drop-drop (n - k) k l ∙ ap (λ (i : ℕ). drop i l) m) (digits-drop (n - k) (drop k l) q) in
-          absurd (false-true (sym p ∙ whole n l e d))
+          let d = subst (λ (j : List ℕ). all_digits j ≡ true) (drop-drop (n - k) k l ∙ ap (λ (i : ℕ). drop i l) m) (digits_drop (n - k) (drop k l) q) in
+          absurd (false_true (sym p ∙ whole n l e d))
 
 -- ---- the date, as far as it was sent
 
@@ -154,15 +154,15 @@ module _ (l : List ℕ) (y : ℕ) (e : y ≡ decimal (take 2 (drop 0 l)) * 100 +
 
 -- ---- part by part
 
-and-not : (t : Bool) → false ≡ (t && false)
-and-not true = refl
-and-not false = refl
+and_not : (t : Bool) → false ≡ (t && false)
+and_not true = refl
+and_not false = refl
 
-pub first-not : {t : Bool} (u : Bool) → t ≡ false → false ≡ (t && u)
-first-not u e = rw e
+pub first_not : {t : Bool} (u : Bool) → t ≡ false → false ≡ (t && u)
+first_not u e = rw e
 
-pub second-not : (t : Bool) {u : Bool} → u ≡ false → false ≡ (t && u)
-second-not t e = rw e (and-not t)
+pub second_not : (t : Bool) {u : Bool} → u ≡ false → false ≡ (t && u)
+second_not t e = rw e (and_not t)
 
 pub first_so : {t : Bool} (u : Bool) → t ≡ true → u ≡ (t && u)
 first_so u e = rw e
@@ -207,19 +207,19 @@ module _ (form : Form) (l : List ℕ) where
       regrouped (all_digits f && front_length form (length f)) fraction (zone_form z) (valid_date (date_in form f)) (valid_clock (clock_of f (layout_of form).clock t)) (valid_offset (offset_of z))
       ∙ placed_time
 
-pub dt-judged : (l : List ℕ) → ((all_digits l && dt_length (length l)) && valid_date (date_of l)) ≡ is_dt l
+pub dt_judged : (l : List ℕ) → ((all_digits l && dt_length (length l)) && valid_date (date_of l)) ≡ is_dt l
 unfolding is_dt dt_form dt_time valid_clock
-dt-judged l = ap (λ (b : Bool). (all_digits l && dt_length (length l)) && b) (end (valid_date (date_of l)))
+dt_judged l = ap (λ (b : Bool). (all_digits l && dt_length (length l)) && b) (end (valid_date (date_of l)))
   where
     end : (b : Bool) → b ≡ (b && true)
     end true = refl
     end false = refl
 
-pub ts-least : (n : ℕ) → front_length Ts n ≡ true → 4 ≤ n
-ts-least n e = at (one_of_lem 4 (6 ∷ 8 ∷ 12 ∷ 14 ∷ []) n e)
+pub ts_least : (n : ℕ) → front_length Ts n ≡ true → 4 ≤ n
+ts_least n e = at (one_of_lem 4 (6 ∷ 8 ∷ 12 ∷ 14 ∷ []) n e)
   where
     last : (one_of [] n ≡ true) → 4 ≤ n
-    last q = absurd (false-true q)
+    last q = absurd (false_true q)
 
     at : (n ≡ 4) ⊎ (one_of (6 ∷ 8 ∷ 12 ∷ 14 ∷ []) n ≡ true) → 4 ≤ n
     at (inl q) = omega arith
@@ -227,41 +227,41 @@ ts-least n e = at (one_of_lem 4 (6 ∷ 8 ∷ 12 ∷ 14 ∷ []) n e)
         ⊎_elim (λ q. omega arith) (λ r. ⊎_elim (λ q. omega arith) (λ r. ⊎_elim (λ q. omega arith) (λ r. ⊎_elim (λ q. omega arith) last (one_of_lem 14 [] n r)) (one_of_lem 12 (14 ∷ []) n r)) (one_of_lem 8 (12 ∷ 14 ∷ []) n r))
         (one_of_lem 6 (8 ∷ 12 ∷ 14 ∷ []) n r)
 
-pub dt-least : (n : ℕ) → dt_length n ≡ true → 4 ≤ n
-dt-least n e =
-    ⊎_elim (λ q. omega arith) (λ r. ⊎_elim (λ q. omega arith) (λ r. ⊎_elim (λ q. omega arith) (λ q. absurd (false-true q)) (one_of_lem 8 [] n r)) (one_of_lem 6 (8 ∷ []) n r)) (one_of_lem 4 (6 ∷ 8 ∷ []) n e)
+pub dt_least : (n : ℕ) → dt_length n ≡ true → 4 ≤ n
+dt_least n e =
+    ⊎_elim (λ q. omega arith) (λ r. ⊎_elim (λ q. omega arith) (λ r. ⊎_elim (λ q. omega arith) (λ q. absurd (false_true q)) (one_of_lem 8 [] n r)) (one_of_lem 6 (8 ∷ []) n r)) (one_of_lem 4 (6 ∷ 8 ∷ []) n e)
 
-pub in-most : (most n : ℕ) → leb n most ≡ in_range 0 most (Sent n)
-in-most most n = rw (le-leb 0 n (omega arith))
+pub in_most : (most n : ℕ) → leb n most ≡ in_range 0 most (Sent n)
+in_most most n = rw (le-leb 0 n (omega arith))
 
 -- ---- the tests of the parts, one after another
 
 module _ (form : Form) (front : List ℕ) where
-  pub length-not : front_length form (length front) ≡ false → false ≡ front_judged form front
-  length-not e = first-not _ (sym (second-not (all_digits front) e))
+  pub length_not : front_length form (length front) ≡ false → false ≡ front_judged form front
+  length_not e = first_not _ (sym (second_not (all_digits front) e))
 
-  pub digits-not : all_digits front ≡ false → false ≡ front_judged form front
-  digits-not e = first-not _ (sym (first-not (front_length form (length front)) e))
+  pub digits_not : all_digits front ≡ false → false ≡ front_judged form front
+  digits_not e = first_not _ (sym (first_not (front_length form (length front)) e))
 
-pub tm-front : (front : List ℕ) → all_digits front ≡ true → front_length Tm (length front) ≡ true → valid_clock (clock_of front 0 []) ≡ front_judged Tm front
+pub tm_front : (front : List ℕ) → all_digits front ≡ true → front_length Tm (length front) ≡ true → valid_clock (clock_of front 0 []) ≡ front_judged Tm front
 unfolding valid_date
-tm-front front e f = rw (e, f)
+tm_front front e f = rw (e, f)
 
-pub ts-dated : (front : List ℕ) → valid_date (date_of front) ≡ false → false ≡ front_judged Ts front
-ts-dated front e = second-not (all_digits front && front_length Ts (length front)) (sym (first-not (valid_clock (clock_of front 8 [])) e))
+pub ts_dated : (front : List ℕ) → valid_date (date_of front) ≡ false → false ≡ front_judged Ts front
+ts_dated front e = second_not (all_digits front && front_length Ts (length front)) (sym (first_not (valid_clock (clock_of front 8 [])) e))
 
-pub ts-front : (front : List ℕ) → all_digits front ≡ true → front_length Ts (length front) ≡ true → valid_date (date_of front) ≡ true → valid_clock (clock_of front 8 []) ≡ front_judged Ts front
-ts-front front e f g = rw (e, f, g)
+pub ts_front : (front : List ℕ) → all_digits front ≡ true → front_length Ts (length front) ≡ true → valid_date (date_of front) ≡ true → valid_clock (clock_of front 8 []) ≡ front_judged Ts front
+ts_front front e f g = rw (e, f, g)
 
 module _ (l : List ℕ) where
-  pub dt-long : dt_length (length l) ≡ false → false ≡ is_dt l
-  dt-long e = first-not _ (sym (second-not (all_digits l) e)) ∙ dt-judged l
+  pub dt_long : dt_length (length l) ≡ false → false ≡ is_dt l
+  dt_long e = first_not _ (sym (second_not (all_digits l) e)) ∙ dt_judged l
 
-  pub dt-digits : all_digits l ≡ false → false ≡ is_dt l
-  dt-digits e = first-not _ (sym (first-not (dt_length (length l)) e)) ∙ dt-judged l
+  pub dt_digits : all_digits l ≡ false → false ≡ is_dt l
+  dt_digits e = first_not _ (sym (first_not (dt_length (length l)) e)) ∙ dt_judged l
 
-  pub dt-so : all_digits l ≡ true → dt_length (length l) ≡ true → valid_date (date_of l) ≡ is_dt l
-  dt-so e f = rw (e, f) at (dt-judged l)
+  pub dt_so : all_digits l ≡ true → dt_length (length l) ≡ true → valid_date (date_of l) ≡ is_dt l
+  dt_so e f = rw (e, f) at (dt_judged l)
 
 -- ---- a TS with seconds and a zone: its parts stand at fixed places
 
@@ -269,28 +269,28 @@ module _ (l : List ℕ) (n : length l ≡ 19) (s : is_sign (get_or l 14 0) ≡ t
   usual_sign : sign_place l ≡ 14
   usual_sign = rw (n, s)
 
-  usual-length : length (take 14 l) ≡ 14
-  usual-length = length-take-le 14 l (omega arith)
+  usual_length : length (take 14 l) ≡ 14
+  usual_length = length-take-le 14 l (omega arith)
 
   usual_body : body_at l ≡ take 14 l
   usual_body = ap (λ (k : ℕ). take k l) usual_sign
 
   usual_point : point_place 14 (take 14 l) ≡ 14
-  usual_point = ap (λ (k : ℕ). cond (ltb 14 k && eqb (get_or (take 14 l) 14 0) 46) 14 k) usual-length
+  usual_point = ap (λ (k : ℕ). cond (ltb 14 k && eqb (get_or (take 14 l) 14 0) 46) 14 k) usual_length
 
-  usual-front : front_at Ts l ≡ take 14 l
-  usual-front =
-      let h : length (take 14 l) ≤ 14 = let k = usual-length in omega arith in
+  usual_front : front_at Ts l ≡ take 14 l
+  usual_front =
+      let h : length (take 14 l) ≤ 14 = let k = usual_length in omega arith in
       ap (λ (b : List ℕ). take (point_place 14 b) b) usual_body ∙ ap (λ (k : ℕ). take k (take 14 l)) usual_point ∙ take_all 14 (take 14 l) h
 
   usual_tail : tail_at Ts l ≡ []
   usual_tail =
-      let h : length (take 14 l) ≤ 14 = let k = usual-length in omega arith in
+      let h : length (take 14 l) ≤ 14 = let k = usual_length in omega arith in
       ap (λ (b : List ℕ). drop (point_place 14 b) b) usual_body ∙ ap (λ (k : ℕ). drop k (take 14 l)) usual_point ∙ drop_of_length-le (take 14 l) h
 
-  pub usual-ts : all_digits (take 14 l) ≡ true → valid_date (date_of (take 14 l)) ≡ true → valid_clock (clock_of (take 14 l) 8 []) ≡ true → zone_judged (drop 14 l) ≡ true → is_time Ts l ≡ true
-  usual-ts d e c z =
-      let long : front_length Ts (length (take 14 l)) ≡ true = ap (front_length Ts) usual-length in
+  pub usual_ts : all_digits (take 14 l) ≡ true → valid_date (date_of (take 14 l)) ≡ true → valid_clock (clock_of (take 14 l) 8 []) ≡ true → zone_judged (drop 14 l) ≡ true → is_time Ts l ≡ true
+  usual_ts d e c z =
+      let long : front_length Ts (length (take 14 l)) ≡ true = ap (front_length Ts) usual_length in
       sym (judged Ts l)
-      ∙ both_and (ap (front_judged Ts) usual-front ∙ sym (ts-front (take 14 l) d long e) ∙ c)
-      (both_and (fraction-none _ _ (ap length usual_tail)) (ap (λ (k : ℕ). zone_judged (drop k l)) usual_sign ∙ z))
+      ∙ both_and (ap (front_judged Ts) usual_front ∙ sym (ts_front (take 14 l) d long e) ∙ c)
+      (both_and (fraction_none _ _ (ap length usual_tail)) (ap (λ (k : ℕ). zone_judged (drop k l)) usual_sign ∙ z))

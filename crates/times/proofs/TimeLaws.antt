@@ -17,8 +17,8 @@ pub dt_formed : (l : List ℕ) → is_dt l ≡ true → dt_form l ≡ true
 unfolding is_dt
 dt_formed l e = (and_both (dt_form l) (valid_time (dt_time l)) e).0
 
-pub dt-digits : (l : List ℕ) → is_dt l ≡ true → all_digits l ≡ true
-dt-digits l e = form.dt-digits l (dt_formed l e)
+pub dt_digits : (l : List ℕ) → is_dt l ≡ true → all_digits l ≡ true
+dt_digits l e = form.dt_digits l (dt_formed l e)
 
 pub time_formed : (form : Form) (l : List ℕ) → is_time form l ≡ true → time_form form l ≡ true
 unfolding is_time
@@ -26,13 +26,13 @@ time_formed form l e = (and_both (time_form form l) (valid_time (time_of form l)
 
 -- ---- what is read, case by case
 
-pub dt-broken : (l : List ℕ) → dt_form l ≡ false → time_if false no_time ≡ dt_read l
+pub dt_broken : (l : List ℕ) → dt_form l ≡ false → time_if false no_time ≡ dt_read l
 unfolding dt_read is_dt
-dt-broken l e = rw e
+dt_broken l e = rw e
 
-pub dt-read : (l : List ℕ) (time : Time) → dt_form l ≡ true → time ≡ dt_time l → time_if (valid_time time) time ≡ dt_read l
+pub dt_read_lem : (l : List ℕ) (time : Time) → dt_form l ≡ true → time ≡ dt_time l → time_if (valid_time time) time ≡ dt_read l
 unfolding dt_read is_dt
-dt-read l time e q = ap (λ (t : Time). time_if (valid_time t) t) q ∙ rw e
+dt_read_lem l time e q = ap (λ (t : Time). time_if (valid_time t) t) q ∙ rw e
 
 pub time_broken : (form : Form) (l : List ℕ) → time_form form l ≡ false → time_if false no_time ≡ time_read form l
 unfolding time_read is_time

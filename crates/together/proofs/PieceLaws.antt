@@ -23,16 +23,16 @@ none = record { ref_ptr = (0, 0); now = [] }
 abbrev pub bytes : List Piece → List ℕ
 bytes l = together (map (λ x. x.now) l)
 
-pub pieces-next : (l : List Piece) (i : ℕ) → i < length l → bytes (drop i l) ≡ (get_or l i none).now ++ bytes (drop (i + 1) l)
+pub pieces_next : (l : List Piece) (i : ℕ) → i < length l → bytes (drop i l) ≡ (get_or l i none).now ++ bytes (drop (i + 1) l)
 unfolding together
-pieces-next l i h = rw (add-one, drop-cons l i none h)
+pieces_next l i h = rw (add-one, drop-cons l i none h)
 
 pub pieces_end : (l : List Piece) (i : ℕ) → length l ≤ i → bytes (drop i l) ≡ []
 unfolding together
 pieces_end l i h = ap bytes (drop_of_length-le l h)
 
 pub count_next : (l : List Piece) (i : ℕ) → i < length l → length (bytes (drop i l)) ≡ length (get_or l i none).now + length (bytes (drop (i + 1) l))
-count_next l i h = ap length (pieces-next l i h) ∙ length-append (get_or l i none).now (bytes (drop (i + 1) l))
+count_next l i h = ap length (pieces_next l i h) ∙ length-append (get_or l i none).now (bytes (drop (i + 1) l))
 
 -- ---- room
 

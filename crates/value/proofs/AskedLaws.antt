@@ -11,15 +11,15 @@ use Rattle.numbers.specs.declared.numerals.ReadNumber.{ReadNumber}
 use Rattle.times.specs.declared.moments.ReadTime.{ReadTime}
 
 module _ (f : Found) where
-  pub number-present : (r : ReadNumber) (z : ℤ) → is_present f.element.state ≡ true → z ≡ r.value
+  pub number_present : (r : ReadNumber) (z : ℤ) → is_present f.element.state ≡ true → z ≡ r.value
       → record { answer = record { kind = r.kind; place = 0; length = 0 }; state = f.element.state; value = z; decimals = r.decimals } ≡ number_from f r
   unfolding number_from
-  number-present r z e q = rw (e, q)
+  number_present r z e q = rw (e, q)
 
-  pub number-other : (r : ReadNumber) → is_present f.element.state ≡ false
+  pub number_other : (r : ReadNumber) → is_present f.element.state ≡ false
       → record { answer = f.answer; state = f.element.state; value = pos 0; decimals = 0 } ≡ number_from f r
   unfolding number_from
-  number-other r e = rw e
+  number_other r e = rw e
 
   pub time_present : (r : ReadTime) → is_present f.element.state ≡ true
       → record { answer = record { kind = r.kind; place = 0; length = 0 }; state = f.element.state; time = r.time } ≡ time_from f r

@@ -24,15 +24,15 @@ use Rattle.structure.specs.declared.walking.Course.{Course}
 use Rattle.structure.specs.declared.walking.Course.TheVariants.{Going, Stuck}
 use Rattle.structure.specs.declared.walking.Walked.{Walked}
 use Rattle.structure.specs.declared.walking.Walked.TheVariants.{Accepted, Misplaced, Early}
-use Rattle.structure.proofs.Telling.{told-accepted}
+use Rattle.structure.proofs.Telling.{told_accepted}
 use Rattle.structure.proofs.RowLaws.{one_chosen}
-use Rattle.structure.proofs.OneWalk.{unlisted-refuses, without_rows as no-rows-answer}
+use Rattle.structure.proofs.OneWalk.{unlisted_refuses, without_rows as no-rows-answer}
 use Rattle.field_table.specs.Table.{rows}
 use Rattle.fields.specs.Judging.{Fault, Sound, Faulty, located, or_fault, fault_answer, judging}
 use Rattle.verdict.specs.Verdicts.{VerdictsBy}
 use Rattle.verdict.specs.Verdicts.VerdictsBy.{refused as by-structure, judged as by-fields}
 use Rattle.verdict.specs.Walk.{Goes, Concludes, Decides}
-use Rattle.verdict.specs.Walk.Decides.{unread as not-read, refused, judged}
+use Rattle.verdict.specs.Walk.Decides.{unread as not_read, refused, judged}
 
 -- ---- a segment
 
@@ -69,27 +69,27 @@ module _ (s : Shape) (m ns follow : List ℕ) (last : ℕ) (t : Tables s ns foll
   pub decides : (w : Walked) → w ≡ walked ns follow last (into 1) 0 (segment_names m) → (w ≡ Accepted → fault ≡ judging rows m) → Concludes w ns fault r → Decides s m r
   decides Accepted e f c =
       subst (Decides s m) (sym (c.accepted refl ∙ ap fault_answer (f refl)))
-      (judged p (told-accepted s ns follow last (into 1) t (segment_names m) Accepted e refl))
+      (judged p (told_accepted s ns follow last (into 1) t (segment_names m) Accepted e refl))
   decides (Misplaced place places ends) e f c = by_tells (Misplaced place places ends) e misplaced (c.refused misplaced)
   decides (Early place places) e f c = by_tells (Early place places) e early (c.refused early)
 
 -- ---- the verdict
 
 module _ (book : List ListedStructure) (m : List ℕ) where
-  pub unread-verdict : {kind : Refusal} {place : ℕ} → reading m ≡ Fails kind place → VerdictsBy book m (plain kind place)
-  unread-verdict {kind} {place} f = by-structure (plain kind place) (unread kind place f) (λ e. reading_fails m kind place f e)
+  pub unread_verdict : {kind : Refusal} {place : ℕ} → reading m ≡ Fails kind place → VerdictsBy book m (plain kind place)
+  unread_verdict {kind} {place} f = by-structure (plain kind place) (unread kind place f) (λ e. reading_fails m kind place f e)
 
   -- where the segments are left to be read
   module _ (left : reading m ≡ segments_check m) where
     decided : (x : ListedStructure) → structure_for book m ≡ chosen x → {r : FaultRecord} → Decides x.shape m r → VerdictsBy book m r
-    decided x g (not-read kind place f) = unread-verdict (left ∙ f)
+    decided x g (not_read kind place f) = unread_verdict (left ∙ f)
     decided x g {r} (refused p j n) = by-structure r (read (left ∙ p) (by x g j)) n
     decided x g (judged p j) = by-fields (plain None 0) (read (left ∙ p) (by x g j)) refl
 
     -- by the rows of the structure that is chosen, or where there are none
     module _ (r : Rows) (h : RowsOf (structure_for book m) r) where
       pub without_rows : r.count ≡ 0 → VerdictsBy book m (unlisted_answer (segments_check m))
-      without_rows n = by-structure (unlisted_answer (segments_check m)) (no-rows-answer book m left r h n) (unlisted-refuses book m left)
+      without_rows n = by-structure (unlisted_answer (segments_check m)) (no-rows-answer book m left r h n) (unlisted_refuses book m left)
 
       pub with_rows : {j : FaultRecord} → (r.count ≡ 0 → ⊥)
           → ((s : Shape) → Tables s (take r.count r.names) (take r.count r.follow) r.last (into 1) → Decides s m j) → VerdictsBy book m j

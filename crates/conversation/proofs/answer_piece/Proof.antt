@@ -7,7 +7,7 @@ use lib.ListN.{length, length-drop}
 use lib.Seq.{length-take-le}
 use Rattle.asking.specs.Lines.{Within}
 use lib.Dec.{eqb}
-use Rattle.alphabet.proofs.ListLaws.{first-le, rest_of}
+use Rattle.alphabet.proofs.ListLaws.{first_le, rest_of}
 use Rattle.conversation.proofs.answer_piece.Statement.{statement}
 use Rattle.conversation.proofs.answer_piece.Tie as tie
 
@@ -23,7 +23,7 @@ loop-holds c = (omega arith, refl, refl, refl, c.before.before.before.before.req
 
 -- the line's end stands within the rest of the piece
 within : (c : tie.After-find invariant-loop decreases-loop) → c.find.result ≤ length c.before.before.loop.rest.now
-within c = let u = first-le (eqb 10) c.before.before.loop.rest.now in omega (arith, c.find.ensures)
+within c = let u = first_le (eqb 10) c.before.before.loop.rest.now in omega (arith, c.find.ensures)
 
 slice-aggregate-gather : tie.Need-slice-aggregate-gather invariant-loop decreases-loop
 slice-aggregate-gather c =

@@ -4,8 +4,8 @@ use Prim.Native.Nat.{◌≤◌}
 use mathlib.Core.Path.{sym, ap, ◌∙◌}
 use lib.ListN.{length}
 use Rattle.element.specs.Finding.{element_in, element_of}
-use Rattle.element.proofs.LevelLaws.{within-at, within-element}
-use Rattle.element.proofs.FindingLaws.{element-at}
+use Rattle.element.proofs.LevelLaws.{within_at, within_element}
+use Rattle.element.proofs.FindingLaws.{element_at_lem}
 use native.Mathlib.Omega.{arith}
 use Rattle.element.proofs.element_of.Statement.{statement}
 use Rattle.element.proofs.element_of.Tie as tie
@@ -19,13 +19,13 @@ inside : (c : tie.After-known-told) → (c.before.part.given.0.0 ≤ c.before.pa
 inside c =
     let a = c.before.before.before.before.before.args in
     let l = c.before.before.before.before.before.requires.0 in
-    within-at a.message.now _ _ _ (within-element a.message.now a.address (omega arith)) (sym c.before.before.before.part_of.ensures ∙ c.before.part.given.1)
+    within_at a.message.now _ _ _ (within_element a.message.now a.address (omega arith)) (sym c.before.before.before.part_of.ensures ∙ c.before.part.given.1)
 
 returns-2 : tie.Need-returns-2
 returns-2 c =
     let a = c.before.before.before.before.before.before.before.before.args in
     let g = c.before.before.before.before.part.given in
-    element-at a.message.now a.address c.state-of.result _ g.0.0 g.0.1.0 (sym c.before.before.before.before.before.before.part_of.ensures ∙ g.1) c.before.before.delimiters-of.ensures c.state-of.ensures
+    element_at_lem a.message.now a.address c.state-of.result _ g.0.0 g.0.1.0 (sym c.before.before.before.before.before.before.part_of.ensures ∙ g.1) c.before.before.delimiters-of.ensures c.state-of.ensures
 
 pub element-of-spec : {M : Type 1} → statement M
 element-of-spec =

@@ -7,7 +7,7 @@ use Rattle.alphabet.specs.declared.answers.Refusal.{Refusal}
 use Rattle.element.specs.Finding.{lookup_check}
 use Rattle.element.specs.declared.Element.{Element}
 use Rattle.element.specs.declared.Found.{Found}
-use Rattle.element.proofs.FindingLaws.{lookup_long, lookup_refused, lookup_missing, lookup_passes, found_fails, found-passes}
+use Rattle.element.proofs.FindingLaws.{lookup_long, lookup_refused, lookup_missing, lookup_passes, found_fails, found_passes}
 use native.Mathlib.Omega.{arith}
 use Rattle.element.proofs.find.Statement.{statement}
 use Rattle.element.proofs.find.Tie as tie
@@ -54,7 +54,7 @@ returns-3 c =
     let a = asked.before.before.args in
     ap (λ (x : Answer). made x c.before.element-of.result) c.answer-of.ensures
     ∙ ap (made _) c.before.element-of.ensures
-    ∙ found-passes a.message.now a.address asked.check-question.result (passed told) told.before.before.before.enum_told.given.1
+    ∙ found_passes a.message.now a.address asked.check-question.result (passed told) told.before.before.before.enum_told.given.1
 
 pub find_spec : {M : Type 1} → statement M
 find_spec =

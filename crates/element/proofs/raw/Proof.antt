@@ -4,7 +4,7 @@ use Prim.Native.Nat.{◌≤◌}
 use mathlib.Core.Path.{sym, ◌∙◌}
 use lib.ListN.{length}
 use native.Mathlib.Omega.{arith}
-use Rattle.element.proofs.LevelLaws.{within-at, within-element}
+use Rattle.element.proofs.LevelLaws.{within_at, within_element}
 use Rattle.element.proofs.FindingLaws.{raw_short, raw_absent, raw_at}
 use Rattle.element.proofs.raw.Statement.{statement}
 use Rattle.element.proofs.raw.Tie as tie
@@ -21,7 +21,7 @@ returns-2 c =
 inside : (c : tie.After-known-told) → (c.before.part.given.0.0 ≤ c.before.part.given.0.1.0) × (c.before.part.given.0.1.0 ≤ length c.before.before.before.before.before.before.before.args.message.now)
 inside c =
     let a = c.before.before.before.before.before.before.before.args in
-    within-at a.message.now _ _ _ (within-element a.message.now a.address (omega arith)) (sym c.before.before.before.part_of.ensures ∙ c.before.part.given.1)
+    within_at a.message.now _ _ _ (within_element a.message.now a.address (omega arith)) (sym c.before.before.before.part_of.ensures ∙ c.before.part.given.1)
 
 returns-3 : tie.Need-returns-3
 returns-3 c =

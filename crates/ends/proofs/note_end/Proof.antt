@@ -4,7 +4,7 @@ use mathlib.Core.Path.{◌≡◌, sym, ◌∙◌}
 use lib.ListN.{length, length-set}
 use native.Mathlib.Omega.{arith}
 use Rattle.ends.specs.Ends.{Reached}
-use Rattle.ends.proofs.NoteLaws.{reached_end, front-noted, goes_on, all_noted}
+use Rattle.ends.proofs.NoteLaws.{reached_end, front_noted, goes_on, all_noted}
 use Rattle.ends.proofs.note_end.Statement.{statement}
 use Rattle.ends.proofs.note_end.Tie as tie
 
@@ -29,7 +29,7 @@ returns : tie.Need-returns invariant-loop decreases-loop
 returns c =
     let l = c.before in
     let a = l.before.args in
-    front-noted a.separator a.bytes.now l.loop.ends l.loop.k a.most l.loop.invariant.1.1 (all_noted l.loop.k a.most c.loop-test.false)
+    front_noted a.separator a.bytes.now l.loop.ends l.loop.k a.most l.loop.invariant.1.1 (all_noted l.loop.k a.most c.loop-test.false)
 
 pub note-end-spec : {M : Type 1} → statement M
 note-end-spec =

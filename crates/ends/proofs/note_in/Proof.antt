@@ -7,7 +7,7 @@ use Rattle.alphabet.specs.Lists.{either}
 use Rattle.search.specs.Words.{marks}
 use Rattle.search.proofs.WordLaws.{word_size}
 use Rattle.ends.specs.Ends.{Reached}
-use Rattle.ends.proofs.NoteLaws.{reached_none, front-noted}
+use Rattle.ends.proofs.NoteLaws.{reached_none, front_noted}
 use Rattle.ends.proofs.note_in.Statement.{statement}
 use Rattle.ends.proofs.note_in.Tie as tie
 
@@ -44,7 +44,7 @@ returns : tie.Need-returns invariant-loop decreases-loop
 returns c =
     let q = c.before.before.before.note-word in
     let a = c.before.before.before.before.before.before.before.before.before.before.before.args in
-    front-noted a.separator a.bytes.now q.new.1.1.0 q.result a.most q.ensures.1 (λ k i j. omega arith)
+    front_noted a.separator a.bytes.now q.new.1.1.0 q.result a.most q.ensures.1 (λ k i j. omega arith)
 
 loop-again : tie.Need-loop-preserved invariant-loop decreases-loop
 loop-again c =

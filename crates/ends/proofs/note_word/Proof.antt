@@ -5,7 +5,7 @@ use lib.Bits.{and_le_r}
 use lib.Count.{count_trailing_zeros}
 use lib.ListN.{length, length-set}
 use native.Mathlib.Omega.{arith}
-use Rattle.ends.proofs.NoteLaws.{Left, left-all, left-none, left-next, mark_low, reached_full}
+use Rattle.ends.proofs.NoteLaws.{Left, left_all, left_none, left_next, mark_low, reached_full}
 use Rattle.ends.proofs.note_word.Statement.{statement}
 use Rattle.ends.proofs.note_word.Tie as tie
 
@@ -17,7 +17,7 @@ abbrev decreases-loop : tie.decreases-loop
 decreases-loop bytes separator ends₀ from place marked count₀ found₀ ends count found = found
 
 loop-holds : tie.Need-loop-init invariant-loop decreases-loop
-loop-holds c = let a = c.args in (c.requires.0.0, c.requires.1.0, left-all a.separator a.bytes.now a.from a.place a.marked a.ends.now c.requires.0.1 c.requires.1)
+loop-holds c = let a = c.args in (c.requires.0.0, c.requires.1.0, left_all a.separator a.bytes.now a.from a.place a.marked a.ends.now c.requires.0.1 c.requires.1)
 
 returns : tie.Need-returns invariant-loop decreases-loop
 returns c =
@@ -56,14 +56,14 @@ loop-again c =
     let h = room c in (
       length-set l.loop.ends l.loop.count (a.place + count_trailing_zeros 64 l.loop.found / 8) ∙ n,
       omega arith,
-      left-next a.separator a.bytes.now l.loop.count a.place l.loop.found l.loop.ends l.before.requires.0.1.0 l.loop.invariant.2 c.before.loop-test.true n h,
+      left_next a.separator a.bytes.now l.loop.count a.place l.loop.found l.loop.ends l.before.requires.0.1.0 l.loop.invariant.2 c.before.loop-test.true n h,
     )
 
 returns-2 : tie.Need-returns-2 invariant-loop decreases-loop
 returns-2 c =
     let l = c.before in
     let a = l.before.args in
-    left-none a.separator a.bytes.now l.loop.count a.place l.loop.found l.loop.ends l.before.requires.0.1.0 l.loop.invariant.2 c.loop-test.false
+    left_none a.separator a.bytes.now l.loop.count a.place l.loop.found l.loop.ends l.before.requires.0.1.0 l.loop.invariant.2 c.loop-test.false
 
 pub note-word-spec : {M : Type 1} → statement M
 note-word-spec =

@@ -4,12 +4,12 @@ use mathlib.Core.Path.{◌≡◌, ap, ◌∙◌}
 use lib.ListN.{length, get_or, take, drop}
 use native.Mathlib.Omega.{arith}
 use borrow.Author.Rules.{rules}
-use Rattle.ends.proofs.NoteLaws.{noted_part, in-room, out_of_room, is_behind, not_behind}
+use Rattle.ends.proofs.NoteLaws.{noted_part, in_room, out_of_room, is_behind, not_behind}
 use Rattle.ends.proofs.part.Statement.{statement}
 use Rattle.ends.proofs.part.Tie as tie
 
 room : (c : tie.Else1) → (1 ≤ c.before.args.index) × (c.before.args.index < 16)
-room c = in-room c.before.args.index c.if1.false
+room c = in_room c.before.args.index c.if1.false
 
 returns : tie.Need-returns
 returns c sep most noted i j n = absurd (out_of_room c.before.before.args.index c.before.if1.true j n)

@@ -4,7 +4,7 @@ use mathlib.Core.Path.{refl, ap₂, ◌∙◌}
 use mathlib.Core.Bool.{◌||◌}
 use Rattle.alphabet.specs.Parts.{split}
 use Rattle.field_table.specs.Table.{values_of, member}
-use Rattle.field_table.proofs.TableLaws.{or-end}
+use Rattle.field_table.proofs.TableLaws.{or_end}
 use Rattle.field_table.proofs.is_code.Statement.{statement}
 use Rattle.field_table.proofs.is_code.Tie as tie
 
@@ -14,7 +14,7 @@ returns c =
     let k = c.code_of_lem.ensures in
     ap₂ ◌||◌ (k 65 65 refl refl)
     (ap₂ ◌||◌ (k 65 69 refl refl)
-    (k 65 82 refl refl ∙ or-end _))
+    (k 65 82 refl refl ∙ or_end _))
 
 pub is-code-spec : {M : Type 1} → statement M
 is-code-spec =

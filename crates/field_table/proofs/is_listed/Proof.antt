@@ -3,7 +3,7 @@ use borrow.Author.Rules.{rules}
 use mathlib.Core.Path.{sym, ap, ◌∙◌}
 use Rattle.alphabet.specs.Parts.{split}
 use Rattle.field_table.specs.Table.{values_of, member}
-use Rattle.field_table.proofs.TableLaws.{or-end, processing_are, sex_are, statuses_are}
+use Rattle.field_table.proofs.TableLaws.{or_end, processing_are, sex_are, statuses_are}
 use Rattle.field_table.proofs.is_listed.Statement.{statement}
 use Rattle.field_table.proofs.is_listed.Tie as tie
 
@@ -14,7 +14,7 @@ returns c =
 
 returns-2 : tie.Need-returns-2
 unfolding values_of member split
-returns-2 c = c.same.ensures ∙ or-end _ ∙ ap (λ v. member c.before.before.before.before.before.args.bytes.now (values_of v)) (sym c.before.before.enum-told2.given.1)
+returns-2 c = c.same.ensures ∙ or_end _ ∙ ap (λ v. member c.before.before.before.before.before.args.bytes.now (values_of v)) (sym c.before.before.enum-told2.given.1)
 
 returns-3 : tie.Need-returns-3
 returns-3 c =

@@ -4,7 +4,7 @@ use mathlib.Core.Path.{refl, ap₂, ◌∙◌}
 use mathlib.Core.Bool.{◌||◌}
 use Rattle.alphabet.specs.Parts.{split}
 use Rattle.field_table.specs.Table.{values_of, member}
-use Rattle.field_table.proofs.TableLaws.{or-end}
+use Rattle.field_table.proofs.TableLaws.{or_end}
 use Rattle.field_table.proofs.is_value_type.Statement.{statement}
 use Rattle.field_table.proofs.is_value_type.Tie as tie
 
@@ -22,7 +22,7 @@ returns c =
     (ap₂ ◌||◌ (k 83 84 refl refl)
     (ap₂ ◌||◌ (k 84 77 refl refl)
     (ap₂ ◌||◌ (k 84 83 refl refl)
-    (k 84 88 refl refl ∙ or-end _))))))))))
+    (k 84 88 refl refl ∙ or_end _))))))))))
 
 pub is-value-type-spec : {M : Type 1} → statement M
 is-value-type-spec =

@@ -5,9 +5,9 @@ use lib.ListN.{length}
 use native.Mathlib.Omega.{arith}
 use Rattle.field_table.specs.Table.{rows}
 use Rattle.field_table.specs.declared.Row.{Row}
-use Rattle.field_table.proofs.TableLaws.{rows-count}
+use Rattle.field_table.proofs.TableLaws.{rows_count}
 use Rattle.fields.specs.Walk.{NoneFrom}
-use Rattle.fields.proofs.JudgeLaws.{none-behind, none_back}
+use Rattle.fields.proofs.JudgeLaws.{none_behind, none_back}
 use Rattle.fields.proofs.end_of_rows.Statement.{statement}
 use Rattle.fields.proofs.end_of_rows.Tie as tie
 
@@ -18,7 +18,7 @@ abbrev decreases-loop : tie.decreases-loop
 decreases-loop name index₀ index = index
 
 within : (c : tie.At-loop invariant-loop decreases-loop) → c.loop.index ≤ 16
-within c = let e = rows-count in let i = c.loop.invariant.inside in omega arith
+within c = let e = rows_count in let i = c.loop.invariant.inside in omega arith
 
 loop-again : tie.Need-loop-preserved invariant-loop decreases-loop
 loop-again c =
@@ -33,7 +33,7 @@ end-of-rows-spec =
     (tie.spec
     invariant-loop
     decreases-loop
-    (λ c. subst (NoneFrom rows c.args.name) rows-count (none-behind rows c.args.name))
+    (λ c. subst (NoneFrom rows c.args.name) rows_count (none_behind rows c.args.name))
     (λ c. let t = c.loop-test.true in omega arith)
     (λ c κs. let w = within c.before in let t = c.loop-test.true in omega arith)
     (λ c. let t = c.before.before.before.loop-test.true in omega arith)

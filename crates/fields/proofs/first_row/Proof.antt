@@ -5,9 +5,9 @@ use lib.ListN.{length}
 use native.Mathlib.Omega.{arith}
 use Rattle.field_table.specs.Table.{rows}
 use Rattle.field_table.specs.declared.Row.{Row}
-use Rattle.field_table.proofs.TableLaws.{rows-count}
+use Rattle.field_table.proofs.TableLaws.{rows_count}
 use Rattle.fields.specs.Walk.{NoneBefore}
-use Rattle.fields.proofs.JudgeLaws.{none_yet, none-next}
+use Rattle.fields.proofs.JudgeLaws.{none_yet, none_next}
 use Rattle.fields.proofs.first_row.Statement.{statement}
 use Rattle.fields.proofs.first_row.Tie as tie
 
@@ -21,8 +21,8 @@ loop-again : tie.Need-loop-preserved invariant-loop decreases-loop
 loop-again c =
     let r = c.before.before in
     let l = r.before.before in
-    let e = rows-count in
-    none-next rows l.before.args.name l.loop.index (omega (arith, r.before.loop-test.true)) l.loop.invariant
+    let e = rows_count in
+    none_next rows l.before.args.name l.loop.index (omega (arith, r.before.loop-test.true)) l.loop.invariant
     (λ q. c.if1.false (ap (λ (x : Row). x.segment) r.row_at.ensures ∙ q))
 
 pub first-row-spec : {M : Type 1} → statement M

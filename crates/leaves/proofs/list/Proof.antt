@@ -1,4 +1,4 @@
--- Rests on the laws of a listing, case by case, and on `rows-most`: eight numbers for each byte are enough.
+-- Rests on the laws of a listing, case by case, and on `rows_most`: eight numbers for each byte are enough.
 use borrow.Author.Rules.{rules}
 use Prim.Native.Nat.{ℕ, ◌≤◌, ◌<◌, ◌+◌, ◌*◌, ◌-◌, ◌/◌}
 use mathlib.Core.Path.{◌≡◌, refl, sym, ap, ap₂, ◌∙◌}
@@ -12,9 +12,9 @@ use Rattle.alphabet.specs.declared.answers.Check.TheVariants.{Passes, Fails}
 use Rattle.alphabet.specs.declared.answers.Refusal.TheVariants.{None}
 use Rattle.reading.specs.Reading.{reading}
 use Rattle.leaves.specs.Leaves.{leaves_of, listing, counted, filled, rows}
-use Rattle.leaves.proofs.RowLaws.{rows-length}
-use Rattle.leaves.proofs.CountLaws.{rows-most}
-use Rattle.leaves.proofs.ListLaws.{listing-unread, listing-short, listing-fits}
+use Rattle.leaves.proofs.RowLaws.{rows_length}
+use Rattle.leaves.proofs.CountLaws.{rows_most}
+use Rattle.leaves.proofs.ListLaws.{listing_unread, listing_short, listing_fits}
 use Rattle.leaves.proofs.list.Statement.{statement}
 use Rattle.leaves.proofs.list.Tie as tie
 
@@ -27,7 +27,7 @@ returns c =
     let m = s.args.message.now in
     let d = s.args.buffer.now in
     let told = c.before.enum-told2.given.1 in
-    let e = listing-unread m (length d) _ _ (sym c.before.before.before.check-message.ensures ∙ told) in
+    let e = listing_unread m (length d) _ _ (sym c.before.before.before.check-message.ensures ∙ told) in
     (c.answer-of.ensures ∙ ap answered told ∙ ap (λ (x : Check). counted x (leaves_of m)) (sym e), ap (λ (x : Check). filled x (leaves_of m) d) (sym e))
 
 -- what is known where there is room
@@ -43,14 +43,14 @@ returns-2 c =
     let s = t.before.before.before.before.before in
     let m = s.args.message.now in
     let d = s.args.buffer.now in
-    let e = listing-short m (length d) (sym t.before.before.check-message.ensures ∙ t.enum_told.given.1) c.if1.true in
+    let e = listing_short m (length d) (sym t.before.before.check-message.ensures ∙ t.enum_told.given.1) c.if1.true in
     (ap (λ (x : Check). counted x (leaves_of m)) (sym e), ap (λ (x : Check). filled x (leaves_of m) d) (sym e))
 
 list-all-requires : tie.Need-list-all-requires
 list-all-requires c κs =
     let q = c.before in
     let s = q.before.before.before.before.before.before in
-    let n = rows-most s.args.message.now (read q) in
+    let n = rows_most s.args.message.now (read q) in
     let r = roomy q in
     (omega arith, read q)
 
@@ -61,8 +61,8 @@ returns-3 c =
     let s = q.before.before.before.before.before.before in
     let m = s.args.message.now in
     let d = s.args.buffer.now in
-    let e = listing-fits m (length d) (read q) (roomy q) in
-    let n = rows-length (leaves_of m) in
+    let e = listing_fits m (length d) (read q) (roomy q) in
+    let n = rows_length (leaves_of m) in
     let r = l.ensures.0 in
     let z : l.result / 8 ≡ length (leaves_of m) = omega arith in
     (ap (λ (x : ℕ). made x) z ∙ ap (λ (x : Check). counted x (leaves_of m)) (sym e), l.ensures.1 ∙ ap (λ (x : Check). filled x (leaves_of m) d) (sym e))

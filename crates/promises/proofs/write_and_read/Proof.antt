@@ -9,7 +9,7 @@ use native.Mathlib.Omega.{arith}
 use Rattle.alphabet.specs.declared.answers.Answer.{Answer}
 use Rattle.text.specs.Unescape.{unescaping}
 use Rattle.escaping.specs.Outcomes.{answer, filled}
-use Rattle.laws.proofs.TextRoom.{escape-within}
+use Rattle.laws.proofs.TextRoom.{escape_within}
 use Rattle.promises.proofs.Demand2.{text_comes_back}
 use Rattle.promises.proofs.write_and_read.Statement.{statement}
 use Rattle.promises.proofs.write_and_read.Tie as tie
@@ -18,7 +18,7 @@ use Rattle.promises.proofs.write_and_read.Tie as tie
 within : (c : tie.After-escape) → c.escape.result.length ≤ length c.escape.new.1.1.0
 within c =
     let a = c.before.before.before.before.before.args in
-    let w = escape-within a.delimiters.bytes a.text.now a.written.now in
+    let w = escape_within a.delimiters.bytes a.text.now a.written.now in
     let e = ap (λ (r : Answer). r.length) c.escape.ensures.0 in
     let f = ap length c.escape.ensures.1 in
     omega arith

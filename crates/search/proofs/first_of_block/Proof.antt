@@ -6,7 +6,7 @@ use lib.Dec.{ltb}
 use native.Mathlib.Omega.{arith}
 use borrow.Author.Rules.{rules}
 use Rattle.alphabet.specs.Bytes.{stops}
-use Rattle.alphabet.proofs.BlockLaws.{least_of, least_begin, least-most, least_step, least-end}
+use Rattle.alphabet.proofs.BlockLaws.{least_of, least_begin, least_most, least_step, least_end}
 use Rattle.search.proofs.first_of_block.Statement.{statement}
 use Rattle.search.proofs.first_of_block.Tie as tie
 
@@ -29,7 +29,7 @@ loop-again c =
     let s = a.block.now in
     let i = l.loop.i in
     let n = l.before.before.requires in
-    let m = least-most (stops a.unprintable a.five) s (i + 1) in
+    let m = least_most (stops a.unprintable a.five) s (i + 1) in
     let e =
     c.nearer.ensures
     ∙ ap₂ (λ (t : Bool) (k : ℕ). cond (t && ltb i k) i k) c.before.is_stop.ensures l.loop.invariant.2
@@ -41,7 +41,7 @@ returns c =
     let l = c.before in
     let a = l.before.before.args in
     let n = l.before.before.requires in
-    l.loop.invariant.2 ∙ least-end (stops a.unprintable a.five) a.block.now l.loop.i (omega arith)
+    l.loop.invariant.2 ∙ least_end (stops a.unprintable a.five) a.block.now l.loop.i (omega arith)
 
 pub first-of-block-spec : {M : Type 1} → statement M
 first-of-block-spec =

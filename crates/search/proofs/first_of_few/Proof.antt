@@ -5,7 +5,7 @@ use lib.ListN.{length}
 use native.Mathlib.Omega.{arith}
 use borrow.Author.Rules.{rules}
 use Rattle.alphabet.specs.Lists.{first}
-use Rattle.alphabet.proofs.ListLaws.{first-le, first_reached, first_next}
+use Rattle.alphabet.proofs.ListLaws.{first_le, first_reached, first_next}
 use Rattle.alphabet.specs.Bytes.{stops}
 use Rattle.search.proofs.first_of_few.Statement.{statement}
 use Rattle.search.proofs.first_of_few.Tie as tie
@@ -32,7 +32,7 @@ returns-2 : tie.Need-returns-2 invariant-loop decreases-loop
 returns-2 c =
     let a = c.before.before.before.args in
     let i = c.before.loop.invariant.1 in
-    let k = first-le (stops a.unprintable a.five) a.bytes.now in
+    let k = first_le (stops a.unprintable a.five) a.bytes.now in
     omega arith
 
 pub first-of-few-spec : {M : Type 1} → statement M

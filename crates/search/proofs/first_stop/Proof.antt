@@ -1,13 +1,13 @@
--- Rests on `first_block` and `first-inside`: a block without a stop is passed over whole, and in another the first one is found.
+-- Rests on `first_block` and `first_inside`: a block without a stop is passed over whole, and in another the first one is found.
 use Prim.Native.Nat.{ℕ, ◌≤◌, ◌+◌, ◌-◌}
 use mathlib.Core.Path.{◌≡◌, sym, ap, ◌∙◌}
 use lib.ListN.{length, drop}
 use native.Mathlib.Omega.{arith}
 use borrow.Author.Rules.{rules}
 use Rattle.alphabet.specs.Lists.{first}
-use Rattle.alphabet.proofs.ListLaws.{first_block, first-le, rest_of}
+use Rattle.alphabet.proofs.ListLaws.{first_block, first_le, rest_of}
 use Rattle.alphabet.specs.Bytes.{stops}
-use Rattle.alphabet.proofs.BlockLaws.{block_size, first_from, first-inside}
+use Rattle.alphabet.proofs.BlockLaws.{block_size, first_from, first_inside}
 use Rattle.search.proofs.first_stop.Statement.{statement}
 use Rattle.search.proofs.first_stop.Tie as tie
 
@@ -32,7 +32,7 @@ returns c =
     let n = block_size s i (omega arith) in
     let e = c.before.first-of-block.ensures in
     let f = first_from test s i l.loop.invariant.1 in
-    let g = first-inside test (drop i s) (i + 32 - i) (omega arith) in
+    let g = first_inside test (drop i s) (i + 32 - i) (omega arith) in
     omega arith
 
 add-result : tie.Need-overflow-add-result invariant-loop decreases-loop
@@ -65,7 +65,7 @@ add-result-2 : tie.Need-overflow-add-result-2 invariant-loop decreases-loop
 add-result-2 c =
     let a = c.before.before.before.before.before.args in
     let r = rest c in
-    let m = first-le (stops a.unprintable a.five) a.bytes.now in
+    let m = first_le (stops a.unprintable a.five) a.bytes.now in
     omega arith
 
 pub first-stop-spec : {M : Type 1} → statement M

@@ -5,7 +5,7 @@ use mathlib.Core.Path.{sym, ap, ◌∙◌}
 use Rattle.alphabet.specs.Answers.{answered}
 use Rattle.alphabet.specs.declared.answers.Answer.{Answer}
 use Rattle.alphabet.specs.declared.answers.Refusal.{Refusal}
-use Rattle.segments.proofs.AskedLaws.{counting-unread, counting-read}
+use Rattle.segments.proofs.AskedLaws.{counting_unread, counting_read}
 use Rattle.segments.proofs.count.Statement.{statement}
 use Rattle.segments.proofs.count.Tie as tie
 
@@ -17,13 +17,13 @@ returns c =
     let q = c.before.before.before in
     let m = q.before.before.args.message.now in
     let told = c.before.enum-told2.given.1 in
-    c.answer-of.ensures ∙ ap answered told ∙ counting-unread m _ _ (sym q.check-message.ensures ∙ told)
+    c.answer-of.ensures ∙ ap answered told ∙ counting_unread m _ _ (sym q.check-message.ensures ∙ told)
 
 returns-2 : tie.Need-returns-2
 returns-2 c =
     let q = c.before.before.before in
     let m = q.before.before.args.message.now in
-    ap made c.count-in.ensures ∙ counting-read m (sym q.check-message.ensures ∙ c.before.enum_told.given.1)
+    ap made c.count-in.ensures ∙ counting_read m (sym q.check-message.ensures ∙ c.before.enum_told.given.1)
 
 pub count_spec : {M : Type 1} → statement M
 count_spec =

@@ -8,9 +8,9 @@ use lib.ListN.{length, drop, length-drop}
 use native.Mathlib.Omega.{arith}
 use Rattle.alphabet.specs.Bytes.{carriage_return}
 use Rattle.alphabet.specs.Parts.{split}
-use Rattle.alphabet.proofs.ListLaws.{first-le}
+use Rattle.alphabet.proofs.ListLaws.{first_le}
 use Rattle.reading.specs.Segments.{all_but_last, segments}
-use Rattle.reading.proofs.SegmentLaws.{segments_walk, segments-over}
+use Rattle.reading.proofs.SegmentLaws.{segments_walk, segments_over}
 use Rattle.segments.proofs.count_in.Statement.{statement}
 use Rattle.segments.proofs.count_in.Tie as tie
 
@@ -35,7 +35,7 @@ returns c =
     let l = c.before.before.before in
     let m = l.before.before.args.message.now in
     let e = c.before.segment-end.ensures in
-    let n = ap length (segments-over m l.loop.start (omega arith)) in
+    let n = ap length (segments_over m l.loop.start (omega arith)) in
     let i = l.loop.invariant.2 in
     omega arith
 
@@ -52,7 +52,7 @@ returns-2 : tie.Need-returns-2 invariant-loop decreases-loop
 returns-2 c =
     let l = c.before in
     let m = l.before.before.args.message.now in
-    let n = ap length (segments-over m l.loop.start (omega arith)) in
+    let n = ap length (segments_over m l.loop.start (omega arith)) in
     let i = l.loop.invariant.2 in
     omega arith
 

@@ -2,7 +2,7 @@
 use borrow.Author.Rules.{rules}
 use native.Mathlib.Omega.{arith}
 use lib.ListN.{length, drop, length-drop}
-use Rattle.alphabet.proofs.ListLaws.{rest_of, first-le}
+use Rattle.alphabet.proofs.ListLaws.{rest_of, first_le}
 use Rattle.terminal.specs.Terminal.{not_plain}
 use mathlib.Core.Path.{ap, ◌∙◌}
 use Rattle.alphabet.specs.Lists.{first}
@@ -16,7 +16,7 @@ within c =
     let a = c.before.before.before.args in
     let s = drop a.start a.bytes.now in
     let e = c.plain-run.ensures ∙ ap (first not_plain) (rest_of a.bytes.now a.start) in
-    let u = first-le not_plain s in
+    let u = first_le not_plain s in
     let n = length-drop a.start a.bytes.now in
     omega arith
 

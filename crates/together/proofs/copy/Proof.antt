@@ -4,8 +4,8 @@ use mathlib.Core.Path.{◌∙◌}
 use lib.ListN.{length, get_or, drop}
 use native.Mathlib.Omega.{arith}
 use borrow.Author.Rules.{rules}
-use Rattle.alphabet.proofs.FillingLaws.{Filling, fill_start, fill_more, fill-room, fill-length, fill_end, put-fits}
-use Rattle.together.proofs.PieceLaws.{none, bytes, pieces-next, pieces_end, count_next}
+use Rattle.alphabet.proofs.FillingLaws.{Filling, fill_start, fill_more, fill_room, fill_length, fill_end, put_fits}
+use Rattle.together.proofs.PieceLaws.{none, bytes, pieces_next, pieces_end, count_next}
 use Rattle.together.proofs.copy.Statement.{statement}
 use Rattle.together.proofs.copy.Tie as tie
 
@@ -27,11 +27,11 @@ loop-again c =
     let f = l.loop.invariant.1 in
     let p = c.before.before.put in
     let n = count_next ps i (omega arith) in
-    let w = put-fits l.loop.buffer (get_or ps i none).now l.loop.place (omega (arith, fill-room f, fill-length f l.before.before.requires)) in
-    (omega arith, fill_more _ _ _ _ f (pieces-next ps i (omega arith)) (p.ensures.1 ∙ w.1) (p.ensures.0 ∙ w.0))
+    let w = put_fits l.loop.buffer (get_or ps i none).now l.loop.place (omega (arith, fill_room f, fill_length f l.before.before.requires)) in
+    (omega arith, fill_more _ _ _ _ f (pieces_next ps i (omega arith)) (p.ensures.1 ∙ w.1) (p.ensures.0 ∙ w.0))
 
 same_length : tie.Need-same-length invariant-loop decreases-loop
-same_length c = fill-length c.before.loop.invariant.1 c.before.before.before.requires
+same_length c = fill_length c.before.loop.invariant.1 c.before.before.before.requires
 
 returns : tie.Need-returns invariant-loop decreases-loop
 returns c =

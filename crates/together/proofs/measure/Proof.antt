@@ -7,7 +7,7 @@ use native.Mathlib.Omega.{arith}
 use borrow.Author.Rules.{rules}
 use native.Mathlib.Nat.{zero-add}
 use Rattle.escaping.specs.Outcomes.{room_for}
-use Rattle.escaping.proofs.OutcomeLaws.{room_takes, room-short}
+use Rattle.escaping.proofs.OutcomeLaws.{room_takes, room_short}
 use Rattle.together.specs.Together.{together}
 use Rattle.together.proofs.PieceLaws.{count_next, pieces_end}
 use Rattle.together.proofs.measure.Statement.{statement}
@@ -33,7 +33,7 @@ returns c =
     let l = c.before.before.before in
     let a = l.before.args in
     let n = count_next a.pieces.now l.loop.i (omega arith) in
-    room-short a.room _ (omega arith)
+    room_short a.room _ (omega arith)
 
 loop-again : tie.Need-loop-preserved invariant-loop decreases-loop
 loop-again c =

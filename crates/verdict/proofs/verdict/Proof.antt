@@ -7,7 +7,7 @@ use lib.Seq.{length-take-le}
 use lib.ListN.{length, take}
 use native.Mathlib.Omega.{arith}
 use Rattle.alphabet.specs.declared.answers.Check.TheVariants.{Passes}
-use Rattle.alphabet.proofs.DelimiterLaws.{delimiter-permitted}
+use Rattle.alphabet.proofs.DelimiterLaws.{delimiter_permitted}
 use Rattle.reading.specs.Segments.{delimiters_of}
 use Rattle.reading.specs.Reading.{opening, segments_check, reading}
 use Rattle.reading.proofs.Accepted.{opened_if}
@@ -16,7 +16,7 @@ use Rattle.structure.specs.Structures.{structure_for, built_in}
 use Rattle.structure.proofs.RowLaws.{rows_few}
 use Rattle.structure.proofs.OneWalk.{opening_fails, end_fails, left_to_read}
 use Rattle.verdict.specs.Verdicts.{Verdicts}
-use Rattle.verdict.proofs.OneWalk.{unread-verdict, without_rows, with_rows}
+use Rattle.verdict.proofs.OneWalk.{unread_verdict, without_rows, with_rows}
 use Rattle.verdict.proofs.verdict.Statement.{statement}
 use Rattle.verdict.proofs.verdict.Tie as tie
 
@@ -24,13 +24,13 @@ returns : tie.Need-returns
 returns c =
     let m = c.before.before.before.before.before.before.args.message.now in
     subst (Verdicts m) (sym c.plain.ensures)
-    (unread-verdict built_in m (opening_fails m (sym c.before.before.before.before.check-opening.ensures ∙ c.before.before.opening.given.1)))
+    (unread_verdict built_in m (opening_fails m (sym c.before.before.before.before.check-opening.ensures ∙ c.before.before.opening.given.1)))
 
 returns-2 : tie.Need-returns-2
 returns-2 c =
     let m = c.before.before.before.before.before.before.before.before.before.args.message.now in
     subst (Verdicts m) (sym c.plain2.ensures)
-    (unread-verdict built_in m (end_fails m (sym c.before.before.before.before.before.before.before.check-opening.ensures ∙ c.before.before.before.before.before.enum_told.given.1)
+    (unread_verdict built_in m (end_fails m (sym c.before.before.before.before.before.before.before.check-opening.ensures ∙ c.before.before.before.before.before.enum_told.given.1)
     (sym c.before.before.before.before.check-end.ensures ∙ c.before.before.end.given.1)))
 
 -- ---- the rows
@@ -48,7 +48,7 @@ module _ (c : tie.After-rows-for) where
 
   -- the delimiters of a message whose opening passes are permitted
   permitted-all : Permitted (delimiters_of message)
-  permitted-all i h = delimiter-permitted (delimiters_of message) refl (opened_if message opened).delimiters_right i h
+  permitted-all i h = delimiter_permitted (delimiters_of message) refl (opened_if message opened).delimiters_right i h
 
   -- a structure has at most 64 rows, and so many fit the lists
   few : c.rows-for.result.count ≤ 64

@@ -15,12 +15,12 @@ use Rattle.reading.specs.Message.{ended}
 use Rattle.error_segment.specs.Errors.{error_lines}
 use Rattle.escaping.specs.Outcomes.{fault}
 use Rattle.escaping.specs.Outcomes.{answer}
-use Rattle.alphabet.proofs.CheckLaws.{number-none}
+use Rattle.alphabet.proofs.CheckLaws.{number_none}
 use Rattle.acknowledgement.specs.Acknowledgement.{sent, present, refusing, Acknowledges}
 use Rattle.acknowledgement.specs.Fields.{line_in, ends_in}
 use Rattle.acknowledgement.specs.Acknowledgement.Acknowledges.{not_written}
 use Rattle.acknowledgement.proofs.AnswerLaws.{meets}
-use Rattle.acknowledgement.proofs.HeaderLaws.{nothing_against, id_short, sound-header, return-inside, line-long, line-header, one_return, id_present}
+use Rattle.acknowledgement.proofs.HeaderLaws.{nothing_against, id_short, sound_header, return_inside, line_long, line_header, one_return, id_present}
 use Rattle.acknowledgement.proofs.acknowledging.acknowledge.Statement.{statement}
 use Rattle.acknowledgement.proofs.acknowledging.acknowledge.Tie as tie
 
@@ -28,7 +28,7 @@ use Rattle.acknowledgement.proofs.acknowledging.acknowledge.Tie as tie
 nothing : (c : tie.Else1) → let a = c.before.before.before.before.before.before.before.before.before.before.before.args in refusing a.message.now a.time.now a.id.now ≡ None
 nothing c =
     let k = c.before.before.refusal-of in
-    sym k.ensures ∙ number-none k.result (sym c.before.number.ensures ∙ c.if1.false)
+    sym k.ensures ∙ number_none k.result (sym c.before.number.ensures ∙ c.if1.false)
 
 returns : tie.Need-returns
 unfolding answer
@@ -68,14 +68,14 @@ write-requires c κs =
     let taken = c.before.before.before.before.before.before.before.before.before.before.before.before.header_of.ensures in
     let h = c.before.before.before.before.before.before.before.before.before.before.before.before.header_of.result.now in
     let n = nothing_against m a.time.now a.id.now (nothing e) in
-    let o = sound-header m n.2 in
-    let i = return-inside m n.2 in (
-      (omega (arith, ap length taken, o.nine-bytes), one_return m h i taken),
+    let o = sound_header m n.2 in
+    let i = return_inside m n.2 in (
+      (omega (arith, ap length taken, o.nine_bytes), one_return m h i taken),
       (
         (ap is_header taken ∙ o.header, ap (λ (x : List ℕ). present x (sent x 10)) taken ∙ id_present m n.2),
         (
           ap (λ (x : List ℕ). first_wrong_delimiter (delimiters_of x)) taken ∙ o.delimiters_right,
-          (ends f ∙ ap (ends_in (field_separator h)) (c.before.before.before.before.before.before.before.before.before.before.before.before.before.Line-of.ensures ∙ line-header m i ∙ ap line_in (sym taken)), id_short m a.time.now a.id.now n.1),
+          (ends f ∙ ap (ends_in (field_separator h)) (c.before.before.before.before.before.before.before.before.before.before.before.before.before.Line-of.ensures ∙ line_header m i ∙ ap line_in (sym taken)), id_short m a.time.now a.id.now n.1),
         ),
       ),
     )
@@ -97,7 +97,7 @@ acknowledge-spec =
     tie.close
     (tie.spec
     (λ c κs. search rules)
-    (λ c κs. ap length c.Line-of.ensures ∙ line-long c.before.before.before.before.before.args.message.now)
+    (λ c κs. ap length c.Line-of.ensures ∙ line_long c.before.before.before.before.before.args.message.now)
     (λ c κs. search rules)
     (λ c κs. search rules)
     (λ c κs. ((c.before.before.header_of.ensures, c.before.before.before.Line-of.ensures), ends c))

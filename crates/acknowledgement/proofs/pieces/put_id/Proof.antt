@@ -7,7 +7,7 @@ use native.Mathlib.Omega.{arith}
 use borrow.Author.Rules.{rules}
 use Rattle.alphabet.specs.Filling.{over}
 use Rattle.alphabet.specs.declared.answers.Answer.{Answer}
-use Rattle.alphabet.proofs.FillingLaws.{put-fits}
+use Rattle.alphabet.proofs.FillingLaws.{put_fits}
 use Rattle.alphabet.proofs.LimitLaws.{id_limit_small}
 use Rattle.escaping.specs.Outcomes.{Outcome}
 use Rattle.escaping.specs.Outcomes.{answer, filled}
@@ -21,7 +21,7 @@ returns c =
     let id = s.args.id.now in
     let d = s.args.buffer.now in
     let plain = c.before.before.before.before.before.is_plain.ensures c.before.before.before.before.if1.true in
-    let fits = put-fits d id 0 (omega (arith, s.requires.1, s.requires.2, id_limit_small)) in
+    let fits = put_fits d id 0 (omega (arith, s.requires.1, s.requires.2, id_limit_small)) in
     let n : 0 + length id ≡ length id = omega arith in (
       c.before.before.put.ensures.0 ∙ fits.0 ∙ n ∙ sym (ap length plain),
       c.before.before.put.ensures.1 ∙ fits.1 ∙ ap (λ (k : ℕ). id ++ drop k d) n ∙ sym (ap (λ (x : List ℕ). over x d) plain),

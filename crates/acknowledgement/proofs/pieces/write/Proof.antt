@@ -16,7 +16,7 @@ use Rattle.escaping.specs.Outcomes.{escaping, answer, filled}
 use Rattle.acknowledgement.specs.Acknowledgement.{roomy}
 use Rattle.together.specs.Together.{together}
 use Rattle.acknowledgement.specs.Pieces.{fixed_text, pieces}
-use Rattle.acknowledgement.proofs.PieceLaws.{pieces-together}
+use Rattle.acknowledgement.proofs.PieceLaws.{pieces_together}
 use Rattle.acknowledgement.proofs.pieces.write.Statement.{statement}
 use Rattle.acknowledgement.proofs.pieces.write.Tie as tie
 
@@ -56,7 +56,7 @@ returns c =
     let d = a.buffer.now in
     let o =
     ap₂ (λ (x f : List ℕ). roomy (length d) (together (pieces h a.time.now x f a.behind.now))) (handed e) (k.fixed-text.ensures ∙ ap (λ (x : ℕ). fixed_text x a.code) k.before.byte_at.ensures)
-    ∙ ap (roomy (length d)) (pieces-together h a.time.now a.id.now a.code a.behind.now s.requires.0.0 s.requires.0.1 s.requires.1.0.0 s.requires.1.0.1) in
+    ∙ ap (roomy (length d)) (pieces_together h a.time.now a.id.now a.code a.behind.now s.requires.0.0 s.requires.0.1 s.requires.1.0.0 s.requires.1.0.1) in
     (p.write-pieces.ensures.0 ∙ ap answer o, p.write-pieces.ensures.1 ∙ ap (λ (x : Outcome ℕ). filled x d) o)
 
 pub write_spec : {M : Type 1} → statement M

@@ -12,7 +12,7 @@ use Rattle.escaping.proofs.OutcomeLaws.{ended, takes_is, short_is}
 use Rattle.together.specs.Together.{together, least, fitted}
 use Rattle.together.proofs.PieceLaws.{fitted_takes, fitted_short}
 use Rattle.acknowledgement.specs.Pieces.{pieces}
-use Rattle.acknowledgement.proofs.PieceLaws.{roomy_takes, roomy-short}
+use Rattle.acknowledgement.proofs.PieceLaws.{roomy_takes, roomy_short}
 use Rattle.acknowledgement.proofs.pieces.write_pieces.Statement.{statement}
 use Rattle.acknowledgement.proofs.pieces.write_pieces.Tie as tie
 
@@ -39,7 +39,7 @@ returns c =
     let p = c.before.before.before.before in
     let d = p.before.before.before.before.before.before.before.before.before.before.before.args.buffer.now in
     let s = short_is (least (length d) message_limit) _ (sym c.enum_told.given.1 ∙ (put p).0) in
-    let r = ended _ _ d (roomy-short (length d) _ s) in
+    let r = ended _ _ d (roomy_short (length d) _ s) in
     (r.0, (put p).1 ∙ fitted_short _ _ d s ∙ r.1)
 
 returns-2 : tie.Need-returns-2

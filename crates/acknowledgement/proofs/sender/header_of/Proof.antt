@@ -7,17 +7,17 @@ use lib.Seq.{length-take-le}
 use native.Mathlib.Omega.{arith}
 use borrow.Author.Rules.{rules}
 use Rattle.alphabet.specs.Bytes.{carriage_return}
-use Rattle.alphabet.proofs.ListLaws.{first-le}
-use Rattle.acknowledgement.proofs.HeaderLaws.{header-whole}
+use Rattle.alphabet.proofs.ListLaws.{first_le}
+use Rattle.acknowledgement.proofs.HeaderLaws.{header_whole}
 use Rattle.acknowledgement.proofs.sender.header_of.Statement.{statement}
 use Rattle.acknowledgement.proofs.sender.header_of.Tie as tie
 
 -- there is a byte behind the line
 inside : (c : tie.Else1) → length c.before.args.line.now + 1 ≤ length c.before.args.message.now
-inside c = let e = c.before.requires in omega (arith, first-le (eqb carriage_return) c.before.args.message.now, c.if1.false)
+inside c = let e = c.before.requires in omega (arith, first_le (eqb carriage_return) c.before.args.message.now, c.if1.false)
 
 returns : tie.Need-returns
-returns c = header-whole c.before.args.message.now (sym c.before.requires ∙ c.if1.true)
+returns c = header_whole c.before.args.message.now (sym c.before.requires ∙ c.if1.true)
 
 returns-2 : tie.Need-returns-2
 returns-2 c = ap (λ (n : ℕ). take (n + 1) c.before.before.args.message.now) c.before.before.requires

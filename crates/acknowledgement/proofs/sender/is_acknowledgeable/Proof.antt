@@ -9,7 +9,7 @@ use native.Mathlib.Omega.{arith}
 use borrow.Author.Rules.{rules}
 use Rattle.alphabet.specs.Bytes.{carriage_return, ascii}
 use Rattle.alphabet.specs.Lists.{find, same}
-use Rattle.alphabet.proofs.ListLaws.{first-le}
+use Rattle.alphabet.proofs.ListLaws.{first_le}
 use Rattle.reading.specs.Reading.{opening}
 use Rattle.reading.specs.Segments.{field_separator}
 use Rattle.reading.proofs.Accepted.{opened_if}
@@ -17,18 +17,18 @@ use Rattle.acknowledgement.specs.Acknowledgement.{sent, type_part, present}
 use Rattle.ends.specs.Ends.{cut_out}
 use Rattle.acknowledgement.specs.Fields.{line_in, ends_in, ends_of}
 use Rattle.acknowledgement.specs.declared.sender.FieldEnds.{FieldEnds}
-use Rattle.acknowledgement.proofs.FieldLaws.{within, sent-cut}
-use Rattle.acknowledgement.proofs.HeaderLaws.{no-return-no, unsound-no, sound_is, line-long, line-header, one_return}
+use Rattle.acknowledgement.proofs.FieldLaws.{within, sent_cut}
+use Rattle.acknowledgement.proofs.HeaderLaws.{no_return_no, unsound_no, sound_is, line_long, line_header, one_return}
 use Rattle.acknowledgement.proofs.sender.is_acknowledgeable.Statement.{statement}
 use Rattle.acknowledgement.proofs.sender.is_acknowledgeable.Tie as tie
 
 -- the line is as long as it is far to the first CR
 counted : (c : tie.Start) → length c.args.line.now ≡ find carriage_return c.args.message.now
-counted c = ap length c.requires.0.1 ∙ line-long c.args.message.now
+counted c = ap length c.requires.0.1 ∙ line_long c.args.message.now
 
 -- the CR stands inside the message
 inside : (c : tie.Else1) → let m = c.before.before.before.before.args.message.now in find carriage_return m < length m
-inside c = omega (arith, counted c.before.before.before.before, first-le (eqb carriage_return) c.before.before.before.before.args.message.now, c.if1.false)
+inside c = omega (arith, counted c.before.before.before.before, first_le (eqb carriage_return) c.before.before.before.before.args.message.now, c.if1.false)
 
 -- the header is sound, with one CR, and the ends are those of its fields
 known : (c : tie.After-enum-told)
@@ -41,20 +41,20 @@ known c =
     let m = s.args.message.now in
     let i = inside c.before.before.before in
     let o = opened_if h (sym c.before.before.check-opening.ensures ∙ c.enum_told.given.1) in (
-      omega (arith, o.nine-bytes),
+      omega (arith, o.nine_bytes),
       one_return m h i s.requires.0.0,
-      s.requires.1 ∙ ap (ends_in (field_separator h)) (s.requires.0.1 ∙ line-header m i ∙ ap line_in (sym s.requires.0.0)),
+      s.requires.1 ∙ ap (ends_in (field_separator h)) (s.requires.0.1 ∙ line_header m i ∙ ap line_in (sym s.requires.0.0)),
     )
 
 returns : tie.Need-returns
-returns c = sym (no-return-no c.before.before.before.before.args.message.now (sym (counted c.before.before.before.before) ∙ c.if1.true))
+returns c = sym (no_return_no c.before.before.before.before.args.message.now (sym (counted c.before.before.before.before) ∙ c.if1.true))
 
 returns-2 : tie.Need-returns-2
 returns-2 c =
     let o = c.before.before in
     let e = c.before.before.before in
     let s = c.before.before.before.before.before.before.before in
-    sym (unsound-no s.args.message.now (inside e) _ _ (ap opening (sym s.requires.0.0) ∙ sym o.check-opening.ensures ∙ c.enum-told2.given.1))
+    sym (unsound_no s.args.message.now (inside e) _ _ (ap opening (sym s.requires.0.0) ∙ sym o.check-opening.ensures ∙ c.enum-told2.given.1))
 
 type-part-requires : tie.Need-type-part-requires
 type-part-requires c κs = let k = known c in ((k.0, k.1), k.2)
@@ -74,7 +74,7 @@ returns-3 c =
     let taken = s.requires.0.0 in
     let k = known t in
     let id =
-    c.before.before.before.before.cut_out.ensures ∙ ap (λ (x : FieldEnds). cut_out h x.nine x.ten) k.2 ∙ sent-cut h k.0 k.1 8 10 refl
+    c.before.before.before.before.cut_out.ensures ∙ ap (λ (x : FieldEnds). cut_out h x.nine x.ten) k.2 ∙ sent_cut h k.0 k.1 8 10 refl
     ∙ ap (λ (x : List ℕ). sent x 10) taken in
     let type = c.before.before.before.before.before.type-part.ensures ∙ ap (λ (x : List ℕ). type_part x 1) taken in
     let known = c.before.before.same.ensures ∙ ap (λ (x : List ℕ). same x (ascii "ACK")) type in

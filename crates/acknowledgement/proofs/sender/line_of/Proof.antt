@@ -7,12 +7,12 @@ use lib.Seq.{length-take-le}
 use native.Mathlib.Omega.{arith}
 use borrow.Author.Rules.{rules}
 use Rattle.alphabet.specs.Bytes.{carriage_return}
-use Rattle.alphabet.proofs.ListLaws.{first-le}
+use Rattle.alphabet.proofs.ListLaws.{first_le}
 use Rattle.acknowledgement.proofs.sender.line_of.Statement.{statement}
 use Rattle.acknowledgement.proofs.sender.line_of.Tie as tie
 
 inside : (c : tie.After-find-return) → c.find-return.result ≤ length c.before.before.args.message.now
-inside c = omega (arith, c.find-return.ensures, first-le (eqb carriage_return) c.before.before.args.message.now)
+inside c = omega (arith, c.find-return.ensures, first_le (eqb carriage_return) c.before.before.args.message.now)
 
 pub line-of-spec : {M : Type 1} → statement M
 line-of-spec =

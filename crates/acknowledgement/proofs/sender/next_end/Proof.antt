@@ -6,7 +6,7 @@ use lib.ListN.{drop, length-drop}
 use native.Mathlib.Omega.{arith}
 use borrow.Author.Rules.{rules}
 use Rattle.alphabet.specs.Lists.{find}
-use Rattle.alphabet.proofs.ListLaws.{first-le, rest_of}
+use Rattle.alphabet.proofs.ListLaws.{first_le, rest_of}
 use Rattle.ends.proofs.EndLaws.{next_last, next_more}
 use Rattle.acknowledgement.proofs.sender.next_end.Statement.{statement}
 use Rattle.acknowledgement.proofs.sender.next_end.Tie as tie
@@ -21,7 +21,7 @@ found c = let a = c.before.before.before.before.args in c.find.ensures ∙ ap (f
 add-result : tie.Need-overflow-add-result
 add-result c =
     let a = c.before.before.before.before.args in
-    let u = first-le (eqb a.separator) (drop (a.end + 1) a.line.now) in
+    let u = first_le (eqb a.separator) (drop (a.end + 1) a.line.now) in
     let d = length-drop (a.end + 1) a.line.now in
     let f = found c in
     omega (arith, f, u, d, c.before.before.if1.false)

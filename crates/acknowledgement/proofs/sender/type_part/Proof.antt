@@ -8,7 +8,7 @@ use borrow.Author.Rules.{rules}
 use Rattle.alphabet.specs.Parts.{split}
 use Rattle.ends.specs.Ends.{cut_out}
 use Rattle.acknowledgement.specs.declared.sender.FieldEnds.{FieldEnds}
-use Rattle.acknowledgement.proofs.FieldLaws.{within, type-cut}
+use Rattle.acknowledgement.proofs.FieldLaws.{within, type_cut}
 use Rattle.acknowledgement.proofs.sender.type_part.Statement.{statement}
 use Rattle.acknowledgement.proofs.sender.type_part.Tie as tie
 
@@ -24,7 +24,7 @@ returns c =
     let field = c.before.before.before.before.cut_out.ensures ∙ ap (λ (x : FieldEnds). cut_out h x.eight x.nine) s.requires.1 in
     let part : ℕ → ℕ → List ℕ → List ℕ = λ k b l. get_or (split b l) k [] in
     let repetition = c.before.before.part_in.ensures ∙ ap₂ (part 0) c.before.before.before.byte_at.ensures field in
-    c.part-in2.ensures ∙ ap₂ (part s.args.index) c.before.byte-at2.ensures repetition ∙ type-cut h s.requires.0.0 s.requires.0.1 s.args.index
+    c.part-in2.ensures ∙ ap₂ (part s.args.index) c.before.byte-at2.ensures repetition ∙ type_cut h s.requires.0.0 s.requires.0.1 s.args.index
 
 pub type-part-spec : {M : Type 1} → statement M
 type-part-spec =

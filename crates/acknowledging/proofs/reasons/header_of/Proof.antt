@@ -7,8 +7,8 @@ use lib.Seq.{length-take-le}
 use native.Mathlib.Omega.{arith}
 use borrow.Author.Rules.{rules}
 use Rattle.alphabet.specs.Bytes.{carriage_return}
-use Rattle.alphabet.proofs.ListLaws.{first-le}
-use Rattle.acknowledgement.proofs.HeaderLaws.{header-whole}
+use Rattle.alphabet.proofs.ListLaws.{first_le}
+use Rattle.acknowledgement.proofs.HeaderLaws.{header_whole}
 use Rattle.acknowledging.proofs.reasons.header_of.Statement.{statement}
 use Rattle.acknowledging.proofs.reasons.header_of.Tie as tie
 
@@ -18,7 +18,7 @@ returns c = ap (λ (n : ℕ). take (n + 1) c.before.before.before.before.args.me
 returns-2 : tie.Need-returns-2
 returns-2 c =
     let m = c.before.before.before.args.message.now in
-    header-whole m (omega (arith, c.before.find.ensures, first-le (eqb carriage_return) m, c.if1.false))
+    header_whole m (omega (arith, c.before.find.ensures, first_le (eqb carriage_return) m, c.if1.false))
 
 pub header-of-spec : {M : Type 1} → statement M
 header-of-spec =

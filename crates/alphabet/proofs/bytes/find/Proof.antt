@@ -6,7 +6,7 @@ use lib.ListN.{length}
 use native.Mathlib.Omega.{arith}
 use borrow.Author.Tests.{eq-eqb, ne_eqb}
 use Rattle.alphabet.specs.Lists.{find}
-use Rattle.alphabet.proofs.ListLaws.{first-le, first_reached, first_next}
+use Rattle.alphabet.proofs.ListLaws.{first_le, first_reached, first_next}
 use Rattle.alphabet.proofs.bytes.find.Statement.{statement}
 use Rattle.alphabet.proofs.bytes.find.Tie as tie
 
@@ -32,7 +32,7 @@ returns-2 : tie.Need-returns-2 invariant-loop decreases-loop
 returns-2 c =
     let a = c.before.before.args in
     let i = c.before.loop.invariant.1 in
-    let k = first-le (eqb a.b) a.bytes.now in
+    let k = first_le (eqb a.b) a.bytes.now in
     omega arith
 
 pub find_spec : {M : Type 1} → statement M

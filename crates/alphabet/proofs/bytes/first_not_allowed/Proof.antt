@@ -9,7 +9,7 @@ use borrow.Author.Rules.{rules}
 use borrow.Author.Tests.{leb-true}
 use Rattle.alphabet.specs.Bytes.{not_allowed}
 use Rattle.alphabet.specs.Lists.{first}
-use Rattle.alphabet.proofs.ListLaws.{first-le, first_reached, first_next}
+use Rattle.alphabet.proofs.ListLaws.{first_le, first_reached, first_next}
 use Rattle.alphabet.proofs.bytes.first_not_allowed.Statement.{statement}
 use Rattle.alphabet.proofs.bytes.first_not_allowed.Tie as tie
 
@@ -23,13 +23,13 @@ returns : tie.Need-returns invariant-loop decreases-loop
 returns c =
     let s = c.before.before.before.args.bytes.now in
     let z = leb-true (length s) (first not_allowed s) (sym c.before.is-all-allowed.ensures ∙ c.if1.true) in
-    let k = first-le not_allowed s in
+    let k = first_le not_allowed s in
     omega arith
 
 begins : tie.Need-loop-init invariant-loop decreases-loop
 begins c =
     let s = c.before.before.before.before.args.bytes.now in
-    let k = first-le not_allowed s in
+    let k = first_le not_allowed s in
     let b = c.before-not-allowed.ensures in
     (omega arith, b)
 
@@ -49,7 +49,7 @@ returns-3 : tie.Need-returns-3 invariant-loop decreases-loop
 returns-3 c =
     let s = c.before.before.before.before.before.before.args.bytes.now in
     let i = c.before.loop.invariant.1 in
-    let k = first-le not_allowed s in
+    let k = first_le not_allowed s in
     omega arith
 
 pub first-not-allowed-spec : {M : Type 1} → statement M

@@ -11,7 +11,7 @@ use Rattle.alphabet.specs.Allowed.{height_of, turned_of}
 use Rattle.alphabet.specs.Bytes.{allowed, not_allowed}
 use Rattle.alphabet.specs.Lists.{first}
 use Rattle.alphabet.proofs.AllowedLaws.{and_pairs, told}
-use Rattle.alphabet.proofs.BoolLaws.{not-not}
+use Rattle.alphabet.proofs.BoolLaws.{not_not}
 use Rattle.alphabet.proofs.ListLaws.{first_begin, first_step}
 use Rattle.alphabet.proofs.bytes.is_all_allowed.Statement.{statement}
 use Rattle.alphabet.proofs.bytes.is_all_allowed.Tie as tie
@@ -37,7 +37,7 @@ loop-again c =
       omega arith,
       both
           ∙ and_pairs (leb 32 l.loop.least) (leb l.loop.most 222) (leb 32 (height_of b)) (leb (turned_of b) 222)
-          ∙ ap₂ ◌&&◌ l.loop.invariant.1 (told b (omega arith) ∙ sym (not-not (allowed b)))
+          ∙ ap₂ ◌&&◌ l.loop.invariant.1 (told b (omega arith) ∙ sym (not_not (allowed b)))
           ∙ sym (first_step not_allowed s i (omega (arith, h.before.before.loop-test.true))),
     )
 

@@ -4,7 +4,7 @@ use mathlib.Core.Path.{◌≡◌, refl, sym, ◌∙◌}
 use lib.ListN.{length, drop}
 use native.Mathlib.Omega.{arith}
 use Rattle.alphabet.specs.Lists.{same}
-use Rattle.alphabet.proofs.ListLaws.{same-unlike, same_next, same_not, same_end}
+use Rattle.alphabet.proofs.ListLaws.{same_unlike, same_next, same_not, same_end}
 use Rattle.alphabet.proofs.bytes.same.Statement.{statement}
 use Rattle.alphabet.proofs.bytes.same.Tie as tie
 
@@ -38,7 +38,7 @@ same_spec =
     (tie.spec
     invariant-loop
     decreases-loop
-    (λ c. sym (same-unlike c.before.args.one.now c.before.args.other.now c.if1.true))
+    (λ c. sym (same_unlike c.before.args.one.now c.before.args.other.now c.if1.true))
     (λ c. (omega arith, c.if1.false, refl))
     (λ c. omega arith)
     (λ c. omega arith)

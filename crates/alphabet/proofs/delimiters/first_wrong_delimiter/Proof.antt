@@ -8,7 +8,7 @@ use borrow.Author.Rules.{rules}
 use borrow.Author.Tests.{not-true, not-false}
 use Rattle.alphabet.specs.Lists.{first}
 use Rattle.alphabet.specs.Delimiters.{wrong, places, first_wrong_delimiter}
-use Rattle.alphabet.proofs.DelimiterLaws.{wrong-not-permitted, wrong-again, right, wrong-here, wrong_past, wrong-end}
+use Rattle.alphabet.proofs.DelimiterLaws.{wrong_not_permitted, wrong_again, right, wrong_here, wrong_past, wrong_end}
 use Rattle.alphabet.proofs.delimiters.first_wrong_delimiter.Statement.{statement}
 use Rattle.alphabet.proofs.delimiters.first_wrong_delimiter.Tie as tie
 
@@ -27,7 +27,7 @@ returns c =
     let l = c.before.before.before in
     let ds = l.before.before.args.delimiters.bytes in
     let p = sym c.before.is-permitted.ensures ∙ not-true _ c.if1.true in
-    let z = wrong-here ds l.loop.i (omega arith) (wrong-not-permitted ds l.loop.i p) in
+    let z = wrong_here ds l.loop.i (omega arith) (wrong_not_permitted ds l.loop.i p) in
     omega arith
 
 returns-2 : tie.Need-returns-2 invariant-loop decreases-loop
@@ -35,7 +35,7 @@ returns-2 c =
     let l = c.before.before.before.before.before.before in
     let ds = l.before.before.args.delimiters.bytes in
     let p = sym c.before.before.before.before.is-permitted.ensures ∙ not-false _ c.before.before.before.if1.false in
-    let z = wrong-here ds l.loop.i (omega arith) (wrong-again ds l.loop.i p (omega arith)) in
+    let z = wrong_here ds l.loop.i (omega arith) (wrong_again ds l.loop.i p (omega arith)) in
     omega arith
 
 loop-again : tie.Need-loop-preserved invariant-loop decreases-loop
@@ -49,7 +49,7 @@ loop-again c =
 returns-3 : tie.Need-returns-3 invariant-loop decreases-loop
 returns-3 c =
     let l = c.before in
-    let z = wrong-end l.before.before.args.delimiters.bytes l.loop.i (omega arith) in
+    let z = wrong_end l.before.before.args.delimiters.bytes l.loop.i (omega arith) in
     omega arith
 
 pub first-wrong-delimiter-spec : {M : Type 1} → statement M

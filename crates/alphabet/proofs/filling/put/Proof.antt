@@ -4,7 +4,7 @@ use mathlib.Core.Path.{◌≡◌, refl, sym, ◌∙◌}
 use lib.ListN.{length, length-set}
 use native.Mathlib.Omega.{arith}
 use lib.Seq.{paste, paste-zero}
-use Rattle.alphabet.proofs.FillingLaws.{put_step, put-end, put-fits, put-none}
+use Rattle.alphabet.proofs.FillingLaws.{put_step, put_end, put_fits, put_none}
 use Rattle.alphabet.proofs.filling.put.Statement.{statement}
 use Rattle.alphabet.proofs.filling.put.Tie as tie
 
@@ -17,13 +17,13 @@ decreases-loop buffer₀ at source i₀ place₀ buffer i place = length source 
 returns : tie.Need-returns invariant-loop decreases-loop
 returns c =
     let a = c.before.args in
-    let none = put-none a.buffer.now a.source.now a.at (omega (arith, c.if1.true)) in
+    let none = put_none a.buffer.now a.source.now a.at (omega (arith, c.if1.true)) in
     (sym none.0, sym none.1)
 
 returns-2 : tie.Need-returns-2 invariant-loop decreases-loop
 returns-2 c =
     let a = c.before.before.args in
-    let none = put-none a.buffer.now a.source.now a.at (omega (arith, c.if2.true, c.before.if1.false)) in
+    let none = put_none a.buffer.now a.source.now a.at (omega (arith, c.if2.true, c.before.if1.false)) in
     (sym none.0, sym none.1)
 
 loop-holds : tie.Need-loop-init invariant-loop decreases-loop
@@ -51,9 +51,9 @@ returns-3 : tie.Need-returns-3 invariant-loop decreases-loop
 returns-3 c =
     let l = c.before in
     let a = l.before.before.before.args in
-    let fits = put-fits a.buffer.now a.source.now a.at (omega arith) in
+    let fits = put_fits a.buffer.now a.source.now a.at (omega arith) in
     let size : l.loop.place ≡ a.at + length a.source.now = omega arith in
-    (size ∙ sym fits.0, l.loop.invariant.1 ∙ put-end a.buffer.now a.source.now a.at l.loop.i (omega arith) ∙ sym fits.1)
+    (size ∙ sym fits.0, l.loop.invariant.1 ∙ put_end a.buffer.now a.source.now a.at l.loop.i (omega arith) ∙ sym fits.1)
 
 pub put_spec : {M : Type 1} → statement M
 put_spec =

@@ -5,7 +5,7 @@ use lib.ListN.{length}
 use lib.Seq.{paste, paste-zero, length-paste}
 use native.Mathlib.Omega.{arith}
 use borrow.Author.Rules.{rules}
-use Rattle.alphabet.proofs.FillingLaws.{put-more, put_last, put-end, put-fits, put-none}
+use Rattle.alphabet.proofs.FillingLaws.{put_more, put_last, put_end, put_fits, put_none}
 use Rattle.alphabet.proofs.filling.put_long.Statement.{statement}
 use Rattle.alphabet.proofs.filling.put_long.Tie as tie
 
@@ -21,13 +21,13 @@ returns c = c.before.before.put.ensures
 returns-2 : tie.Need-returns-2 invariant-loop decreases-loop
 returns-2 c =
     let a = c.before.before.before.before.args in
-    let none = put-none a.buffer.now a.source.now a.at (omega (arith, c.if2.true)) in
+    let none = put_none a.buffer.now a.source.now a.at (omega (arith, c.if2.true)) in
     (sym none.0, sym none.1)
 
 returns-3 : tie.Need-returns-3 invariant-loop decreases-loop
 returns-3 c =
     let a = c.before.before.before.before.before.args in
-    let none = put-none a.buffer.now a.source.now a.at (omega (arith, c.if3.true, c.before.if2.false)) in
+    let none = put_none a.buffer.now a.source.now a.at (omega (arith, c.if3.true, c.before.if2.false)) in
     (sym none.0, sym none.1)
 
 loop-holds : tie.Need-loop-init invariant-loop decreases-loop
@@ -42,7 +42,7 @@ loop-again c =
     let i = l.loop.i in
     let v = l.loop.invariant in
     let h : i + 16 ≤ length a.source.now = omega arith in
-    let e = put-more a.buffer.now a.source.now l.loop.buffer c.before.before.put-stride.new.0 a.at i 16 v.0 v.3 h c.before.before.put-stride.ensures in
+    let e = put_more a.buffer.now a.source.now l.loop.buffer c.before.before.put-stride.new.0 a.at i 16 v.0 v.3 h c.before.before.put-stride.ensures in
     (e, h, v.2, v.3, ap length e ∙ length-paste a.buffer.now a.at a.source.now (i + 16) (omega arith) h)
 
 -- all of the source is in the buffer
@@ -66,8 +66,8 @@ returns-4 : tie.Need-returns-4 invariant-loop decreases-loop
 returns-4 c =
     let l = c.before.before.before.before.before in
     let a = l.before.before.before.before.before.before.args in
-    let fits = put-fits a.buffer.now a.source.now a.at l.loop.invariant.3 in
-    (sym fits.0, whole c ∙ put-end a.buffer.now a.source.now a.at _ refl ∙ sym fits.1)
+    let fits = put_fits a.buffer.now a.source.now a.at l.loop.invariant.3 in
+    (sym fits.0, whole c ∙ put_end a.buffer.now a.source.now a.at _ refl ∙ sym fits.1)
 
 pub put-long-spec : {M : Type 1} → statement M
 put-long-spec =

@@ -7,7 +7,7 @@ use lib.Seq.{length-take-le, paste, paste-zero}
 use native.Mathlib.Omega.{arith}
 use borrow.Author.Rules.{rules}
 use Rattle.alphabet.specs.Filling.{pasted}
-use Rattle.alphabet.proofs.FillingLaws.{put_step, put-end}
+use Rattle.alphabet.proofs.FillingLaws.{put_step, put_end}
 use Rattle.alphabet.proofs.filling.put_stride.Statement.{statement}
 use Rattle.alphabet.proofs.filling.put_stride.Tie as tie
 
@@ -39,7 +39,7 @@ returns : tie.Need-returns invariant-loop decreases-loop
 returns c =
     let l = c.before in
     let a = l.before.before.before.before.args in
-    l.loop.invariant.0 ∙ put-end a.buffer.now _ a.at l.loop.i (omega arith) ∙ ap (pasted a.buffer.now a.at) l.before.stride-from.ensures
+    l.loop.invariant.0 ∙ put_end a.buffer.now _ a.at l.loop.i (omega arith) ∙ ap (pasted a.buffer.now a.at) l.before.stride-from.ensures
 
 pub put-stride-spec : {M : Type 1} → statement M
 put-stride-spec =

@@ -5,7 +5,7 @@ use lib.ListN.{length, drop}
 use native.Mathlib.Omega.{arith}
 use borrow.Author.Rules.{rules}
 use Rattle.alphabet.specs.Hex.{all_hex}
-use Rattle.alphabet.proofs.HexLaws.{hex-end, hex_odd, hex-first, hex-second, hex-next}
+use Rattle.alphabet.proofs.HexLaws.{hex_end, hex_odd, hex_first, hex_second, hex_next}
 use Rattle.alphabet.proofs.hex.all_hex.Statement.{statement}
 use Rattle.alphabet.proofs.hex.all_hex.Tie as tie
 
@@ -30,28 +30,28 @@ returns-2 c =
     let l = c.before.before.before.before.before in
     let s = l.before.before.args.digits.now in
     let i = l.loop.i in
-    sym (l.loop.invariant.1 ∙ hex-first s i (omega arith) (omega arith))
+    sym (l.loop.invariant.1 ∙ hex_first s i (omega arith) (omega arith))
 
 returns-3 : tie.Need-returns-3 invariant-loop decreases-loop
 returns-3 c =
     let l = c.before.before.before.before.before.before.before.before in
     let s = l.before.before.args.digits.now in
     let i = l.loop.i in
-    sym (l.loop.invariant.1 ∙ hex-second s i (omega arith) (omega arith) (omega arith))
+    sym (l.loop.invariant.1 ∙ hex_second s i (omega arith) (omega arith) (omega arith))
 
 loop-again : tie.Need-loop-preserved invariant-loop decreases-loop
 loop-again c =
     let l = c.before.before.before.before.before.before.before.before in
     let s = l.before.before.args.digits.now in
     let i = l.loop.i in
-    (omega arith, l.loop.invariant.1 ∙ hex-next s i (omega arith) (omega arith) (omega arith))
+    (omega arith, l.loop.invariant.1 ∙ hex_next s i (omega arith) (omega arith) (omega arith))
 
 returns-4 : tie.Need-returns-4 invariant-loop decreases-loop
 returns-4 c =
     let l = c.before in
     let s = l.before.before.args.digits.now in
     let i = l.loop.i in
-    sym (l.loop.invariant.1 ∙ hex-end s i (omega arith))
+    sym (l.loop.invariant.1 ∙ hex_end s i (omega arith))
 
 pub all-hex-spec : {M : Type 1} → statement M
 all-hex-spec =

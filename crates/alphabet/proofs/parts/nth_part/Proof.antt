@@ -8,8 +8,8 @@ use borrow.Author.Rules.{rules}
 use Rattle.alphabet.specs.Lists.{find}
 use Rattle.alphabet.specs.Parts.{split, standing, part_at}
 use Rattle.alphabet.specs.declared.parts.Part.TheVariants.{At}
-use Rattle.alphabet.proofs.ListLaws.{rest_of, first-le}
-use Rattle.alphabet.proofs.PartLaws.{standing-first, standing_walk, standing-none}
+use Rattle.alphabet.proofs.ListLaws.{rest_of, first_le}
+use Rattle.alphabet.proofs.PartLaws.{standing_first, standing_walk, standing_none}
 use Rattle.alphabet.proofs.parts.nth_part.Statement.{statement}
 use Rattle.alphabet.proofs.parts.nth_part.Tie as tie
 
@@ -36,7 +36,7 @@ inside c =
     let l = c.before.before in
     let s = l.before.before.args.bytes.now in
     let e = found c in
-    let u = first-le (eqb l.before.before.args.separator) (drop l.loop.start s) in
+    let u = first_le (eqb l.before.before.args.separator) (drop l.loop.start s) in
     let n = length-drop l.loop.start s in
     omega arith
 
@@ -46,7 +46,7 @@ returns c =
     let a = l.before.before.args in
     let n : a.index - l.loop.passed ≡ 0 = omega arith in
     ap (λ (k : ℕ). At l.loop.start (l.loop.start + k)) (found c.before)
-    ∙ sym (l.loop.invariant.3 ∙ ap (standing l.loop.start (split a.separator (drop l.loop.start a.bytes.now))) n ∙ standing-first a.separator l.loop.start (drop l.loop.start a.bytes.now))
+    ∙ sym (l.loop.invariant.3 ∙ ap (standing l.loop.start (split a.separator (drop l.loop.start a.bytes.now))) n ∙ standing_first a.separator l.loop.start (drop l.loop.start a.bytes.now))
 
 returns-2 : tie.Need-returns-2 invariant-loop decreases-loop
 returns-2 c =
@@ -56,7 +56,7 @@ returns-2 c =
     let n : a.index - l.loop.passed ≡ (a.index - l.loop.passed - 1) + 1 = omega arith in
     let e = found c.before.before in
     let d = length-drop l.loop.start a.bytes.now in
-    sym (l.loop.invariant.3 ∙ ap (standing l.loop.start (split a.separator r)) n ∙ standing-none a.separator l.loop.start r (a.index - l.loop.passed - 1) (omega arith))
+    sym (l.loop.invariant.3 ∙ ap (standing l.loop.start (split a.separator r)) n ∙ standing_none a.separator l.loop.start r (a.index - l.loop.passed - 1) (omega arith))
 
 loop-again : tie.Need-loop-preserved invariant-loop decreases-loop
 loop-again c =

@@ -6,7 +6,7 @@ use native.Mathlib.Omega.{arith}
 use lib.ListN.{length, take, drop, length-set}
 use Rattle.answering.specs.Hex.{hexed}
 use Rattle.asking.proofs.Lists.{front_two}
-use Rattle.answering.proofs.Digits.{hexed-next, hexed-end}
+use Rattle.answering.proofs.Digits.{hexed_next, hexed_end}
 use Rattle.answering.proofs.hex.put_digits.Statement.{statement}
 use Rattle.answering.proofs.hex.put_digits.Tie as tie
 
@@ -29,7 +29,7 @@ loop-again c =
     let n = l.loop.next in
     let x = c.before.digit in
     let y = c.digit2 in
-    let e : hexed (drop i t) ≡ x.result ∷ y.result ∷ hexed (drop (i + 1) t) = rw (x.ensures, y.ensures) (hexed-next t i (omega arith)) in
+    let e : hexed (drop i t) ≡ x.result ∷ y.result ∷ hexed (drop (i + 1) t) = rw (x.ensures, y.ensures) (hexed_next t i (omega arith)) in
     let next = ap (λ (r : List ℕ). take n b ++ r) e ∙ sym (front_two b (hexed (drop (i + 1) t)) n x.result y.result (omega arith)) in
     (omega arith, omega arith, simp length-set l.loop.invariant.2, l.loop.invariant.3 ∙ next)
 
@@ -39,7 +39,7 @@ returns c =
     let t = l.before.before.before.args.said.now in
     let n = l.loop.next in
     let done : length t ≤ l.loop.i = omega arith in
-    (omega arith, sym (l.loop.invariant.3 ∙ ap (λ (r : List ℕ). take n l.loop.answer ++ r) (hexed-end t l.loop.i done) ∙ append-nil (take n l.loop.answer)))
+    (omega arith, sym (l.loop.invariant.3 ∙ ap (λ (r : List ℕ). take n l.loop.answer ++ r) (hexed_end t l.loop.i done) ∙ append-nil (take n l.loop.answer)))
 
 pub put-digits-spec : {M : Type 1} → statement M
 put-digits-spec =

@@ -4,8 +4,8 @@ use mathlib.Core.Path.{◌≡◌, refl, sym, ap, ◌∙◌}
 use mathlib.Core.List.{List, ◌++◌, append-nil}
 use native.Mathlib.Omega.{arith}
 use lib.ListN.{length, get_or, take, drop, length-set, drop_of_length-le}
-use Rattle.alphabet.proofs.ListLaws.{drop-next}
-use Rattle.asking.proofs.Lists.{front-more}
+use Rattle.alphabet.proofs.ListLaws.{drop_next}
+use Rattle.asking.proofs.Lists.{front_more}
 use Rattle.asking.proofs.bytes.put.Statement.{statement}
 use Rattle.asking.proofs.bytes.put.Tie as tie
 
@@ -23,7 +23,7 @@ loop-again c =
     let b = l.loop.buffer in
     let i = l.loop.i in
     let n = l.loop.next in
-    let next = ap (λ (r : List ℕ). take n b ++ r) (drop-next t i (omega arith)) ∙ sym (front-more b (drop (i + 1) t) n (get_or t i 0) (omega arith)) in
+    let next = ap (λ (r : List ℕ). take n b ++ r) (drop_next t i (omega arith)) ∙ sym (front_more b (drop (i + 1) t) n (get_or t i 0) (omega arith)) in
     (omega arith, omega arith, simp length-set l.loop.invariant.2, l.loop.invariant.3 ∙ next)
 
 returns : tie.Need-returns invariant-loop decreases-loop

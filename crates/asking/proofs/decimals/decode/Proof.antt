@@ -5,7 +5,7 @@ use native.Mathlib.Omega.{arith}
 use borrow.Author.Rules.{rules}
 use lib.ListN.{length, get_or, drop}
 use Rattle.asking.specs.Decimals.{held, number}
-use Rattle.asking.proofs.Digits.{number-none, number-some, held-end, held_below, held_above, held_large, held_next}
+use Rattle.asking.proofs.Digits.{number_none, number_some, held_end, held_below, held_above, held_large, held_next}
 use Rattle.asking.proofs.decimals.decode.Statement.{statement}
 use Rattle.asking.proofs.decimals.decode.Tie as tie
 
@@ -17,10 +17,10 @@ decreases-loop word value₀ i₀ value i = length word - i
 
 -- what the whole word says, at the loop's head
 whole : (l : tie.At-loop invariant-loop decreases-loop) → let w = l.before.before.before.args.word.now in number w ≡ held l.loop.value (drop l.loop.i w)
-whole l = number-some l.before.before.before.args.word.now l.before.if1.false ∙ l.loop.invariant.2
+whole l = number_some l.before.before.before.args.word.now l.before.if1.false ∙ l.loop.invariant.2
 
 returns : tie.Need-returns invariant-loop decreases-loop
-returns c = sym (number-none c.before.before.args.word.now c.if1.true)
+returns c = sym (number_none c.before.before.args.word.now c.if1.true)
 
 returns-2 : tie.Need-returns-2 invariant-loop decreases-loop
 returns-2 c =
@@ -49,7 +49,7 @@ loop-again c =
 returns-5 : tie.Need-returns-5 invariant-loop decreases-loop
 returns-5 c =
     let l = c.before in
-    sym (whole l ∙ held-end l.loop.value l.before.before.before.args.word.now l.loop.i (omega arith) (omega arith))
+    sym (whole l ∙ held_end l.loop.value l.before.before.before.args.word.now l.loop.i (omega arith) (omega arith))
 
 pub decode-spec : {M : Type 1} → statement M
 decode-spec =

@@ -9,8 +9,8 @@ use lib.ListN.{length, get_or, take, drop, length-set}
 use lib.Seq.{length-take-le}
 use Rattle.alphabet.specs.Bytes.{hex_of}
 use Rattle.alphabet.specs.Hex.{all_hex, pairs_of}
-use Rattle.asking.proofs.Lists.{front-more}
-use Rattle.alphabet.proofs.HexLaws.{hex-holds, pairs_next, pairs_end}
+use Rattle.asking.proofs.Lists.{front_more}
+use Rattle.alphabet.proofs.HexLaws.{hex_holds, pairs_next, pairs_end}
 use Rattle.asking.proofs.hex.put_pairs.Statement.{statement}
 use Rattle.asking.proofs.hex.put_pairs.Tie as tie
 
@@ -25,7 +25,7 @@ decreases-loop word buffer₀ i₀ next₀ buffer i next = length word - i
 pair : (k : tie.In-loop invariant-loop decreases-loop)
     → let l = k.before.before.before.before.args.word.now in let i = k.before.loop.i in
     (i + 1 < length l) × (hex_of (get_or l i 0) < 16) × (hex_of (get_or l (i + 1) 0) < 16) × (all_hex (drop (i + 2) l) ≡ true)
-pair k = hex-holds k.before.before.before.before.args.word.now k.before.loop.i k.loop-test.true k.before.loop.invariant.3
+pair k = hex_holds k.before.before.before.before.args.word.now k.before.loop.i k.loop-test.true k.before.loop.invariant.3
 
 mul-buffer : tie.Need-overflow-mul-buffer invariant-loop decreases-loop
 mul-buffer c = let p = pair c.before.before.before.before in omega (arith, c.before.before.hex-value.ensures)
@@ -52,7 +52,7 @@ loop-again c =
       omega arith,
       simp length-set l.loop.invariant.2,
       p.3,
-      l.loop.invariant.4 ∙ ap (λ (t : List ℕ). take n b ++ t) (pairs_next w i p.0 ∙ ap (λ (k : ℕ). k ∷ pairs_of (drop (i + 2) w)) e) ∙ sym (front-more b (pairs_of (drop (i + 2) w)) n v (slice-write-buffer c)),
+      l.loop.invariant.4 ∙ ap (λ (t : List ℕ). take n b ++ t) (pairs_next w i p.0 ∙ ap (λ (k : ℕ). k ∷ pairs_of (drop (i + 2) w)) e) ∙ sym (front_more b (pairs_of (drop (i + 2) w)) n v (slice-write-buffer c)),
     )
 
 returns : tie.Need-returns invariant-loop decreases-loop

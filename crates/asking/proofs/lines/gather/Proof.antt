@@ -2,7 +2,7 @@
 use native.Mathlib.Omega.{arith}
 use borrow.Author.Rules.{rules}
 use lib.ListN.{length}
-use Rattle.asking.proofs.Gathering.{held, still-long, grown-long, grown}
+use Rattle.asking.proofs.Gathering.{held, still_long, grown_long, grown}
 use Rattle.asking.proofs.lines.gather.Statement.{statement}
 use Rattle.asking.proofs.lines.gather.Tie as tie
 
@@ -12,7 +12,7 @@ enum_told c = search rules
 returns : tie.Need-returns
 returns c =
     let a = c.before.before.before.before.args in
-    (tt, still-long a.line a.buffer.now a.part.now c.enum_told.given.1)
+    (tt, still_long a.line a.buffer.now a.part.now c.enum_told.given.1)
 
 sub-if1 : tie.Need-overflow-sub-if1
 sub-if1 c =
@@ -23,7 +23,7 @@ returns-2 : tie.Need-returns-2
 returns-2 c =
     let k = c.before in
     let a = k.before.before.before.before.before.args in
-    (tt, grown-long a.line a.buffer.now a.part.now k.before.line.given.0.0 k.before.line.given.1 (sub-if1 k) c.if1.true)
+    (tt, grown_long a.line a.buffer.now a.part.now k.before.line.given.0.0 k.before.line.given.1 (sub-if1 k) c.if1.true)
 
 returns-3 : tie.Need-returns-3
 returns-3 c =

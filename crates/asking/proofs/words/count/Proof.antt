@@ -5,7 +5,7 @@ use mathlib.Core.Logic.{⊎_elim}
 use native.Mathlib.Omega.{arith}
 use lib.ListN.{length, drop}
 use Rattle.asking.specs.Words.{words}
-use Rattle.asking.proofs.Cutting.{count-space, count-other, count-end}
+use Rattle.asking.proofs.Cutting.{count_space, count_other, count_end}
 use Rattle.asking.proofs.words.count.Statement.{statement}
 use Rattle.asking.proofs.words.count.Tie as tie
 
@@ -20,15 +20,15 @@ loop-again c =
     let l = c.before.before.before in
     let a = l.before.args in
     ⊎_elim
-    (λ w. omega (arith, count-space a.line.now l.loop.i (omega arith) w.0.taken))
-    (λ w. omega (arith, count-other a.line.now l.loop.i (omega arith) w.0.left))
+    (λ w. omega (arith, count_space a.line.now l.loop.i (omega arith) w.0.taken))
+    (λ w. omega (arith, count_other a.line.now l.loop.i (omega arith) w.0.left))
     c.if1.branch
 
 returns : tie.Need-returns invariant-loop decreases-loop
 returns c =
     let l = c.before in
     let a = l.before.args in
-    omega (arith, count-end a.line.now l.loop.i (omega arith))
+    omega (arith, count_end a.line.now l.loop.i (omega arith))
 
 pub count_spec : {M : Type 1} → statement M
 count_spec =

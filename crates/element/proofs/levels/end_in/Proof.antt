@@ -6,7 +6,7 @@ use mathlib.Core.Logic.{⊎_elim}
 use lib.ListN.{length}
 use native.Mathlib.Omega.{arith}
 use Rattle.alphabet.specs.Lists.{first, among}
-use Rattle.alphabet.proofs.ListLaws.{rest_of, first-le, first_reached, first_next}
+use Rattle.alphabet.proofs.ListLaws.{rest_of, first_le, first_reached, first_next}
 use Rattle.alphabet.proofs.BlockLaws.{first_from}
 use Rattle.element.proofs.levels.end_in.Statement.{statement}
 use Rattle.element.proofs.levels.end_in.Tie as tie
@@ -49,7 +49,7 @@ add-result : tie.Need-overflow-add-result invariant-loop decreases-loop
 add-result c =
     let a = c.before.before.before.before.before.before.args in
     let r = behind c in
-    let m = first-le (among a.stops) a.bytes.now in
+    let m = first_le (among a.stops) a.bytes.now in
     omega arith
 
 returns-2 : tie.Need-returns-2 invariant-loop decreases-loop

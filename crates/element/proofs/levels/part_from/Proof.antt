@@ -7,7 +7,7 @@ use native.Mathlib.Omega.{arith}
 use Rattle.alphabet.specs.Lists.{first, among}
 use Rattle.alphabet.specs.Parts.{ended_by}
 use Rattle.alphabet.specs.declared.parts.Part.TheVariants.{At}
-use Rattle.alphabet.proofs.ListLaws.{first-le}
+use Rattle.alphabet.proofs.ListLaws.{first_le}
 use Rattle.element.proofs.levels.part_from.Statement.{statement}
 use Rattle.element.proofs.levels.part_from.Tie as tie
 
@@ -21,7 +21,7 @@ add-end c =
     let a = c.before.before.before.before.before.before.args in
     let s = c.before.before.before.begin.given.0.0 in
     let e = found c in
-    let u = first-le (among a.stops) (drop s a.message.now) in
+    let u = first_le (among a.stops) (drop s a.message.now) in
     let n = length-drop s a.message.now in
     omega arith
 

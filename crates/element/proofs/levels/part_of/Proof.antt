@@ -9,7 +9,7 @@ use Rattle.alphabet.specs.Parts.{ended_by}
 use Rattle.alphabet.specs.declared.parts.Part.{Part}
 use Rattle.reading.specs.Segments.{field_separator, segment_at}
 use Rattle.element.specs.Levels.{unsplit, part_in, field_at}
-use Rattle.element.proofs.LevelLaws.{field_separator_lem, field_part_lem, separator-fixed, element-unsplit, element-split}
+use Rattle.element.proofs.LevelLaws.{field_separator_lem, field_part_lem, separator_fixed, element_unsplit, element_split}
 use Rattle.element.proofs.StartLaws.{field_begins}
 use Rattle.element.proofs.levels.part_of.Statement.{statement}
 use Rattle.element.proofs.levels.part_of.Tie as tie
@@ -22,7 +22,7 @@ returns c =
     let h = c.before.if1.true in
     c.header-element.ensures
     ∙ ap (λ (p : Part). unsplit p n) (sym (field_separator_lem m n.segment (segment_at m n.segment) n.field h))
-    ∙ sym (element-unsplit m n (separator-fixed n.segment n.field h))
+    ∙ sym (element_unsplit m n (separator_fixed n.segment n.field h))
 
 -- the field, by the separator that was read
 field : (c : tie.After-field-start) → let a = c.before.before.before.before.before.before.before.args in
@@ -43,7 +43,7 @@ returns-2 c =
     let n = a.address in
     c.header-element2.ensures
     ∙ ap (λ (p : Part). unsplit p n) (c.before.part-from.ensures ∙ field c.before.before.before.before.before)
-    ∙ sym (element-unsplit a.message.now n c.before.before.if2.true)
+    ∙ sym (element_unsplit a.message.now n c.before.before.if2.true)
 
 split-field-requires : tie.Need-split-field-requires
 split-field-requires c κs =
@@ -54,7 +54,7 @@ split-field-requires c κs =
 returns-3 : tie.Need-returns-3
 returns-3 c =
     let a = c.before.before.before.before.before.before.before.before.before.before.before.args in
-    c.split_field.ensures ∙ sym (element-split a.message.now a.address c.before.if2.false)
+    c.split_field.ensures ∙ sym (element_split a.message.now a.address c.before.if2.false)
 
 pub part-of-spec : {M : Type 1} → statement M
 part-of-spec =

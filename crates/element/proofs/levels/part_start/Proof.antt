@@ -8,15 +8,15 @@ use Rattle.alphabet.specs.Parts.{ended_by}
 use Rattle.alphabet.specs.declared.parts.Start.{Start}
 use Rattle.element.specs.Levels.{moved, part_in}
 use Rattle.element.specs.Ends.{or_at}
-use Rattle.element.proofs.LevelLaws.{in-absent}
-use Rattle.element.proofs.StartLaws.{ended-moved, part_moved, start-within}
+use Rattle.element.proofs.LevelLaws.{in_absent}
+use Rattle.element.proofs.StartLaws.{ended_moved, part_moved, start_within}
 use Rattle.element.proofs.levels.part_start.Statement.{statement}
 use Rattle.element.proofs.levels.part_start.Tie as tie
 
 returns : tie.Need-returns
 returns c =
     let a = c.before.before.before.args in
-    sym (in-absent a.separator a.message.now _ a.index (ap (ended_by (among a.stops) a.message.now) c.enum_told.given.1))
+    sym (in_absent a.separator a.message.now _ a.index (ap (ended_by (among a.stops) a.message.now) c.enum_told.given.1))
 
 add_begin : tie.Need-overflow-add-begin
 add_begin c =
@@ -24,7 +24,7 @@ add_begin c =
     let a = c.before.before.before.before.before.before.before.before.before.args in
     let s = c.before.before.before.before.before.before.above.given.0.0 in
     let e = rest.Rest-from.ensures in
-    let u = start-within a.separator _ (among a.stops) a.index _ _ (sym (ap (ended_by (or_at a.separator (among a.stops)) _) c.before.found.given.1) ∙ c.before.before.before.start-in.ensures) in
+    let u = start_within a.separator _ (among a.stops) a.index _ _ (sym (ap (ended_by (or_at a.separator (among a.stops)) _) c.before.found.given.1) ∙ c.before.before.before.start-in.ensures) in
     let n = length-drop s a.message.now in
     let l = ap length e in
     omega arith
@@ -37,7 +37,7 @@ returns-2 c =
     let g = c.before.before.before.before.before.before.above.given in
     let f = c.before.found.given in
     let ends = or_at a.separator (among a.stops) in
-    ended-moved m g.0.0 _ rest ends f.0.0
+    ended_moved m g.0.0 _ rest ends f.0.0
     ∙ ap (moved g.0.0) (sym (ap (ended_by ends _) f.1) ∙ c.before.before.before.start-in.ensures)
     ∙ part_moved m g.0.0 _ rest (among a.stops) a.separator a.index
     ∙ ap (λ (p : Start). part_in a.separator m (ended_by (among a.stops) m p) a.index) (sym g.1)

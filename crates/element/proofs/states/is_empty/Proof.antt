@@ -8,7 +8,7 @@ use lib.ListN.{length, get_or, drop}
 use native.Mathlib.Nat.{zero-add}
 use borrow.Author.Tests.{eq-eqb, ne_eqb}
 use Rattle.alphabet.specs.Lists.{first}
-use Rattle.alphabet.proofs.ListLaws.{first-here, first_past, first-end}
+use Rattle.alphabet.proofs.ListLaws.{first_here, first_past, first_end}
 use native.Mathlib.Omega.{arith}
 use Rattle.element.proofs.states.is_empty.Statement.{statement}
 use Rattle.element.proofs.states.is_empty.Tie as tie
@@ -29,7 +29,7 @@ returns c =
     let l = c.before.before.before in
     let a = l.before.before.args in
     let ds = a.delimiters.bytes in
-    let z = first-here (other (get_or ds 1 0) (get_or ds 2 0) (get_or ds 4 0)) a.bytes.now l.loop.i (omega arith) c.if1.true in
+    let z = first_here (other (get_or ds 1 0) (get_or ds 2 0) (get_or ds 4 0)) a.bytes.now l.loop.i (omega arith) c.if1.true in
     sym (ne_eqb (first (other (get_or ds 1 0) (get_or ds 2 0) (get_or ds 4 0)) a.bytes.now) (length a.bytes.now) (λ e. omega arith))
 
 loop-again : tie.Need-loop-preserved invariant-loop decreases-loop
@@ -45,7 +45,7 @@ returns-2 c =
     let l = c.before in
     let a = l.before.before.args in
     let ds = a.delimiters.bytes in
-    let z = first-end (other (get_or ds 1 0) (get_or ds 2 0) (get_or ds 4 0)) a.bytes.now l.loop.i (omega arith) in
+    let z = first_end (other (get_or ds 1 0) (get_or ds 2 0) (get_or ds 4 0)) a.bytes.now l.loop.i (omega arith) in
     sym (eq-eqb (first (other (get_or ds 1 0) (get_or ds 2 0) (get_or ds 4 0)) a.bytes.now) (length a.bytes.now) (omega arith))
 
 pub is_empty_spec : {M : Type 1} → statement M

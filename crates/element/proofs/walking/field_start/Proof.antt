@@ -13,7 +13,7 @@ use Rattle.alphabet.specs.declared.parts.Start.{Start}
 use Rattle.alphabet.specs.declared.parts.Start.TheVariants.{From}
 use Rattle.element.specs.Levels.{part_in}
 use Rattle.element.specs.Ends.{OnTheWay}
-use Rattle.element.proofs.LevelLaws.{in-absent}
+use Rattle.element.proofs.LevelLaws.{in_absent}
 use Rattle.element.proofs.StartLaws.{walk_here, walk_over, walk_stop, walk_at, walk_past}
 use Rattle.element.proofs.walking.field_start.Statement.{statement}
 use Rattle.element.proofs.walking.field_start.Tie as tie
@@ -32,7 +32,7 @@ asked m separator index start segment = ap (λ (p : Start). part_in separator m 
 returns : tie.Need-returns invariant-loop decreases-loop
 returns c =
     let a = c.before.before.before.args in
-    sym (in-absent a.separator a.message.now _ a.index (ap (ended_by (eqb carriage_return) a.message.now) c.enum_told.given.1))
+    sym (in_absent a.separator a.message.now _ a.index (ap (ended_by (eqb carriage_return) a.message.now) c.enum_told.given.1))
 
 returns-2 : tie.Need-returns-2 invariant-loop decreases-loop
 returns-2 c =

@@ -6,8 +6,8 @@ use mathlib.Core.Logic.{⊎_elim}
 use lib.ListN.{length, drop, drop_of_length-le}
 use native.Mathlib.Omega.{arith}
 use Rattle.alphabet.specs.Parts.{split}
-use Rattle.alphabet.proofs.ListLaws.{drop-next}
-use Rattle.alphabet.proofs.PartLaws.{split-nothing}
+use Rattle.alphabet.proofs.ListLaws.{drop_next}
+use Rattle.alphabet.proofs.PartLaws.{split_nothing}
 use Rattle.element.proofs.StartLaws.{count_at, count_past}
 use Rattle.element.proofs.walking.separators_in.Statement.{statement}
 use Rattle.element.proofs.walking.separators_in.Tie as tie
@@ -29,7 +29,7 @@ one_more c =
     let l = c.before.before.before.before in
     let a = l.before.args in
     let s = a.block.now in
-    let next = ap (λ (x : List ℕ). length (split a.separator x)) (drop-next s l.loop.i (omega arith)) in
+    let next = ap (λ (x : List ℕ). length (split a.separator x)) (drop_next s l.loop.i (omega arith)) in
     ⊎_elim
     (λ w. let e = w.1 in let n = next ∙ count_at a.separator _ (drop (l.loop.i + 1) s) w.0.taken in (omega arith, omega arith))
     (λ w. let e = w.1 in let n = next ∙ count_past a.separator _ (drop (l.loop.i + 1) s) w.0.left in (omega arith, omega arith))
@@ -50,7 +50,7 @@ returns c =
     let l = c.before in
     let a = l.before.args in
     let h : length a.block.now ≤ l.loop.i = omega arith in
-    let z = ap (λ (x : List ℕ). length (split a.separator x)) (drop_of_length-le a.block.now h) ∙ ap length (split-nothing a.separator) in
+    let z = ap (λ (x : List ℕ). length (split a.separator x)) (drop_of_length-le a.block.now h) ∙ ap length (split_nothing a.separator) in
     omega arith
 
 pub separators-in-spec : {M : Type 1} → statement M

@@ -22,7 +22,7 @@ returns-3 c = rw c.before.before.if1.false (rw c.before.if2.false (rw c.if3.true
 returns-4 : tie.Need-returns-4
 returns-4 c =
     let a = c.before.before.before.before.before.args in
-    c.unlisted-code.ensures ∙ ap (λ (n : ℕ). error_code n a.place a.field) (sym c.before.if4.true)
+    c.unlisted_code.ensures ∙ ap (λ (n : ℕ). error_code n a.place a.field) (sym c.before.if4.true)
 
 returns-5 : tie.Need-returns-5
 unfolding error_code

@@ -9,7 +9,7 @@ use Rattle.escaping.proofs.OutcomeLaws.{takes_is, short_is}
 use Rattle.together.specs.Together.{together, least}
 use Rattle.together.proofs.PieceLaws.{least_above, fitted_takes}
 use Rattle.error_segment.specs.Pieces.{line_pieces}
-use Rattle.error_segment.proofs.ErrorLaws.{line-room}
+use Rattle.error_segment.proofs.ErrorLaws.{line_room}
 use Rattle.error_segment.proofs.lines.put_line.Statement.{statement}
 use Rattle.error_segment.proofs.lines.put_line.Tie as tie
 
@@ -23,7 +23,7 @@ room c =
     let p = s.requires.0 in
     let q = s.requires.1 in
     let most = p.2 in
-    let fits = line-room a.name.now a.sequence.now a.field.now a.code.now a.marks.now p.0 p.1 q.0 q.1 q.2 in
+    let fits = line_room a.name.now a.sequence.now a.field.now a.code.now a.marks.now p.0 p.1 q.0 q.1 q.2 in
     least_above (length a.line.now) 80 _ (omega arith) (omega arith)
 
 returns : tie.Need-returns

@@ -13,7 +13,7 @@ use Rattle.reading.specs.Message.{ended}
 use Rattle.error_segment.specs.Numerals.{numeral}
 use Rattle.error_segment.specs.Errors.{error_code, faulty, sequence_of, field_position, nowhere, error_parts, error_lines}
 use Rattle.error_segment.specs.Pieces.{said, marks_of, line_pieces}
-use Rattle.error_segment.proofs.ErrorLaws.{take-most, no_error, pieces-ended, parts-nowhere, parts-there}
+use Rattle.error_segment.proofs.ErrorLaws.{take_most, no_error, pieces_ended, parts_nowhere, parts_there}
 use Rattle.error_segment.proofs.lines.put_segment.Statement.{statement}
 use Rattle.error_segment.proofs.lines.put_segment.Tie as tie
 
@@ -47,7 +47,7 @@ written c a b d q =
     let s = c.before.before.before.before.before.before in
     let ds = c.before.before.delimiters-of in
     ap (λ (x : List ℕ). together (line_pieces a b d x (marks_of ds.result.bytes))) (told c)
-    ∙ pieces-ended s.args.message.now s.args.found (some c.before.before.before) ds.result.bytes a b d _ ds.ensures q
+    ∙ pieces_ended s.args.message.now s.args.found (some c.before.before.before) ds.result.bytes a b d _ ds.ensures q
 
 -- whether it points nowhere
 test : (c : tie.After-points-nowhere) (t : Bool) → c.points-nowhere.result ≡ t → nowhere (number_of c.before.before.before.before.before.before.before.args.found.kind) ≡ t
@@ -62,7 +62,7 @@ returns-2 c =
     let y = c.before.before.no-numeral2.ensures.1 in
     let e =
     ap₂ (λ (p q : List ℕ). together (line_pieces [] p q (said n.numeral-of.result) (marks_of n.before.before.delimiters-of.result.bytes))) x y
-    ∙ written n [] [] [] (parts-nowhere a.message.now a.found (test t.before true t.if2.true)) in
+    ∙ written n [] [] [] (parts_nowhere a.message.now a.found (test t.before true t.if2.true)) in
     (c.put-parts.ensures.0 ∙ ap length e, c.put-parts.ensures.1 ∙ ap (λ (w : List ℕ). over w a.line.now) e)
 
 -- the segment's name, its sequence and the position of the field
@@ -91,7 +91,7 @@ put-parts-requires-2 c κs =
     let o = f.before.before in
     let a = o.before.before.before.before.before.before.before.before.before.args in
     let l : length a.line.now ≡ 80 = search rules in (
-      (omega (arith, ap length (placed n).0, take-most 3 (faulty a.message.now a.found.place)), omega arith),
+      (omega (arith, ap length (placed n).0, take_most 3 (faulty a.message.now a.found.place)), omega arith),
       (f.before.numeral-of2.ensures.0, f.field-position.ensures.0, o.before.before.before.numeral-of.ensures.0),
     )
 
@@ -106,7 +106,7 @@ returns-3 c =
     let e : line_pieces q.name_in.result.now (said f.before.numeral-of2.result) (said f.field-position.result) (said n.numeral-of.result) (marks_of n.before.before.delimiters-of.result.bytes)
     ≡ line_pieces (take 3 (faulty a.message.now a.found.place)) (numeral (sequence_of a.message.now a.found.place)) (field_position (number_of a.found.kind) a.found.field) (said n.numeral-of.result) (marks_of n.before.before.delimiters-of.result.bytes) =
     λ i. line_pieces (p.0 i) (p.1 i) (p.2 i) (said n.numeral-of.result) (marks_of n.before.before.delimiters-of.result.bytes) in
-    let w = ap together e ∙ written n _ _ _ (parts-there a.message.now a.found (test t.before false t.if2.false)) in
+    let w = ap together e ∙ written n _ _ _ (parts_there a.message.now a.found (test t.before false t.if2.false)) in
     (c.put-parts2.ensures.0 ∙ ap length w, c.put-parts2.ensures.1 ∙ ap (λ (x : List ℕ). over x a.line.now) w)
 
 pub put-segment-spec : {M : Type 1} → statement M

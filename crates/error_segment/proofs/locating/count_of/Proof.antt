@@ -6,7 +6,7 @@ use native.Mathlib.Nat.{zero-add}
 use native.Mathlib.Omega.{arith}
 use lib.ListN.{length, drop, drop_of_length-le}
 use Rattle.error_segment.specs.Errors.{count_of}
-use Rattle.error_segment.proofs.LocateLaws.{count-nil, turn_hit, turn_miss}
+use Rattle.error_segment.proofs.LocateLaws.{count_nil, turn_hit, turn_miss}
 use Rattle.error_segment.proofs.locating.count_of.Statement.{statement}
 use Rattle.error_segment.proofs.locating.count_of.Tie as tie
 
@@ -38,7 +38,7 @@ returns : tie.Need-returns invariant-loop decreases-loop
 returns c =
     let l = c.before in
     let a = l.before.args in
-    let z = ap (count_of a.name) (drop_of_length-le a.names.now {i = l.loop.number} (omega arith)) ∙ count-nil a.name in
+    let z = ap (count_of a.name) (drop_of_length-le a.names.now {i = l.loop.number} (omega arith)) ∙ count_nil a.name in
     omega (arith, l.loop.invariant.2)
 
 pub count-of-spec : {M : Type 1} → statement M

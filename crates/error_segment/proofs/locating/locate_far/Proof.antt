@@ -6,11 +6,11 @@ use lib.ListN.{length, get_or, take, drop}
 use native.Mathlib.Omega.{arith}
 use borrow.Author.Rules.{rules}
 use Rattle.reading.specs.Segments.{segments, name_of}
-use Rattle.reading.proofs.SegmentLaws.{segment-bytes, segment_past}
+use Rattle.reading.proofs.SegmentLaws.{segment_bytes, segment_past}
 use Rattle.structure.specs.SegmentNames.{segment_names}
 use Rattle.error_segment.specs.Errors.{count_of}
 use Rattle.alphabet.proofs.PartLaws.{past_none}
-use Rattle.error_segment.proofs.LocateLaws.{name-none}
+use Rattle.error_segment.proofs.LocateLaws.{name_none}
 use Rattle.error_segment.proofs.locating.locate_far.Statement.{statement}
 use Rattle.error_segment.proofs.locating.locate_far.Tie as tie
 
@@ -23,7 +23,7 @@ stands : (c : tie.After-known-told)
     (s ≤ e) × (e < length m) × (take (e - s) (drop s m) ≡ get_or (segments m) k [])
 stands c =
     let a = c.before.before.before.before.before.args in
-    let b = segment-bytes a.message.now a.place _ _ (sym c.before.before.before.segment-at.ensures ∙ c.before.segment.given.1) in
+    let b = segment_bytes a.message.now a.place _ _ (sym c.before.before.before.segment-at.ensures ∙ c.before.segment.given.1) in
     (b.1, b.2, b.3)
 
 returns : tie.Need-returns
@@ -47,7 +47,7 @@ returns-2 c =
       omega arith,
       omega arith,
       n,
-      c.sequence-of2.ensures ∙ ap (λ (k : ℕ). count_of k (take (a.place + 1) (segment_names m))) (sym name-none ∙ ap name_of n),
+      c.sequence-of2.ensures ∙ ap (λ (k : ℕ). count_of k (take (a.place + 1) (segment_names m))) (sym name_none ∙ ap name_of n),
     )
 
 pub locate-far-spec : {M : Type 1} → statement M

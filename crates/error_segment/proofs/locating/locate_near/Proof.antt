@@ -7,7 +7,7 @@ use lib.Seq.{length-take-le}
 use native.Mathlib.Omega.{arith}
 use borrow.Author.Rules.{rules}
 use Rattle.reading.specs.Segments.{segments}
-use Rattle.error_segment.proofs.LocateLaws.{Passing, pass_start, pass_next, pass_faulty, pass_none, from_walk, from_over, empty-here, sequence-there, sequence-none}
+use Rattle.error_segment.proofs.LocateLaws.{Passing, pass_start, pass_next, pass_faulty, pass_none, from_walk, from_over, empty_here, sequence_there, sequence_none}
 use Rattle.error_segment.proofs.locating.locate_near.Statement.{statement}
 use Rattle.error_segment.proofs.locating.locate_near.Tie as tie
 
@@ -33,9 +33,9 @@ returns c =
     let z = from_over m l.loop.start (omega (arith, c.before.before.before.segment-end.ensures)) in
     let p = l.loop.invariant.2 in
     let e = c.located-nowhere.ensures in
-    let h = empty-here m c.located-nowhere.result.start c.located-nowhere.result.end (get_or (segments m) a.place []) e.0 e.1
+    let h = empty_here m c.located-nowhere.result.start c.located-nowhere.result.end (get_or (segments m) a.place []) e.0 e.1
     (pass_none p z a.place l.loop.invariant.0) in
-    (h.0, h.1, h.2, e.2 ∙ sequence-none m (drop l.loop.start m) l.loop.names l.loop.number p z a.place l.loop.invariant.0)
+    (h.0, h.1, h.2, e.2 ∙ sequence_none m (drop l.loop.start m) l.loop.names l.loop.number p z a.place l.loop.invariant.0)
 
 loop-again : tie.Need-loop-preserved invariant-loop decreases-loop
 loop-again c =
@@ -60,7 +60,7 @@ returns-2 c =
       e.0,
       e.1,
       e.2 ∙ sym (pass_faulty p) ∙ ap (λ (i : ℕ). get_or (segments m) i []) k,
-      e.3 ∙ sequence-there m (drop l.loop.start m) l.loop.names l.loop.number p a.place k,
+      e.3 ∙ sequence_there m (drop l.loop.start m) l.loop.names l.loop.number p a.place k,
     )
 
 pub locate-near-spec : {M : Type 1} → statement M

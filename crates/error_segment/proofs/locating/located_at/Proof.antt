@@ -6,7 +6,7 @@ use lib.ListN.{get_or, take, drop}
 use native.Mathlib.Omega.{arith}
 use borrow.Author.Rules.{rules}
 use Rattle.reading.specs.Segments.{segments}
-use Rattle.error_segment.proofs.LocateLaws.{count_most, count-there, count-nowhere, from_walk, from_over, empty-here}
+use Rattle.error_segment.proofs.LocateLaws.{count_most, count_there, count_nowhere, from_walk, from_over, empty_here}
 use Rattle.error_segment.proofs.locating.located_at.Statement.{statement}
 use Rattle.error_segment.proofs.locating.located_at.Tie as tie
 
@@ -16,9 +16,9 @@ returns c =
     let m = a.message.now in
     let z = from_over m a.start (omega (arith, c.before.before.segment-end.ensures)) in
     let e = c.located-nowhere.ensures in
-    let h = empty-here m c.located-nowhere.result.start c.located-nowhere.result.end (get_or (segments (drop a.start m)) 0 []) e.0 e.1
+    let h = empty_here m c.located-nowhere.result.start c.located-nowhere.result.end (get_or (segments (drop a.start m)) 0 []) e.0 e.1
     (ap (λ (l : List (List ℕ)). get_or l 0 []) z) in
-    (h.0, h.1, h.2, e.2 ∙ count-nowhere a.names.now (drop a.start m) z)
+    (h.0, h.1, h.2, e.2 ∙ count_nowhere a.names.now (drop a.start m) z)
 
 returns-2 : tie.Need-returns-2
 returns-2 c =
@@ -32,7 +32,7 @@ returns-2 c =
       omega arith,
       sym (ap (λ (l : List (List ℕ)). get_or l 0 []) w),
       ap (λ (k : ℕ). k + 1) c.count_of.ensures
-          ∙ count-there a.names.now (drop a.start m) (take (e.result - a.start) (drop a.start m)) (segments (drop (e.result + 1) m)) n.result w n.ensures,
+          ∙ count_there a.names.now (drop a.start m) (take (e.result - a.start) (drop a.start m)) (segments (drop (e.result + 1) m)) n.result w n.ensures,
     )
 
 pub located-at-spec : {M : Type 1} → statement M

@@ -9,11 +9,11 @@ use lib.ListN.{length, take, drop, length-drop}
 use native.Mathlib.Omega.{arith}
 use borrow.Author.Rules.{rules}
 use Rattle.alphabet.specs.Bytes.{carriage_return}
-use Rattle.alphabet.proofs.ListLaws.{first-le}
+use Rattle.alphabet.proofs.ListLaws.{first_le}
 use Rattle.structure.specs.SegmentNames.{segment_names}
-use Rattle.structure.proofs.SegmentWalk.{names_from, names-all, names_walk, names-over}
+use Rattle.structure.proofs.SegmentWalk.{names_from, names_all, names_walk, names_over}
 use Rattle.error_segment.specs.Errors.{count_of}
-use Rattle.error_segment.proofs.ErrorLaws.{count_none, count-front, turn_same, turn_other}
+use Rattle.error_segment.proofs.ErrorLaws.{count_none, count_front, turn_same, turn_other}
 use Rattle.error_segment.proofs.locating.sequence_of.Statement.{statement}
 use Rattle.error_segment.proofs.locating.sequence_of.Tie as tie
 
@@ -32,7 +32,7 @@ loop-holds c =
       omega arith,
       omega arith,
       omega arith,
-      ap₂ (λ (k : ℕ) (l : List ℕ). count_of a.name (take k l)) (sym (sub-zero (a.place + 1))) (names-all a.message.now) ∙ sym (zero-add _),
+      ap₂ (λ (k : ℕ) (l : List ℕ). count_of a.name (take k l)) (sym (sub-zero (a.place + 1))) (names_all a.message.now) ∙ sym (zero-add _),
     )
 
 -- the CR that ends the segment stands at or before the message's end
@@ -42,7 +42,7 @@ inside c =
     let l = c.before.before in
     let m = l.before.before.args.message.now in
     let e = c.segment-end.ensures in
-    let u = first-le (eqb carriage_return) (drop l.loop.start m) in
+    let u = first_le (eqb carriage_return) (drop l.loop.start m) in
     let n = length-drop l.loop.start m in
     (omega arith, omega arith)
 
@@ -50,7 +50,7 @@ returns : tie.Need-returns invariant-loop decreases-loop
 returns c =
     let l = c.before.before.before in
     let a = l.before.before.args in
-    let e = names-over a.message.now l.loop.start (omega (arith, c.before.segment-end.ensures)) in
+    let e = names_over a.message.now l.loop.start (omega (arith, c.before.segment-end.ensures)) in
     let z = ap (λ (x : List ℕ). count_of a.name (take (a.place + 1 - l.loop.number) x)) e ∙ count_none a.name (a.place + 1 - l.loop.number) in
     omega (arith, l.loop.invariant.4)
 
@@ -94,7 +94,7 @@ returns-2 c =
     let l = c.before in
     let a = l.before.before.args in
     let k : a.place + 1 - l.loop.number ≡ 0 = omega arith in
-    let z = ap (λ (i : ℕ). count_of a.name (take i (names_from a.message.now l.loop.start))) k ∙ count-front a.name (names_from a.message.now l.loop.start) in
+    let z = ap (λ (i : ℕ). count_of a.name (take i (names_from a.message.now l.loop.start))) k ∙ count_front a.name (names_from a.message.now l.loop.start) in
     omega (arith, l.loop.invariant.4)
 
 pub sequence-of-spec : {M : Type 1} → statement M

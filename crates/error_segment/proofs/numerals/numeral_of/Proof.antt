@@ -5,7 +5,7 @@ use mathlib.Core.List.{List, [], ◌∷◌, ◌++◌, append-nil, append_assoc}
 use lib.ListN.{length, drop, set, length-set}
 use native.Mathlib.Omega.{arith}
 use Rattle.error_segment.specs.Numerals.{digits_of, numeral}
-use Rattle.error_segment.proofs.NumeralLaws.{digits_last, digits_more, tens_room, drop-set, numeral_twenty}
+use Rattle.error_segment.proofs.NumeralLaws.{digits_last, digits_more, tens_room, drop_set, numeral_twenty}
 use Rattle.error_segment.proofs.numerals.numeral_of.Statement.{statement}
 use Rattle.error_segment.proofs.numerals.numeral_of.Tie as tie
 
@@ -36,14 +36,14 @@ loop-again c =
       omega arith,
       subst (λ (k : ℕ). l.rest / 10 < 10 ^ k) (sym e) t.1,
       l.invariant.3 ∙ ap (λ (x : List ℕ). x ++ drop (s + 1) d) (digits_more s l.rest (omega arith)) ∙ append_assoc (digits_of s (l.rest / 10)) (v ∷ []) (drop (s + 1) d)
-          ∙ ap (λ (x : List ℕ). digits_of s (l.rest / 10) ++ x) (sym (drop-set d s v (omega arith))) ∙ ap (λ (k : ℕ). digits_of k (l.rest / 10) ++ drop k (set d s v)) (sym e),
+          ∙ ap (λ (x : List ℕ). digits_of s (l.rest / 10) ++ x) (sym (drop_set d s v (omega arith))) ∙ ap (λ (k : ℕ). digits_of k (l.rest / 10) ++ drop k (set d s v)) (sym e),
     )
 
 returns : tie.Need-returns invariant-loop decreases-loop
 returns c =
     let l = c.before.loop in (
       omega arith,
-      drop-set l.digits l.start (48 + l.rest % 10) (omega arith)
+      drop_set l.digits l.start (48 + l.rest % 10) (omega arith)
           ∙ sym (l.invariant.3 ∙ ap (λ (x : List ℕ). x ++ drop (l.start + 1) l.digits) (digits_last l.start l.rest (omega arith))),
     )
 

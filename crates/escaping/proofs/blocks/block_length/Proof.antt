@@ -6,8 +6,8 @@ use native.Mathlib.Omega.{arith}
 use native.Mathlib.Nat.{zero-add}
 use borrow.Author.Rules.{rules}
 use Rattle.escaping.specs.Escape.{escape_bytes}
-use Rattle.escaping.proofs.PieceLaws.{length-next, length-end}
-use Rattle.escaping.proofs.OutcomeLaws.{byte-most}
+use Rattle.escaping.proofs.PieceLaws.{length_next, length_end}
+use Rattle.escaping.proofs.OutcomeLaws.{byte_most}
 use Rattle.escaping.proofs.blocks.block_length.Statement.{statement}
 use Rattle.escaping.proofs.blocks.block_length.Tie as tie
 
@@ -27,8 +27,8 @@ summed c =
     let a = l.before.before.args in
     let s = a.block.now in
     let i = l.loop.i in
-    let m = byte-most a.delimiters.bytes (get_or s i 0) in
-    let n = length-next a.delimiters.bytes s i (omega arith) in
+    let m = byte_most a.delimiters.bytes (get_or s i 0) in
+    let n = length_next a.delimiters.bytes s i (omega arith) in
     let p = c.written-length.ensures in
     (omega arith, omega arith)
 
@@ -45,7 +45,7 @@ returns : tie.Need-returns invariant-loop decreases-loop
 returns c =
     let l = c.before in
     let a = l.before.before.args in
-    let n = length-end a.delimiters.bytes a.block.now l.loop.i (omega arith) in
+    let n = length_end a.delimiters.bytes a.block.now l.loop.i (omega arith) in
     omega arith
 
 pub block-length-spec : {M : Type 1} → statement M

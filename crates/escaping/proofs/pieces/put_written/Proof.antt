@@ -8,8 +8,8 @@ use borrow.Author.Rules.{rules}
 use Rattle.alphabet.specs.Bytes.{hex_digit}
 use Rattle.escaping.specs.Escape.{letters, escape_of, escape_byte}
 use Rattle.alphabet.specs.Filling.{pasted}
-use Rattle.escaping.proofs.PieceLaws.{written-letter, written-plain, written-hex}
-use Rattle.alphabet.proofs.FillingLaws.{set-pasted, three-pasted, five_pasted}
+use Rattle.escaping.proofs.PieceLaws.{written_letter, written_plain, written_hex}
+use Rattle.alphabet.proofs.FillingLaws.{set_pasted, three_pasted, five_pasted}
 use Rattle.escaping.proofs.pieces.put_written.Statement.{statement}
 use Rattle.escaping.proofs.pieces.put_written.Tie as tie
 
@@ -18,7 +18,7 @@ letter : (c : tie.Then1)
     escape_byte a.delimiters.bytes a.b ≡ escape_of a.delimiters.bytes ∷ get_or letters c.before.place_of.result 0 ∷ escape_of a.delimiters.bytes ∷ []
 letter c =
     let a = c.before.before.before.before.args in
-    written-letter a.delimiters.bytes a.b c.before.place_of.result c.before.place_of.ensures c.if1.true
+    written_letter a.delimiters.bytes a.b c.before.place_of.result c.before.place_of.ensures c.if1.true
 
 room-letter : (c : tie.Then1) → let a = c.before.before.before.before.args in a.at + 3 ≤ length a.buffer.now
 room-letter c = omega (arith, ap length (letter c), c.before.before.before.before.requires)
@@ -26,7 +26,7 @@ room-letter c = omega (arith, ap length (letter c), c.before.before.before.befor
 plain : (c : tie.Then2) → let a = c.before.before.before.before.before.before.args in escape_byte a.delimiters.bytes a.b ≡ a.b ∷ []
 plain c =
     let a = c.before.before.before.before.before.before.args in
-    written-plain a.delimiters.bytes a.b (omega arith) (sym c.before.is-printable.ensures ∙ c.if2.true)
+    written_plain a.delimiters.bytes a.b (omega arith) (sym c.before.is-printable.ensures ∙ c.if2.true)
 
 room-plain : (c : tie.Then2) → let a = c.before.before.before.before.before.before.args in a.at + 1 ≤ length a.buffer.now
 room-plain c = omega (arith, ap length (plain c), c.before.before.before.before.before.before.requires)
@@ -37,7 +37,7 @@ digits : (c : tie.Else2)
     ≡ escape_of a.delimiters.bytes ∷ 88 ∷ hex_digit (a.b / 16) ∷ hex_digit (a.b % 16) ∷ escape_of a.delimiters.bytes ∷ []
 digits c =
     let a = c.before.before.before.before.before.before.args in
-    written-hex a.delimiters.bytes a.b (omega arith) (sym c.before.is-printable.ensures ∙ c.if2.false)
+    written_hex a.delimiters.bytes a.b (omega arith) (sym c.before.is-printable.ensures ∙ c.if2.false)
 
 room-digits : (c : tie.Else2) → let a = c.before.before.before.before.before.before.args in a.at + 5 ≤ length a.buffer.now
 room-digits c = omega (arith, ap length (digits c), c.before.before.before.before.before.before.requires)
@@ -46,14 +46,14 @@ returns : tie.Need-returns
 returns c =
     let a = c.before.before.before.before.args in (
       sym (ap (λ (l : List ℕ). a.at + length l) (letter c)),
-      three-pasted a.buffer.now a.at _ _ _ (room-letter c) ∙ ap (pasted a.buffer.now a.at) (sym (letter c)),
+      three_pasted a.buffer.now a.at _ _ _ (room-letter c) ∙ ap (pasted a.buffer.now a.at) (sym (letter c)),
     )
 
 returns-2 : tie.Need-returns-2
 returns-2 c =
     let a = c.before.before.before.before.before.before.args in (
       sym (ap (λ (l : List ℕ). a.at + length l) (plain c)),
-      set-pasted a.buffer.now a.at _ (omega (arith, room-plain c)) ∙ ap (pasted a.buffer.now a.at) (sym (plain c)),
+      set_pasted a.buffer.now a.at _ (omega (arith, room-plain c)) ∙ ap (pasted a.buffer.now a.at) (sym (plain c)),
     )
 
 returns-3 : tie.Need-returns-3

@@ -10,7 +10,7 @@ use borrow.Author.Tests.{le-leb, lt-leb}
 use Rattle.alphabet.proofs.ListLaws.{rest_of}
 use Rattle.escaping.specs.Escape.{escape_bytes}
 use Rattle.escaping.proofs.PieceLaws.{length_part}
-use Rattle.escaping.proofs.OutcomeLaws.{bytes_most, room-left}
+use Rattle.escaping.proofs.OutcomeLaws.{bytes_most, room_left}
 use Rattle.alphabet.proofs.BlockLaws.{block_size}
 use Rattle.escaping.proofs.writing.is_enough.Statement.{statement}
 use Rattle.escaping.proofs.writing.is_enough.Tie as tie
@@ -78,7 +78,7 @@ returns-3 : tie.Need-returns-3 invariant-loop decreases-loop
 returns-3 c =
     let l = c.before.before.before in
     let room = l.before.before.before.args.room in
-    room-left room l.loop.n c.block-length2.result l.loop.invariant.1 ∙ ap (λ (n : ℕ). leb n room) (sym (last c))
+    room_left room l.loop.n c.block-length2.result l.loop.invariant.1 ∙ ap (λ (n : ℕ). leb n room) (sym (last c))
 
 pub is-enough-spec : {M : Type 1} → statement M
 is-enough-spec =

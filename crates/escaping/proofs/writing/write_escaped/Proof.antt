@@ -9,10 +9,10 @@ use lib.Seq.{length-take-le}
 use Rattle.alphabet.specs.Lists.{first}
 use Rattle.escaping.specs.Escape.{escape_bytes}
 use Rattle.plain.specs.Plain.{special}
-use Rattle.escaping.proofs.PieceLaws.{bytes_next, bytes-end, length-next}
+use Rattle.escaping.proofs.PieceLaws.{bytes_next, bytes_end, length_next}
 use Rattle.plain.proofs.PlainLaws.{run_from}
 use Rattle.escaping.proofs.RunLaws.{bytes_from, length_from}
-use Rattle.alphabet.proofs.FillingLaws.{Filling, fill_start, fill_more, fill-room, fill-length, fill_end, put-fits}
+use Rattle.alphabet.proofs.FillingLaws.{Filling, fill_start, fill_more, fill_room, fill_length, fill_end, put_fits}
 use Rattle.escaping.proofs.writing.write_escaped.Statement.{statement}
 use Rattle.escaping.proofs.writing.write_escaped.Tie as tie
 
@@ -30,8 +30,8 @@ put-written-requires c κs =
     let l = c.before.before.before in
     let a = l.before.before.before.args in
     let f = l.loop.invariant.1 in
-    let n = length-next a.delimiters.bytes a.text.now l.loop.i (omega arith) in
-    omega (arith, fill-room f, fill-length f l.before.before.before.requires)
+    let n = length_next a.delimiters.bytes a.text.now l.loop.i (omega arith) in
+    omega (arith, fill_room f, fill_length f l.before.before.before.requires)
 
 -- the buffer once the byte is written
 one : (c : tie.After-put-written invariant-loop decreases-loop)
@@ -78,22 +78,22 @@ loop-again c =
     let d = length-drop i s in
     let h = r.1 in
     let t = length-take-le (i + n - i) (drop i s) (omega arith) in
-    let q = fill-length f l.before.before.before.requires in
-    let z = fill-room f in
-    let p = put-fits o.Put-written.new.1.1.0 (take (i + n - i) (drop i s)) o.Put-written.result (omega (arith, l.before.before.before.requires)) in
+    let q = fill_length f l.before.before.before.requires in
+    let z = fill_room f in
+    let p = put_fits o.Put-written.new.1.1.0 (take (i + n - i) (drop i s)) o.Put-written.result (omega (arith, l.before.before.before.requires)) in
     (h, fill_more _ _ _ _ f (bytes_from ds s i n r.0 ∙ ap (λ (j : ℕ). take j (drop i s) ++ escape_bytes ds (drop (i + n) s)) (sym e)) (c.before.before.put-long.ensures.1 ∙ p.1) (c.before.before.put-long.ensures.0 ∙ p.0))
 
 same_length : tie.Need-same-length invariant-loop decreases-loop
-same_length c = fill-length c.before.loop.invariant.1 c.before.before.before.before.requires
+same_length c = fill_length c.before.loop.invariant.1 c.before.before.before.before.requires
 
 returns : tie.Need-returns invariant-loop decreases-loop
 returns c =
     let l = c.before in
     let a = l.before.before.before.args in
     let f = l.loop.invariant.1 in
-    let e = bytes-end a.delimiters.bytes a.text.now l.loop.i (omega arith) in
+    let e = bytes_end a.delimiters.bytes a.text.now l.loop.i (omega arith) in
     let z = ap length e in
-    (omega (arith, fill-room f), fill_end f e)
+    (omega (arith, fill_room f), fill_end f e)
 
 pub write-escaped-spec : {M : Type 1} → statement M
 write-escaped-spec =

@@ -14,7 +14,7 @@ returns-3 c n =
     let w = or_neither (ltb a.most (a.field - a.base)) (leb 16 (a.field - a.base)) c.if2.false in
     let l = ltb-false a.most (a.field - a.base) w.0 in
     let r = leb-false 16 (a.field - a.base) w.1 in
-    record { counted = omega arith; split-on = omega arith; noted = omega arith; room = omega arith }
+    record { counted = omega arith; split_on = omega arith; noted = omega arith; room = omega arith }
 
 pub index-in-spec : {M : Type 1} → statement M
 index-in-spec = tie.close (tie.spec (λ c. search rules) (λ c. search rules) (λ c. search rules) (λ c. search rules) returns-3)

@@ -7,14 +7,14 @@ use lib.Dec.{eqb}
 use lib.ListN.{length, get_or}
 use native.Mathlib.Omega.{arith}
 use borrow.Author.Tests.{not-false}
-use Rattle.alphabet.proofs.BoolLaws.{false-true}
+use Rattle.alphabet.proofs.BoolLaws.{false_true}
 use Rattle.ends.specs.Ends.{Noted}
 use Rattle.rules.specs.Plain.{Permitted}
 use Rattle.field_table.specs.Table.{rows, no_row}
-use Rattle.field_table.proofs.TableLaws.{rows-count}
+use Rattle.field_table.proofs.TableLaws.{rows_count}
 use Rattle.fields.specs.Judging.{name_at}
 use Rattle.fields.specs.Walk.{judged_in, NoneBefore, NoneFrom}
-use Rattle.fields.proofs.JudgeLaws.{rows_left, row_other, row-own, rows_before, rows_from, own-passes}
+use Rattle.fields.proofs.JudgeLaws.{rows_left, row_other, row_own, rows_before, rows_from, own_passes}
 use Rattle.fields.proofs.plain.is_plain.Statement.{statement}
 use Rattle.fields.proofs.plain.is_plain.Tie as tie
 
@@ -34,13 +34,13 @@ returns c = λ t p n.
     ∙ rows_from rows a.delimiters.bytes a.number a.segment.now (subst (λ (name : ℕ). NoneFrom rows name a.to) n h.requires.1) a.from c.if1.true
 
 returns-2 : tie.Need-returns-2 invariant-loop decreases-loop
-returns-2 c = λ t p n. absurd (false-true t)
+returns-2 c = λ t p n. absurd (false_true t)
 
 -- there is a last row, and it is one of the table
 row-at-requires : tie.Need-row-at-requires invariant-loop decreases-loop
 row-at-requires c κs =
     let i = c.before.before.before.before.requires.1.inside in
-    let e = rows-count in
+    let e = rows_count in
     omega (arith, c.before.before.if1.false)
 
 loop-holds : tie.Need-loop-init invariant-loop decreases-loop
@@ -54,7 +54,7 @@ among : (c : tie.In-loop invariant-loop decreases-loop) → c.before.loop.index 
 among c = let i = c.before.before.before.before.before.before.before.before.before.before.requires.1.inside in omega (arith, c.loop-test.true)
 
 few : (c : tie.In-loop invariant-loop decreases-loop) → c.before.loop.index < 16
-few c = let h = among c in let e = rows-count in omega arith
+few c = let h = among c in let e = rows_count in omega arith
 
 loop-again : tie.Need-loop-preserved invariant-loop decreases-loop
 loop-again c =
@@ -74,7 +74,7 @@ base-most c κs =
     at false n e = omega arith
 
 returns-3 : tie.Need-returns-3 invariant-loop decreases-loop
-returns-3 c = λ t p n. absurd (false-true t)
+returns-3 c = λ t p n. absurd (false_true t)
 
 -- a row that was seen to be sound
 loop-again-2 : tie.Need-loop-preserved-2 invariant-loop decreases-loop
@@ -88,8 +88,8 @@ loop-again-2 c =
       l.loop.invariant.0,
       λ p n.
           l.loop.invariant.1 p n
-          ∙ row-own rows a.delimiters.bytes a.number a.segment.now l.loop.index (among r.before) r.row-at2.result r.row-at2.ensures (f.if3.false ∙ n)
-          ∙ own-passes _ _ _ (s.is-row-plain.ensures (not-false s.is-row-plain.result c.if4.false) p a.number b.base-of.ensures l.loop.invariant.0),
+          ∙ row_own rows a.delimiters.bytes a.number a.segment.now l.loop.index (among r.before) r.row-at2.result r.row-at2.ensures (f.if3.false ∙ n)
+          ∙ own_passes _ _ _ (s.is-row-plain.ensures (not-false s.is-row-plain.result c.if4.false) p a.number b.base-of.ensures l.loop.invariant.0),
     )
 
 returns-4 : tie.Need-returns-4 invariant-loop decreases-loop

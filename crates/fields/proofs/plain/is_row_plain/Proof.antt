@@ -5,15 +5,15 @@ use mathlib.Core.Bool.{cond}
 use Prim.Native.Nat.{ℕ}
 use lib.Dec.{eqb}
 use lib.ListN.{get_or}
-use Rattle.alphabet.proofs.BoolLaws.{false-true}
+use Rattle.alphabet.proofs.BoolLaws.{false_true}
 use Rattle.ends.specs.Ends.{Noted}
 use Rattle.fields.specs.Walk.{field_bytes}
-use Rattle.fields.proofs.PlainLaws.{field_part_lem, own-kind, said-kind, own-sound, said-sound}
+use Rattle.fields.proofs.PlainLaws.{field_part_lem, own_kind, said_kind, own_sound, said_sound}
 use Rattle.fields.proofs.plain.is_row_plain.Statement.{statement}
 use Rattle.fields.proofs.plain.is_row_plain.Tie as tie
 
 returns : tie.Need-returns
-returns c = λ t p number b n. absurd (false-true t)
+returns c = λ t p number b n. absurd (false_true t)
 
 -- the field that a row judges
 field : (c : tie.After-part) (number : ℕ) → let a = c.before.before.before.before.args in
@@ -31,11 +31,11 @@ returns-2 c = λ t p number b n.
     let k = c.before.before in
     let f = k.before in
     let a = f.before.before.before.before.args in
-    own-sound a.delimiters.bytes a.segment.now number a.row f.part.result.now (field f number b n)
-    (c.is_plain.ensures t p (own-kind a.row.kind k.said_field_lem.result k.said_field_lem.ensures c.before.if2.true))
+    own_sound a.delimiters.bytes a.segment.now number a.row f.part.result.now (field f number b n)
+    (c.is_plain.ensures t p (own_kind a.row.kind k.said_field_lem.result k.said_field_lem.ensures c.before.if2.true))
 
 returns-3 : tie.Need-returns-3
-returns-3 c = λ t p number b n. absurd (false-true t)
+returns-3 c = λ t p number b n. absurd (false_true t)
 
 returns-4 : tie.Need-returns-4
 returns-4 c = λ t p number b n.
@@ -45,8 +45,8 @@ returns-4 c = λ t p number b n.
     let f = k.before in
     let a = f.before.before.before.before.args in
     let v = j.index-in2.ensures g.before.if3.false in
-    let by = said-kind a.row.kind k.said_field_lem.result k.said_field_lem.ensures j.before.if2.false in
-    said-sound a.delimiters.bytes a.segment.now number a.row f.part.result.now (field f number b n) g.part2.result.now
+    let by = said_kind a.row.kind k.said_field_lem.result k.said_field_lem.ensures j.before.if2.false in
+    said_sound a.delimiters.bytes a.segment.now number a.row f.part.result.now (field f number b n) g.part2.result.now
     (ap (field_bytes a.delimiters.bytes a.segment.now number) (sym k.said_field_lem.ensures)
     ∙ field_part_lem a.delimiters.bytes a.segment.now number a.base k.said_field_lem.result a.most j.index-in2.result b v
     ∙ sym (g.part2.ensures (get_or a.delimiters.bytes 0 0) a.most n v.noted v.room g.before.if3.false))

@@ -7,7 +7,7 @@ use borrow.Author.Tests.{eq-eqb, ne_eqb}
 use lib.Dec.{eqb}
 use native.Mathlib.Omega.{arith}
 use Rattle.rules.specs.Rules.{is_said, said_field, is_any}
-use Rattle.fields.proofs.CursorLaws.{own-begins, left-most, left-least}
+use Rattle.fields.proofs.CursorLaws.{own_begins, left_most, left_least}
 use Rattle.fields.proofs.walk.begin_row.Statement.{statement}
 use Rattle.fields.proofs.walk.begin_row.Tie as tie
 
@@ -32,11 +32,11 @@ returns-2 c =
     let start = c.left-from.ensures in
     record {
       stands = finds.stands;
-      ordered = subst (λ (n : ℕ). n ≤ s.end + 1) (sym start) (left-most (is_any a.row.kind) (s.first + 1) s.end (omega arith));
+      ordered = subst (λ (n : ℕ). n ≤ s.end + 1) (sym start) (left_most (is_any a.row.kind) (s.first + 1) s.end (omega arith));
       inside = finds.inside;
-      counted = let one = subst (λ (n : ℕ). 1 ≤ n) (sym start) (left-least (is_any a.row.kind) (s.first + 1) s.end (omega arith)) in omega arith;
+      counted = let one = subst (λ (n : ℕ). 1 ≤ n) (sym start) (left_least (is_any a.row.kind) (s.first + 1) s.end (omega arith)) in omega arith;
       asks =
-          own-begins a.delimiters.bytes a.segment.now a.number a.row s finds o.check-own.result c.left-from.result
+          own_begins a.delimiters.bytes a.segment.now a.number a.row s finds o.check-own.result c.left-from.result
           (rw (eq-eqb (said_field a.row.kind) 0 (sym q.said_field_lem.ensures ∙ b.if1.false)))
           f.before.before.requires.1
           o.check-own.ensures

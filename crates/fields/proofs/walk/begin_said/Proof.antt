@@ -5,7 +5,7 @@ use Prim.Native.Nat.{ℕ, ◌≤◌, ◌+◌}
 use native.Mathlib.Omega.{arith}
 use Rattle.rules.specs.Rules.{is_any}
 use Rattle.fields.specs.Walk.{first_of}
-use Rattle.fields.proofs.CursorLaws.{said-begins, left-most}
+use Rattle.fields.proofs.CursorLaws.{said_begins, left_most}
 use Rattle.fields.proofs.walk.begin_said.Statement.{statement}
 use Rattle.fields.proofs.walk.begin_said.Tie as tie
 
@@ -22,11 +22,11 @@ returns c =
     let w = finds.within in
     record {
       stands = finds.stands;
-      ordered = subst (λ (n : ℕ). n ≤ a.sought.end + 1) (sym l.left-from.ensures) (left-most (is_any k.kind-of.result) a.sought.start a.sought.end (omega arith));
+      ordered = subst (λ (n : ℕ). n ≤ a.sought.end + 1) (sym l.left-from.ensures) (left_most (is_any k.kind-of.result) a.sought.start a.sought.end (omega arith));
       inside = finds.inside;
       counted = omega arith;
       asks =
-          said-begins ds a.segment.now a.number a.row a.sought finds s.said_in.result.now o.check-opening.result l.left-from.result c.component_of.result k.kind-of.result
+          said_begins ds a.segment.now a.number a.row a.sought finds s.said_in.result.now o.check-opening.result l.left-from.result c.component_of.result k.kind-of.result
           s.before.before.before.requires.1
           (s.said_in.ensures ∙ ap (first_of ds a.segment.now a.number) s.before.said_field_lem.ensures)
           o.check-opening.ensures

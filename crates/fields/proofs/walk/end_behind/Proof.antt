@@ -7,7 +7,7 @@ use lib.ListN.{length, drop, length-drop}
 use borrow.Author.Tests.{eq-eqb}
 use native.Mathlib.Omega.{arith}
 use Rattle.alphabet.specs.Lists.{find}
-use Rattle.alphabet.proofs.ListLaws.{rest_of, first-le, first-here, first-end}
+use Rattle.alphabet.proofs.ListLaws.{rest_of, first_le, first_here, first_end}
 use Rattle.fields.proofs.walk.end_behind.Statement.{statement}
 use Rattle.fields.proofs.walk.end_behind.Tie as tie
 
@@ -15,7 +15,7 @@ returns : tie.Need-returns
 returns c =
     let a = c.before.before.args in
     let e = c.if1.true in
-    let z = first-end (eqb a.separator) a.segment.now a.first (omega arith) in
+    let z = first_end (eqb a.separator) a.segment.now a.first (omega arith) in
     omega arith
 
 returns-2 : tie.Need-returns-2
@@ -24,7 +24,7 @@ returns-2 c =
     let a = k.before.before.before.args in
     let p = k.before.before.before.requires in
     let n = k.before.if1.false in
-    let z = first-here (eqb a.separator) a.segment.now a.first (omega (arith, n)) (eq-eqb _ _ (sym c.if2.true)) in
+    let z = first_here (eqb a.separator) a.segment.now a.first (omega (arith, n)) (eq-eqb _ _ (sym c.if2.true)) in
     omega arith
 
 returns-3 : tie.Need-returns-3
@@ -37,7 +37,7 @@ fits c =
     let a = c.before.before.before.before.before.before.args in
     let p = c.before.before.before.before.before.before.requires in
     let e = c.find-by-words.ensures ∙ ap (find a.separator) (rest_of a.segment.now a.first) in
-    let u = first-le (eqb a.separator) (drop a.first a.segment.now) in
+    let u = first_le (eqb a.separator) (drop a.first a.segment.now) in
     let d = length-drop a.first a.segment.now in
     omega arith
 

@@ -7,7 +7,7 @@ use lib.ListN.{length, get_or, take, drop}
 use Rattle.alphabet.specs.Parts.{split}
 use Rattle.alphabet.proofs.PartLaws.{part_bytes_lem, past_none, none_past}
 use Rattle.fields.specs.Walk.{field_bytes}
-use Rattle.fields.proofs.CursorLaws.{bytes-none, bytes_index}
+use Rattle.fields.proofs.CursorLaws.{bytes_none, bytes_index}
 use Rattle.fields.proofs.walk.field_bytes.Statement.{statement}
 use Rattle.fields.proofs.walk.field_bytes.Tie as tie
 
@@ -48,7 +48,7 @@ returns : tie.Need-returns
 returns c =
     let e = c.before in
     let a = e.before.before.args in
-    sym (bytes-none a.delimiters.bytes a.segment.now a.number a.field e.if1.true)
+    sym (bytes_none a.delimiters.bytes a.segment.now a.number a.field e.if1.true)
 
 returns-2 : tie.Need-returns-2
 returns-2 c =

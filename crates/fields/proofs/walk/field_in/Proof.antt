@@ -7,7 +7,7 @@ use lib.ListN.{get_or}
 use native.Mathlib.Omega.{arith}
 use Rattle.alphabet.specs.Parts.{split}
 use Rattle.fields.specs.Walk.{Finds}
-use Rattle.fields.proofs.CursorLaws.{bytes-none, bytes_index, finds-nothing}
+use Rattle.fields.proofs.CursorLaws.{bytes_none, bytes_index, finds_nothing}
 use Rattle.fields.proofs.walk.field_in.Statement.{statement}
 use Rattle.fields.proofs.walk.field_in.Tie as tie
 
@@ -16,8 +16,8 @@ returns c =
     let a = c.before.before.args in
     let ds = a.delimiters.bytes in
     let s = a.segment.now in
-    subst (λ (b : List ℕ). Finds ds s b (record { cursor = a.cursor; start = 0; first = 0; end = 0 })) (sym (bytes-none ds s a.number a.field c.if1.true))
-    (finds-nothing ds s a.cursor 0 (omega arith) c.before.before.requires)
+    subst (λ (b : List ℕ). Finds ds s b (record { cursor = a.cursor; start = 0; first = 0; end = 0 })) (sym (bytes_none ds s a.number a.field c.if1.true))
+    (finds_nothing ds s a.cursor 0 (omega arith) c.before.before.requires)
 
 returns-2 : tie.Need-returns-2
 returns-2 c =

@@ -10,7 +10,7 @@ use Rattle.alphabet.specs.Answers.{or_else, in_order}
 use Rattle.alphabet.specs.Parts.{split}
 use Rattle.alphabet.specs.declared.answers.Check.{Check}
 use Rattle.alphabet.specs.declared.answers.Check.TheVariants.{Passes}
-use Rattle.alphabet.proofs.CheckLaws.{stops, ends, passes-or}
+use Rattle.alphabet.proofs.CheckLaws.{stops, ends, passes_or}
 use Rattle.rules.specs.Rules.{repetition_checks}
 use Rattle.fields.specs.Walk.{left_of, row_in}
 use Rattle.fields.specs.declared.walk.Turn.{Turn}
@@ -60,7 +60,7 @@ loop-again c =
     let s = c.next-repetition.ensures in
     let e = s.same_end in
     let i = l.loop.invariant.1 in
-    (s.most, omega arith, s.counted, refl, l.loop.invariant.4 ∙ passes-or (sym l.loop.invariant.3 ∙ c.before.enum_told.given.1) _ ∙ s.asks)
+    (s.most, omega arith, s.counted, refl, l.loop.invariant.4 ∙ passes_or (sym l.loop.invariant.3 ∙ c.before.enum_told.given.1) _ ∙ s.asks)
 
 loop-holds : tie.Need-loop-init invariant-loop decreases-loop
 loop-holds c = let t = c.before.begin-row.ensures in (t.ordered, t.inside, t.counted, refl, refl)

@@ -3,7 +3,7 @@ use borrow.Author.Rules.{rules}
 use mathlib.Core.Path.{refl}
 use Prim.Native.Nat.{◌≤◌, ◌+◌}
 use native.Mathlib.Omega.{arith}
-use Rattle.fields.proofs.CursorLaws.{step_in, step-asks}
+use Rattle.fields.proofs.CursorLaws.{step_in, step_asks}
 use Rattle.fields.proofs.walk.next_repetition.Statement.{statement}
 use Rattle.fields.proofs.walk.next_repetition.Tie as tie
 
@@ -25,7 +25,7 @@ returns c =
       most = omega arith;
       counted = omega arith;
       asks =
-          step-asks a.delimiters.bytes a.segment.now a.turn g f.find-by-words.result f.find-by-words.ensures
+          step_asks a.delimiters.bytes a.segment.now a.turn g f.find-by-words.result f.find-by-words.ensures
           (record { cursor = a.turn.cursor; found = c.before.check-repetition.result; start = a.turn.start + f.find-by-words.result + 1; end = a.turn.end; repetition = a.turn.repetition + 1; component = a.turn.component; kind = a.turn.kind })
           refl refl refl refl refl c.before.check-repetition.ensures;
     }

@@ -8,7 +8,7 @@ use lib.ListN.{length, get_or, take}
 use lib.Seq.{length-take-le}
 use native.Mathlib.Omega.{arith}
 use Rattle.alphabet.specs.Parts.{split}
-use Rattle.alphabet.proofs.ListLaws.{first-le}
+use Rattle.alphabet.proofs.ListLaws.{first_le}
 use Rattle.alphabet.proofs.PartLaws.{first_part}
 use Rattle.fields.proofs.walk.said_in.Statement.{statement}
 use Rattle.fields.proofs.walk.said_in.Tie as tie
@@ -16,7 +16,7 @@ use Rattle.fields.proofs.walk.said_in.Tie as tie
 within : (c : tie.After-find) → c.find.result ≤ length c.before.before.field-bytes.result.now
 within c =
     let a = c.before.before.before.before.args in
-    let u = first-le (eqb (get_or a.delimiters.bytes 2 0)) c.before.before.field-bytes.result.now in
+    let u = first_le (eqb (get_or a.delimiters.bytes 2 0)) c.before.before.field-bytes.result.now in
     omega (arith, c.find.ensures)
 
 returns : tie.Need-returns

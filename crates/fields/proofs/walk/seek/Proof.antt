@@ -6,8 +6,8 @@ use Prim.Native.Nat.{ℕ, ◌≤◌, ◌+◌}
 use lib.ListN.{length, get_or, drop, length-drop}
 use native.Mathlib.Omega.{arith}
 use Rattle.alphabet.specs.Lists.{first, either}
-use Rattle.alphabet.proofs.ListLaws.{rest_of, first-le}
-use Rattle.fields.proofs.CursorLaws.{finds-none, part_ends, finds-here}
+use Rattle.alphabet.proofs.ListLaws.{rest_of, first_le}
+use Rattle.fields.proofs.CursorLaws.{finds_none, part_ends, finds_here}
 use Rattle.fields.proofs.walk.seek.Statement.{statement}
 use Rattle.fields.proofs.walk.seek.Tie as tie
 
@@ -15,7 +15,7 @@ returns : tie.Need-returns
 returns c =
     let r = c.before.before in
     let a = r.before.before.before.args in
-    finds-none a.delimiters.bytes a.segment.now r.reach.result a.wanted r.reach.ensures c.if1.true
+    finds_none a.delimiters.bytes a.segment.now r.reach.result a.wanted r.reach.ensures c.if1.true
 
 module _ (c : tie.After-find-two) where
   abbrev r : tie.After-reach
@@ -34,7 +34,7 @@ module _ (c : tie.After-find-two) where
   within : r.reach.result.place + c.find-two.result ≤ length s
   within =
       let i = r.reach.ensures.stands.inside in
-      let u = first-le (either (get_or ds 0 0) (get_or ds 2 0)) (drop r.reach.result.place s) in
+      let u = first_le (either (get_or ds 0 0) (get_or ds 2 0)) (drop r.reach.result.place s) in
       let d = length-drop r.reach.result.place s in
       omega (arith, found)
 
@@ -45,14 +45,14 @@ behind-requires : tie.Need-behind-requires
 behind-requires c κs =
     let t = c.before in
     let q = r t in
-    (q.reach.ensures.stands, part_ends (ds t) (s t) q.reach.result q.before.before.before.args.wanted q.reach.ensures (here t) t.find-two.result c.end-behind.result (found t) c.end-behind.ensures)
+    (q.reach.ensures.stands, part_ends (ds t) (s t) q.reach.result q.before.before.before.args.wanted q.reach.ensures (here t) t.find-two.result c.end_behind.result (found t) c.end_behind.ensures)
 
 returns-2 : tie.Need-returns-2
 returns-2 c =
     let e = c.before in
     let t = e.before in
     let q = r t in
-    finds-here (ds t) (s t) q.reach.result q.before.before.before.args.wanted q.reach.ensures (here t) t.find-two.result e.end-behind.result (found t) e.end-behind.ensures c.behind.result c.behind.ensures
+    finds_here (ds t) (s t) q.reach.result q.before.before.before.args.wanted q.reach.ensures (here t) t.find-two.result e.end_behind.result (found t) e.end_behind.ensures c.behind.result c.behind.ensures
 
 pub seek-spec : {M : Type 1} → statement M
 seek-spec =

@@ -9,11 +9,11 @@ use borrow.Author.Tests.{not-true, not-false}
 use Rattle.alphabet.specs.Bytes.{digit}
 use Rattle.alphabet.specs.Digits.{all_digits, counted, decimal}
 use Rattle.alphabet.proofs.BoolLaws.{from_to_lem}
-use Rattle.alphabet.proofs.DigitLaws.{digits-end, digits-next, digits-not, counted-end}
+use Rattle.alphabet.proofs.DigitLaws.{digits_end, digits_next, digits_not, counted_end}
 use Rattle.format_commands.specs.Commands.{held_size}
 use Rattle.format_commands.specs.declared.numbers.Number.{Number}
 use Rattle.format_commands.specs.declared.numbers.Number.TheVariants.{Given}
-use Rattle.format_commands.proofs.CommandLaws.{held-most, held-own, held-digit, digits-none, digits_bad, digits_good}
+use Rattle.format_commands.proofs.CommandLaws.{held_most, held_own, held_digit, digits_none, digits_bad, digits_good}
 use Rattle.format_commands.proofs.numbers.digits_of.Statement.{statement}
 use Rattle.format_commands.proofs.numbers.digits_of.Tie as tie
 
@@ -27,7 +27,7 @@ abbrev decreases-loop : tie.decreases-loop
 decreases-loop minus digits size₀ i₀ size i = length digits - i
 
 returns : tie.Need-returns invariant-loop decreases-loop
-returns c = let a = c.before.before.args in sym (digits-none a.minus a.digits.now c.if1.true)
+returns c = let a = c.before.before.args in sym (digits_none a.minus a.digits.now c.if1.true)
 
 loop-holds : tie.Need-loop-init invariant-loop decreases-loop
 loop-holds c = (omega arith, omega arith, refl, refl)
@@ -37,7 +37,7 @@ returns-2 c =
     let l = c.before.before.before.before in
     let a = l.before.before.before.args in
     let s = a.digits.now in
-    sym (digits_bad a.minus s (l.loop.invariant.2 ∙ digits-not s l.loop.i (omega arith) (sym c.before.is_digit.ensures ∙ not-true _ c.if2.true)))
+    sym (digits_bad a.minus s (l.loop.invariant.2 ∙ digits_not s l.loop.i (omega arith) (sym c.before.is_digit.ensures ∙ not-true _ c.if2.true)))
 
 -- at a digit
 here : (c : tie.Else2 invariant-loop decreases-loop)
@@ -59,9 +59,9 @@ loop-again c =
     let n = l.loop.size in
     let h = here w.before in
     let lo = h.1 in
-    let m = held-most (n * 10 + w.wide.result) in
+    let m = held_most (n * 10 + w.wide.result) in
     let e : n * 10 + w.wide.result ≡ n * 10 + (get_or s i 0 - 48) = omega arith in
-    (omega arith, omega arith, l.loop.invariant.2 ∙ digits-next s i (omega arith) h.0, l.loop.invariant.3 ∙ held-digit s i n c.hold.result (omega arith) (c.hold.ensures ∙ ap held_size e))
+    (omega arith, omega arith, l.loop.invariant.2 ∙ digits_next s i (omega arith) h.0, l.loop.invariant.3 ∙ held_digit s i n c.hold.result (omega arith) (c.hold.ensures ∙ ap held_size e))
 
 returns-3 : tie.Need-returns-3 invariant-loop decreases-loop
 returns-3 c =
@@ -70,8 +70,8 @@ returns-3 c =
     let s = a.digits.now in
     let i = l.loop.i in
     let n = l.loop.size in
-    let e = l.loop.invariant.2 ∙ digits-end s i (omega arith) in
-    let f = l.loop.invariant.3 ∙ ap held_size (counted-end s i n (omega arith)) ∙ held-own n (omega arith) in
+    let e = l.loop.invariant.2 ∙ digits_end s i (omega arith) in
+    let f = l.loop.invariant.3 ∙ ap held_size (counted_end s i n (omega arith)) ∙ held_own n (omega arith) in
     ap (given a.minus) (sym f) ∙ sym (digits_good a.minus s (omega arith) e)
 
 pub digits-of-spec : {M : Type 1} → statement M

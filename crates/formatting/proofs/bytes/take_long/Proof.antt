@@ -9,8 +9,8 @@ use lib.Seq.{take-add, take-suc, take_all, length-take-le}
 use borrow.Author.Rules.{rules}
 use Rattle.format_commands.specs.Items.{byte}
 use Rattle.formatting.specs.Pages.{Follows}
-use Rattle.formatting.proofs.PageLaws.{follows-none, follows-bytes, follows-spoilt}
-use Rattle.formatting.proofs.RunLaws.{clear-drop, clear-take}
+use Rattle.formatting.proofs.PageLaws.{follows_none, follows_bytes, follows_spoilt}
+use Rattle.formatting.proofs.RunLaws.{clear_drop, clear_take}
 use Rattle.formatting.proofs.bytes.take_long.Statement.{statement}
 use Rattle.formatting.proofs.bytes.take_long.Tie as tie
 
@@ -21,7 +21,7 @@ abbrev decreases-loop : tie.decreases-loop
 decreases-loop line₀ buffer₀ run p₀ i₀ line buffer p i = length run - i
 
 loop-holds : tie.Need-loop-init invariant-loop decreases-loop
-loop-holds c = (omega arith, follows-none c.before.before.before.requires.0)
+loop-holds c = (omega arith, follows_none c.before.before.before.requires.0)
 
 reach-requires : tie.Need-reach-requires invariant-loop decreases-loop
 reach-requires c κs = c.before.before.loop.invariant.1.sound.slight
@@ -33,7 +33,7 @@ loop-again : tie.Need-loop-preserved invariant-loop decreases-loop
 loop-again c =
     let l = c.before.before.before.before.before.before.before.before.before.before.before.before.loop in
     let u = c.before.before.before.before.before.before.before.before.before.before.before.before.before.before.before.before.args.run.now in
-    (omega arith, follows-bytes (take l.i u) _ (take (l.i + 1) u) (sym (ap (λ (n : ℕ). take n u) (add-one l.i) ∙ take-suc u l.i 0 (omega arith))) l.invariant.1 c.before.before.before.before.take-byte.ensures)
+    (omega arith, follows_bytes (take l.i u) _ (take (l.i + 1) u) (sym (ap (λ (n : ℕ). take n u) (add-one l.i) ∙ take-suc u l.i 0 (omega arith))) l.invariant.1 c.before.before.before.before.take-byte.ensures)
 
 append-requires : tie.Need-append-requires invariant-loop decreases-loop
 append-requires c κs =
@@ -47,7 +47,7 @@ append-requires c κs =
     let e = c.before.before.before.before.before.reach.ensures in
     let d = length-drop l.i u in
     let x = length-take-le ((l.i + c.before.before.before.smaller.result) - l.i) (drop l.i u) (omega arith) in
-    (l.invariant.1.sound, omega arith, omega arith, clear-take ((l.i + c.before.before.before.smaller.result) - l.i) (drop l.i u) (clear-drop l.i u a.requires.1))
+    (l.invariant.1.sound, omega arith, omega arith, clear_take ((l.i + c.before.before.before.smaller.result) - l.i) (drop l.i u) (clear_drop l.i u a.requires.1))
 
 loop-again-2 : tie.Need-loop-preserved-2 invariant-loop decreases-loop
 loop-again-2 c =
@@ -56,7 +56,7 @@ loop-again-2 c =
     let n = c.before.before.before.before.before.before.smaller.result in
     let within = c.before.before.before.before.before.before.smaller.ensures.1 in
     let e : n ≡ (l.i + n) - l.i = omega arith in
-    (omega arith, follows-bytes (take l.i u) _ (take (l.i + n) u) (sym (take-add l.i n u ∙ ap (λ (k : ℕ). take l.i u ++ take k (drop l.i u)) e)) l.invariant.1 c.before.before.append.ensures)
+    (omega arith, follows_bytes (take l.i u) _ (take (l.i + n) u) (sym (take-add l.i n u ∙ ap (λ (k : ℕ). take l.i u ++ take k (drop l.i u)) e)) l.invariant.1 c.before.before.append.ensures)
 
 same_length : tie.Need-same-length invariant-loop decreases-loop
 same_length c = c.before.before.loop.invariant.1.sound.broad ∙ sym c.before.before.before.before.before.before.requires.0.broad
@@ -65,7 +65,7 @@ returns : tie.Need-returns invariant-loop decreases-loop
 returns c =
     let l = c.before.before.loop in
     let u = c.before.before.before.before.before.before.args.run.now in
-    follows-bytes (take l.i u) (drop l.i u) u (take-append-drop l.i u) l.invariant.1 (follows-spoilt (map byte (drop l.i u)) l.invariant.1.sound c.if1.true)
+    follows_bytes (take l.i u) (drop l.i u) u (take-append-drop l.i u) l.invariant.1 (follows_spoilt (map byte (drop l.i u)) l.invariant.1.sound c.if1.true)
 
 same-length-3 : tie.Need-same-length-3 invariant-loop decreases-loop
 same-length-3 c = c.before.loop.invariant.1.sound.broad ∙ sym c.before.before.before.before.before.requires.0.broad

@@ -12,7 +12,7 @@ use Rattle.alphabet.specs.Hex.{all_hex, pairs_of}
 use Rattle.alphabet.proofs.BoolLaws.{and_both}
 use Rattle.alphabet.proofs.ListLaws.{rest_of}
 use Rattle.escaping.specs.Escape.{letters}
-use Rattle.text.proofs.SequenceLaws.{known_one, known_more, known_some, meaning-letter, meaning_pairs}
+use Rattle.text.proofs.SequenceLaws.{known_one, known_more, known_some, meaning_letter, meaning_pairs}
 use Rattle.formatting.proofs.PageLaws.{follows_same}
 use Rattle.formatting.proofs.bytes.take_meaning.Statement.{statement}
 use Rattle.formatting.proofs.bytes.take_meaning.Tie as tie
@@ -29,7 +29,7 @@ returns c =
     let a = c.before.before.before.before.before.before.before.before.before.before.before.before.before.before in
     let ds = a.args.delimiters.bytes in
     let s = a.args.inside.now in
-    let e = ap (λ (j : ℕ). get_or ds j 0 ∷ []) c.before.before.before.before.before.before.before.place_of.ensures ∙ sym (meaning-letter ds s (omega arith)) in
+    let e = ap (λ (j : ℕ). get_or ds j 0 ∷ []) c.before.before.before.before.before.before.before.place_of.ensures ∙ sym (meaning_letter ds s (omega arith)) in
     follows_same _ _ e c.before.before.before.before.take-byte.ensures
 
 take-pairs-requires : tie.Need-take-pairs-requires

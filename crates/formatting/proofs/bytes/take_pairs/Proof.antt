@@ -8,10 +8,10 @@ use lib.ListN.{length, get_or, drop}
 use borrow.Author.Rules.{rules}
 use Rattle.alphabet.specs.Bytes.{hex_of}
 use Rattle.alphabet.specs.Hex.{all_hex, pairs_of}
-use Rattle.alphabet.proofs.HexLaws.{hex-holds, pairs_next, pairs_end}
+use Rattle.alphabet.proofs.HexLaws.{hex_holds, pairs_next, pairs_end}
 use Rattle.format_commands.specs.Items.{byte}
 use Rattle.formatting.specs.Pages.{Follows}
-use Rattle.formatting.proofs.PageLaws.{follows-none, follows-bytes}
+use Rattle.formatting.proofs.PageLaws.{follows_none, follows_bytes}
 use Rattle.formatting.proofs.bytes.take_pairs.Statement.{statement}
 use Rattle.formatting.proofs.bytes.take_pairs.Tie as tie
 
@@ -25,10 +25,10 @@ decreases-loop line₀ buffer₀ digits p₀ i₀ line buffer p i = length digit
 pair : (k : tie.In-loop invariant-loop decreases-loop)
     → let s = k.before.before.before.before.before.args.digits.now in let i = k.before.loop.i in
     (i + 1 < length s) × (hex_of (get_or s i 0) < 16) × (hex_of (get_or s (i + 1) 0) < 16) × (all_hex (drop (i + 2) s) ≡ true)
-pair k = hex-holds k.before.before.before.before.before.args.digits.now k.before.loop.i k.loop-test.true k.before.loop.invariant.1
+pair k = hex_holds k.before.before.before.before.before.args.digits.now k.before.loop.i k.loop-test.true k.before.loop.invariant.1
 
 loop-holds : tie.Need-loop-init invariant-loop decreases-loop
-loop-holds c = let a = c.before.before.before in (omega arith, a.requires.1, ([], refl, follows-none a.requires.0))
+loop-holds c = let a = c.before.before.before in (omega arith, a.requires.1, ([], refl, follows_none a.requires.0))
 
 loop-again : tie.Need-loop-preserved invariant-loop decreases-loop
 loop-again c =
@@ -43,7 +43,7 @@ loop-again c =
       (
         u ++ v ∷ [],
         append_assoc u (v ∷ []) (pairs_of (drop (l.i + 2) s)) ∙ ap (λ (w : List ℕ). u ++ w) (ap (λ (k : ℕ). k ∷ pairs_of (drop (l.i + 2) s)) (sym e) ∙ sym (pairs_next s l.i p.0)) ∙ l.invariant.2.1,
-        follows-bytes u (v ∷ []) (u ++ v ∷ []) refl l.invariant.2.2 c.before.before.before.before.take-byte.ensures,
+        follows_bytes u (v ∷ []) (u ++ v ∷ []) refl l.invariant.2.2 c.before.before.before.before.take-byte.ensures,
       ),
     )
 

@@ -1,7 +1,7 @@
 -- Rests on an item that ends the word, and the line or not.
 use native.Mathlib.Omega.{arith}
 use borrow.Author.Rules.{rules}
-use Rattle.formatting.proofs.ActLaws.{sound_closing, take-blank, take_again, take-end}
+use Rattle.formatting.proofs.ActLaws.{sound_closing, take_blank, take_again, take_end}
 use Rattle.formatting.proofs.bytes.take_space.Statement.{statement}
 use Rattle.formatting.proofs.bytes.take_space.Tie as tie
 
@@ -13,7 +13,7 @@ owe-requires c κs =
 returns : tie.Need-returns
 returns c =
     let a = c.before.before.before.before.before in
-    take-blank a.args.b a.requires.1 a.args.page a.args.line.now a.args.buffer.now a.requires.0 c.before.before.close-word.result c.before.before.close-word.ensures
+    take_blank a.args.b a.requires.1 a.args.page a.args.line.now a.args.buffer.now a.requires.0 c.before.before.close-word.result c.before.before.close-word.ensures
     c.owe.result c.before.if1.true c.owe.ensures
 
 returns-2 : tie.Need-returns-2
@@ -30,7 +30,7 @@ returns-3 : tie.Need-returns-3
 returns-3 c =
     let a = c.before.before.before.before.before.before.before.before.before.before in
     let k = c.before.before.before.before.before.before.before in
-    take-end a.args.b a.requires.1 a.args.page a.args.line.now a.args.buffer.now a.requires.0 k.close-word.result k.close-word.ensures c.before.before.before.before.before.before.if1.false c.before.before.before.before.if2.false
+    take_end a.args.b a.requires.1 a.args.page a.args.line.now a.args.buffer.now a.requires.0 k.close-word.result k.close-word.ensures c.before.before.before.before.before.before.if1.false c.before.before.before.before.if2.false
     c.before.before.end-lines.result _ c.before.before.end-lines.ensures.0 c.before.before.end-lines.ensures.1
 
 pub take-space-spec : {M : Type 1} → statement M

@@ -6,7 +6,7 @@ use lib.ListN.{length}
 use lib.Seq.{length-take-le}
 use borrow.Author.Rules.{rules}
 use borrow.Author.Tests.{not-true, not-false}
-use Rattle.formatting.proofs.LayLaws.{Walks, walk_start, walk_end, walk_unclosed, walk_unknown, walk_ends, walk_sequence, walk_within, walk_run, walk_wrong, plain-clear}
+use Rattle.formatting.proofs.LayLaws.{Walks, walk_start, walk_end, walk_unclosed, walk_unknown, walk_ends, walk_sequence, walk_within, walk_run, walk_wrong, plain_clear}
 use Rattle.formatting.proofs.laying.lay.Statement.{statement}
 use Rattle.formatting.proofs.laying.lay.Tie as tie
 
@@ -61,7 +61,7 @@ returns-3 c = walk_wrong c.before.before.before.before.before.before.before.befo
 take-run-requires : tie.Need-take-run-requires invariant-loop decreases-loop
 take-run-requires c κs =
     let l = c.before.before.before.before.before.before.before.before.before.loop in
-    (l.invariant.1.follows.sound, plain-clear c.before.before.before.before.before.before.before.before.before.before.before.before.before.before.args.delimiters.bytes c.before.before.before.before.before.before.before.before.before.before.before.before.before.before.args.text.now l.i c.before.before.before.before.plain-run.result c.before.before.before.before.before.before.before.before.loop-test.true c.before.before.before.before.plain-run.ensures)
+    (l.invariant.1.follows.sound, plain_clear c.before.before.before.before.before.before.before.before.before.before.before.before.before.before.args.delimiters.bytes c.before.before.before.before.before.before.before.before.before.before.before.before.before.before.args.text.now l.i c.before.before.before.before.plain-run.result c.before.before.before.before.before.before.before.before.loop-test.true c.before.before.before.before.plain-run.ensures)
 
 five : (k : tie.After-plain-run invariant-loop decreases-loop) → length k.before.before.before.before.before.before.before.before.before.before.args.delimiters.bytes ≡ 5
 five k = search rules

@@ -3,7 +3,7 @@ use mathlib.Core.Path.{sym, ap}
 use borrow.Author.Rules.{rules}
 use Rattle.formatting.specs.Sheet.{Sheet, laid, down}
 use Rattle.formatting.proofs.ActLaws.{acts_none}
-use Rattle.formatting.proofs.OrderLaws.{acts_same, acts_down, down-none}
+use Rattle.formatting.proofs.OrderLaws.{acts_same, acts_down, down_none}
 use Rattle.formatting.proofs.orders.go_down.Statement.{statement}
 use Rattle.formatting.proofs.orders.go_down.Tie as tie
 
@@ -11,7 +11,7 @@ returns : tie.Need-returns
 returns c =
     let a = c.before.before.before in
     let g = a.args in
-    acts_same (λ (s : Sheet). laid s) (λ (s : Sheet). laid (down g.n s)) g.page g.line.now g.buffer.now g.page _ _ (λ (s : Sheet). sym (ap laid (down-none g.n s c.if1.true)))
+    acts_same (λ (s : Sheet). laid s) (λ (s : Sheet). laid (down g.n s)) g.page g.line.now g.buffer.now g.page _ _ (λ (s : Sheet). sym (ap laid (down_none g.n s c.if1.true)))
     (acts_none g.page g.line.now g.buffer.now a.requires.0)
 
 returns-2 : tie.Need-returns-2

@@ -7,7 +7,7 @@ use Rattle.formatting.specs.declared.page.Page.{Page}
 use Rattle.format_commands.specs.declared.orders.Order.TheVariants.{Once}
 use Rattle.formatting.specs.Sheet.{obey}
 use Rattle.formatting.specs.Pages.{Acts}
-use Rattle.formatting.proofs.OrderLaws.{acts_spoilt, acts_once, stop-once, moved_small}
+use Rattle.formatting.proofs.OrderLaws.{acts_spoilt, acts_once, stop_once, moved_small}
 use Rattle.formatting.proofs.orders.indent_once.Statement.{statement}
 use Rattle.formatting.proofs.orders.indent_once.Tie as tie
 
@@ -17,7 +17,7 @@ returns c =
     let g = a.args in
     let e = sym c.before.before.is-fit.ensures ∙ not-true _ c.before.if1.true in
     subst (λ (k : Page). Acts (obey (Once g.a)) g.page g.line.now g.buffer.now k g.line.now g.buffer.now) (sym c.spoil.ensures)
-    (acts_spoilt g.page g.line.now g.buffer.now a.requires.0 a.requires.1 _ (λ s n m. stop-once g.a s g.page.margin e m))
+    (acts_spoilt g.page g.line.now g.buffer.now a.requires.0 a.requires.1 _ (λ s n m. stop_once g.a s g.page.margin e m))
 
 moved-by-requires : tie.Need-moved-by-requires
 moved-by-requires c κs = sym c.before.is-fit.ensures ∙ not-false _ c.if1.false

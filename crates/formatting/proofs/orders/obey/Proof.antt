@@ -7,7 +7,7 @@ use Rattle.formatting.specs.declared.page.Page.{Page}
 use Rattle.formatting.specs.Sheet.{obey}
 use Rattle.formatting.specs.Pages.{Acts}
 use Rattle.formatting.proofs.ActLaws.{acts_none, acts_line}
-use Rattle.formatting.proofs.OrderLaws.{acts_same, acts_order, acts_spoilt, acts_fill, obey-plain}
+use Rattle.formatting.proofs.OrderLaws.{acts_same, acts_order, acts_spoilt, acts_fill, obey_plain}
 use Rattle.formatting.proofs.orders.obey.Statement.{statement}
 use Rattle.formatting.proofs.orders.obey.Tie as tie
 
@@ -16,21 +16,21 @@ returns c =
     let a = c.before.before.before.before.before in
     let g = a.args in
     acts_order g.asked _ g.page g.line.now g.buffer.now _ _ _ c.before.enum_told.given.1
-    (subst (λ (k : Page). Acts (obey Unknown) g.page g.line.now g.buffer.now k g.line.now g.buffer.now) (sym c.spoil.ensures) (acts_spoilt g.page g.line.now g.buffer.now a.requires.0 a.requires.1 (obey Unknown) (λ s n m. (obey-plain s).4)))
+    (subst (λ (k : Page). Acts (obey Unknown) g.page g.line.now g.buffer.now k g.line.now g.buffer.now) (sym c.spoil.ensures) (acts_spoilt g.page g.line.now g.buffer.now a.requires.0 a.requires.1 (obey Unknown) (λ s n m. (obey_plain s).4)))
 
 returns-2 : tie.Need-returns-2
 returns-2 c =
     let a = c.before.before.before.before in
     let g = a.args in
     acts_order g.asked _ g.page g.line.now g.buffer.now _ _ _ c.enum-told2.given.1
-    (acts_same _ (obey Highlight) g.page g.line.now g.buffer.now _ _ _ (λ s. sym (obey-plain s).0) (acts_none g.page g.line.now g.buffer.now a.requires.0))
+    (acts_same _ (obey Highlight) g.page g.line.now g.buffer.now _ _ _ (λ s. sym (obey_plain s).0) (acts_none g.page g.line.now g.buffer.now a.requires.0))
 
 returns-3 : tie.Need-returns-3
 returns-3 c =
     let a = c.before.before.before.before.before.before.before.before in
     let g = a.args in
     acts_order g.asked _ g.page g.line.now g.buffer.now _ _ _ c.before.before.before.before.enum-told3.given.1
-    (acts_same _ (obey Break) g.page g.line.now g.buffer.now _ _ _ (λ s. sym (obey-plain s).1) (acts_line g.page c.before.before.end-lines.result g.line.now g.buffer.now _ a.requires.0 a.requires.1 c.before.before.end-lines.ensures.0 c.before.before.end-lines.ensures.1))
+    (acts_same _ (obey Break) g.page g.line.now g.buffer.now _ _ _ (λ s. sym (obey_plain s).1) (acts_line g.page c.before.before.end-lines.result g.line.now g.buffer.now _ a.requires.0 a.requires.1 c.before.before.end-lines.ensures.0 c.before.before.end-lines.ensures.1))
 
 returns-4 : tie.Need-returns-4
 returns-4 c =
@@ -44,14 +44,14 @@ returns-5 c =
     let a = c.before.before.before.before.before in
     let g = a.args in
     acts_order g.asked _ g.page g.line.now g.buffer.now _ _ _ c.before.enum-told5.given.1
-    (subst (λ (k : Page). Acts (obey Fill) g.page g.line.now g.buffer.now k g.line.now g.buffer.now) (sym c.set-fill.ensures) (acts_same _ (obey Fill) g.page g.line.now g.buffer.now _ _ _ (λ s. sym (obey-plain s).2) (acts_fill g.page g.line.now g.buffer.now a.requires.0 a.requires.1 true)))
+    (subst (λ (k : Page). Acts (obey Fill) g.page g.line.now g.buffer.now k g.line.now g.buffer.now) (sym c.set-fill.ensures) (acts_same _ (obey Fill) g.page g.line.now g.buffer.now _ _ _ (λ s. sym (obey_plain s).2) (acts_fill g.page g.line.now g.buffer.now a.requires.0 a.requires.1 true)))
 
 returns-6 : tie.Need-returns-6
 returns-6 c =
     let a = c.before.before.before.before.before in
     let g = a.args in
     acts_order g.asked _ g.page g.line.now g.buffer.now _ _ _ c.before.enum-told6.given.1
-    (subst (λ (k : Page). Acts (obey Unfill) g.page g.line.now g.buffer.now k g.line.now g.buffer.now) (sym c.set-fill2.ensures) (acts_same _ (obey Unfill) g.page g.line.now g.buffer.now _ _ _ (λ s. sym (obey-plain s).3) (acts_fill g.page g.line.now g.buffer.now a.requires.0 a.requires.1 false)))
+    (subst (λ (k : Page). Acts (obey Unfill) g.page g.line.now g.buffer.now k g.line.now g.buffer.now) (sym c.set-fill2.ensures) (acts_same _ (obey Unfill) g.page g.line.now g.buffer.now _ _ _ (λ s. sym (obey_plain s).3) (acts_fill g.page g.line.now g.buffer.now a.requires.0 a.requires.1 false)))
 
 returns-7 : tie.Need-returns-7
 returns-7 c =

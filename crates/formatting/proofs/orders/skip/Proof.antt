@@ -8,7 +8,7 @@ use Rattle.format_commands.specs.declared.orders.Order.TheVariants.{Across}
 use Rattle.formatting.specs.Sheet.{obey}
 use Rattle.formatting.specs.Pages.{Acts}
 use Rattle.formatting.proofs.ActLaws.{acts_owe}
-use Rattle.formatting.proofs.OrderLaws.{acts_spoilt, acts_same, stop_across, obey_across, natural-most}
+use Rattle.formatting.proofs.OrderLaws.{acts_spoilt, acts_same, stop_across, obey_across, natural_most}
 use Rattle.formatting.proofs.orders.skip.Statement.{statement}
 use Rattle.formatting.proofs.orders.skip.Tie as tie
 
@@ -23,7 +23,7 @@ returns c =
 owe-requires : tie.Need-owe-requires
 owe-requires c κs =
     let a = c.before.before.before.before in
-    let h = natural-most a.args.a (sym c.before.is-natural.ensures ∙ not-false _ c.if1.false) in
+    let h = natural_most a.args.a (sym c.before.is-natural.ensures ∙ not-false _ c.if1.false) in
     (a.requires.0.slight, omega arith)
 
 returns-2 : tie.Need-returns-2

@@ -1,6 +1,6 @@
 -- Rests on bytes that fit behind what stands on the line.
 use borrow.Author.Rules.{rules}
-use Rattle.formatting.proofs.AppendLaws.{append-follows}
+use Rattle.formatting.proofs.AppendLaws.{append_follows}
 use Rattle.formatting.proofs.words.append.Statement.{statement}
 use Rattle.formatting.proofs.words.append.Tie as tie
 
@@ -10,7 +10,7 @@ returns c =
     let g = a.args in
     let t = g.line.now in
     let u = g.bytes.now in
-    append-follows g.page c.settle.result t g.buffer.now u c.before.before.before.put.new.0 a.requires.0 a.requires.1 a.requires.2 a.requires.3 c.settle.ensures cc
+    append_follows g.page c.settle.result t g.buffer.now u c.before.before.before.put.new.0 a.requires.0 a.requires.1 a.requires.2 a.requires.3 c.settle.ensures cc
 
 pub append-spec : {M : Type 1} → statement M
 append-spec =

@@ -4,7 +4,7 @@ use native.Mathlib.Omega.{arith}
 use borrow.Author.Rules.{rules}
 use borrow.Author.Tests.{ltb-true}
 use Rattle.alphabet.proofs.BoolLaws.{and_both}
-use Rattle.formatting.proofs.GrowLaws.{clear-word, grow_wraps, grow_stuck}
+use Rattle.formatting.proofs.GrowLaws.{clear_word, grow_wraps, grow_stuck}
 use Rattle.formatting.proofs.words.grow.Statement.{statement}
 use Rattle.formatting.proofs.words.grow.Tie as tie
 
@@ -12,7 +12,7 @@ append-requires : tie.Need-append-requires
 append-requires c κs =
     let a = c.before.before.before.before.before.before.before in
     let e = c.before.before.before.before.reach.ensures in
-    (a.requires.0, omega arith, omega arith, clear-word a.args.b a.requires.1)
+    (a.requires.0, omega arith, omega arith, clear_word a.args.b a.requires.1)
 
 wrap-requires : tie.Need-wrap-requires
 wrap-requires c κs =
@@ -26,7 +26,7 @@ append-requires-2 c κs =
     let w = c.before.before.before.before.before.before.before.wrap.ensures in
     let l = ltb-true (a.args.page.margin + a.args.page.word) 200 (and_both a.args.page.fill _ c.before.before.before.before.before.before.before.before.before.before.if2.true).1 in
     let r = w.reach in
-    (w.sound, omega arith, omega arith, clear-word a.args.b a.requires.1)
+    (w.sound, omega arith, omega arith, clear_word a.args.b a.requires.1)
 
 returns-2 : tie.Need-returns-2
 returns-2 c =

@@ -5,7 +5,7 @@ use mathlib.Core.Path.{◌≡◌, ap}
 use native.Mathlib.Omega.{arith}
 use lib.ListN.{length, drop, drop_of_length-le}
 use Rattle.formatting.specs.Runs.{blankless}
-use Rattle.formatting.proofs.RunLaws.{blankless-next}
+use Rattle.formatting.proofs.RunLaws.{blankless_next}
 use Rattle.formatting.proofs.words.last_word.Statement.{statement}
 use Rattle.formatting.proofs.words.last_word.Tie as tie
 
@@ -29,7 +29,7 @@ returns c =
 loop-again : tie.Need-loop-preserved invariant-loop decreases-loop
 loop-again c =
     let w = c.before.before.before in
-    (omega arith, blankless-next w.before.args.bytes.now w.loop.start (omega arith) (omega arith) c.if1.false w.loop.invariant.1)
+    (omega arith, blankless_next w.before.args.bytes.now w.loop.start (omega arith) (omega arith) c.if1.false w.loop.invariant.1)
 
 returns-2 : tie.Need-returns-2 invariant-loop decreases-loop
 returns-2 c =

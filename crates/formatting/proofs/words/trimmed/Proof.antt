@@ -6,7 +6,7 @@ use native.Mathlib.Omega.{arith}
 use lib.ListN.{length, take}
 use Rattle.formatting.specs.Sheet.{blanks}
 use Rattle.formatting.specs.Runs.{firm}
-use Rattle.formatting.proofs.RunLaws.{firm-take, trim_next, trim_start}
+use Rattle.formatting.proofs.RunLaws.{firm_take, trim_next, trim_start}
 use Rattle.formatting.proofs.words.trimmed.Statement.{statement}
 use Rattle.formatting.proofs.words.trimmed.Tie as tie
 
@@ -22,7 +22,7 @@ loop-holds c = (omega arith, trim_start c.args.bytes.now)
 returns : tie.Need-returns invariant-loop decreases-loop
 returns c =
     let w = c.before.before.before in
-    (w.loop.invariant.0, firm-take w.before.args.bytes.now w.loop.end (omega arith) (omega arith) c.if1.true, w.loop.invariant.1)
+    (w.loop.invariant.0, firm_take w.before.args.bytes.now w.loop.end (omega arith) (omega arith) c.if1.true, w.loop.invariant.1)
 
 loop-again : tie.Need-loop-preserved invariant-loop decreases-loop
 loop-again c =

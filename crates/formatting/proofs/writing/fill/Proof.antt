@@ -4,7 +4,7 @@ use mathlib.Core.Path.{◌≡◌, refl, sym, ap, ◌∙◌}
 use lib.ListN.{length, replicate, set, length-set, length-replicate, get_or-replicate}
 use lib.Seq.{paste, paste-zero}
 use native.Mathlib.Omega.{arith}
-use Rattle.alphabet.proofs.FillingLaws.{put_step, put-end, put-fits, put-none}
+use Rattle.alphabet.proofs.FillingLaws.{put_step, put_end, put_fits, put_none}
 use Rattle.formatting.proofs.writing.fill.Statement.{statement}
 use Rattle.formatting.proofs.writing.fill.Tie as tie
 
@@ -18,13 +18,13 @@ returns : tie.Need-returns invariant-loop decreases-loop
 returns c =
     let a = c.before.args in
     let z = length-replicate a.n a.b in
-    sym (put-none a.buffer.now (replicate a.n a.b) a.at (omega arith)).1
+    sym (put_none a.buffer.now (replicate a.n a.b) a.at (omega arith)).1
 
 returns-2 : tie.Need-returns-2 invariant-loop decreases-loop
 returns-2 c =
     let a = c.before.before.args in
     let z = length-replicate a.n a.b in
-    sym (put-none a.buffer.now (replicate a.n a.b) a.at (omega arith)).1
+    sym (put_none a.buffer.now (replicate a.n a.b) a.at (omega arith)).1
 
 loop-holds : tie.Need-loop-init invariant-loop decreases-loop
 loop-holds c = let a = c.before.before.args in (omega arith, paste-zero a.buffer.now a.at (replicate a.n a.b), refl)
@@ -48,8 +48,8 @@ returns-3 c =
     let l = c.before in
     let a = l.before.before.before.args in
     let z = length-replicate a.n a.b in
-    l.loop.invariant.1 ∙ put-end a.buffer.now (replicate a.n a.b) a.at l.loop.i (omega arith)
-    ∙ sym (put-fits a.buffer.now (replicate a.n a.b) a.at (omega arith)).1
+    l.loop.invariant.1 ∙ put_end a.buffer.now (replicate a.n a.b) a.at l.loop.i (omega arith)
+    ∙ sym (put_fits a.buffer.now (replicate a.n a.b) a.at (omega arith)).1
 
 pub fill_spec : {M : Type 1} → statement M
 fill_spec =

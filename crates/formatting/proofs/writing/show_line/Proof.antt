@@ -7,7 +7,7 @@ use lib.Seq.{length-take-le}
 use borrow.Author.Rules.{rules}
 use Rattle.formatting.specs.Sheet.{blanks}
 use Rattle.formatting.proofs.PageLaws.{indent_most}
-use Rattle.formatting.proofs.OutputLaws.{kept-length, shown_wrote}
+use Rattle.formatting.proofs.OutputLaws.{kept_length, shown_wrote}
 use Rattle.formatting.proofs.writing.show_line.Statement.{statement}
 use Rattle.formatting.proofs.writing.show_line.Tie as tie
 
@@ -53,7 +53,7 @@ kept : (k : tie.After-put-line) → length k.put-line.new.1.0 ≡ length k.befor
 kept k =
     let i = k.before.before.before in
     let a = i.before.before.before.args in
-    ap length k.put-line.ensures ∙ kept-length a.page.writes a.buffer.now (blanks i.indent.result ++ (take a.page.line a.line.now ++ replicate a.n 10)) a.page.place
+    ap length k.put-line.ensures ∙ kept_length a.page.writes a.buffer.now (blanks i.indent.result ++ (take a.page.line a.line.now ++ replicate a.n 10)) a.page.place
 
 spend-requires : tie.Need-spend-requires
 spend-requires c κs =

@@ -5,8 +5,8 @@ use native.Mathlib.Omega.{arith}
 use lib.Dec.{eqb}
 use lib.ListN.{length, take, drop, length-drop}
 use lib.Seq.{length-take-le}
-use Rattle.alphabet.proofs.ListLaws.{first-le, rest_of}
-use Rattle.asking.proofs.Pairs.{told-within}
+use Rattle.alphabet.proofs.ListLaws.{first_le, rest_of}
+use Rattle.asking.proofs.Pairs.{told_within}
 use Rattle.frame_answers.specs.Rooms.{ending}
 use Rattle.frame_answers.proofs.Places.{reached}
 use borrow.Author.Rules.{rules}
@@ -26,7 +26,7 @@ within c =
     let l = c.before.before.before.before.before.before.before.before.args.pieces.now in
     let s = c.before.before.loop.start in
     let size = ap length (rest_of l s) ∙ length-drop s l in
-    let u = first-le (eqb 32) (take (length l - s) (drop s l)) in
+    let u = first_le (eqb 32) (take (length l - s) (drop s l)) in
     omega (arith, c.find.ensures)
 
 -- the place of a line's end can be counted
@@ -46,7 +46,7 @@ part-decode-end : tie.Need-slice-bounds-decode-end invariant-loop decreases-loop
 part-decode-end c = let w = within c in search rules
 
 slice-reshare-prefix-put-piece : tie.Need-slice-reshare-prefix-put-piece invariant-loop decreases-loop
-slice-reshare-prefix-put-piece c = told-within c.before.before.before.before.before.decode.ensures c.before.length.given.1
+slice-reshare-prefix-put-piece c = told_within c.before.before.before.before.before.decode.ensures c.before.length.given.1
 
 slice-aggregate-put-piece : tie.Need-slice-aggregate-put-piece invariant-loop decreases-loop
 slice-aggregate-put-piece c = sym (length-take-le _ _ (slice-reshare-prefix-put-piece c.before))

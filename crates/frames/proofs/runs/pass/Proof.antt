@@ -7,7 +7,7 @@ use lib.ListN.{length, take}
 use lib.Seq.{length-take-le}
 use native.Mathlib.Omega.{arith}
 use Rattle.alphabet.specs.Lists.{first}
-use Rattle.alphabet.proofs.ListLaws.{first-le}
+use Rattle.alphabet.proofs.ListLaws.{first_le}
 use Rattle.frames.specs.declared.state.FrameState.{FrameState}
 use Rattle.frames.specs.Passing.{framing, PassesOver}
 use Rattle.frames.proofs.PassLaws.{pass_count, pass_held, pass_room, pass_outside, pass_inside, pass_skipping, pass_none}
@@ -48,7 +48,7 @@ bounds c =
     ⊎_elim (λ w. (omega arith, omega arith)) (λ w. (omega arith, omega arith)) c.if3.branch
 
 within : (c : tie.Joined3) → c.if3.run ≤ length c.before.before.before.before.before.before.before.before.args.rest.now
-within c = let b = (bounds c).0 in let f = first-le framing c.before.before.before.before.before.before.before.before.args.rest.now in omega arith
+within c = let b = (bounds c).0 in let f = first_le framing c.before.before.before.before.before.before.before.before.args.rest.now in omega arith
 
 slice-aggregate-put-long : tie.Need-slice-aggregate-put-long
 slice-aggregate-put-long c = sym (length-take-le _ _ (within c.before.before))

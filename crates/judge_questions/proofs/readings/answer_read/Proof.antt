@@ -5,8 +5,8 @@ use lib.Seq.{length-take-le}
 use Rattle.asking.specs.Words.{words}
 use Rattle.asking.specs.Hex.{said, fitting}
 use Rattle.judge_questions.specs.Readings.{read_asked}
-use Rattle.asking.proofs.Pairs.{told-within}
-use Rattle.judge_questions.proofs.ReadLaws.{asked_two, answer-other, answer-refused, answer-said}
+use Rattle.asking.proofs.Pairs.{told_within}
+use Rattle.judge_questions.proofs.ReadLaws.{asked_two, answer_other, answer_refused, answer_said}
 use borrow.Author.Rules.{rules}
 use Rattle.judge_questions.proofs.readings.answer_read.Statement.{statement}
 use Rattle.judge_questions.proofs.readings.answer_read.Tie as tie
@@ -25,7 +25,7 @@ returns c =
     let n = c.before.before.no-question in
     let k = c.before.before.before.before in
     let a = c.before.before.before.before.before.before.before.before.before.args in
-    (n.ensures.0, answer-other (words a.line.now) (length a.message.now) (λ e. k.if1.true (k.before.count.ensures ∙ e)) n.ensures.1)
+    (n.ensures.0, answer_other (words a.line.now) (length a.message.now) (λ e. k.if1.true (k.before.count.ensures ∙ e)) n.ensures.1)
 
 enum_told : tie.Need-enum-told
 enum_told c = search rules
@@ -34,10 +34,10 @@ returns-2 : tie.Need-returns-2
 returns-2 c =
     let n = c.before.before.no-question2 in
     let k = c.before.before.before.before.before.before.before.before in
-    (n.ensures.0, answer-refused (asked k) k.decode.ensures c.before.before.before.before.enum_told.given.1 n.ensures.1)
+    (n.ensures.0, answer_refused (asked k) k.decode.ensures c.before.before.before.before.enum_told.given.1 n.ensures.1)
 
 slice-reshare-prefix-put-reading : tie.Need-slice-reshare-prefix-put-reading
-slice-reshare-prefix-put-reading c = told-within c.before.before.before.before.before.decode.ensures c.before.decoded.given.1
+slice-reshare-prefix-put-reading c = told_within c.before.before.before.before.before.decode.ensures c.before.decoded.given.1
 
 slice-aggregate-put-reading : tie.Need-slice-aggregate-put-reading
 slice-aggregate-put-reading c = sym (length-take-le _ _ (slice-reshare-prefix-put-reading c.before))
@@ -47,7 +47,7 @@ returns-3 c =
     let p = c.before.before.put-reading in
     let d = c.before.before.before.before.before.before in
     let k = d.before.before.before.before in
-    (p.ensures.0, answer-said (asked k) k.decode.ensures d.decoded.given.1 p.ensures.1)
+    (p.ensures.0, answer_said (asked k) k.decode.ensures d.decoded.given.1 p.ensures.1)
 
 pub answer-read-spec : {M : Type 1} → statement M
 answer-read-spec =

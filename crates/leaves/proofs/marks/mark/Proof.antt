@@ -6,7 +6,7 @@ use lib.ListN.{length, get_or}
 use native.Mathlib.Omega.{arith}
 use Rattle.alphabet.specs.Lists.{among}
 use Rattle.leaves.specs.Walks.{Weighs, Light, sum_of, marked}
-use Rattle.leaves.proofs.MarkLaws.{light_block, sum-most, block_marked}
+use Rattle.leaves.proofs.MarkLaws.{light_block, sum_most, block_marked}
 use Rattle.leaves.proofs.marks.mark.Statement.{statement}
 use Rattle.leaves.proofs.marks.mark.Tie as tie
 
@@ -17,7 +17,7 @@ light c at h z =
     light_block (among s.args.ends) s.args.block.now c.weights-of.result e.0 s.requires e.1 at h z
 
 small : (c : tie.After-weights-of) (at r : ℕ) → at ≤ 40 → at % 8 ≡ 0 → r ≡ sum_of c.weights-of.result at → r ≤ 255
-small c at r h z e = let m = sum-most c.weights-of.result at (light c at h z) in omega arith
+small c at r h z e = let m = sum_most c.weights-of.result at (light c at h z) in omega arith
 
 first : (c : tie.After-sum) → c.sum.result ≤ 255
 first c = small c.before.before 0 _ (omega arith) refl c.sum.ensures

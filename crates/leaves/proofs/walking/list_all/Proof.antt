@@ -9,8 +9,8 @@ use Rattle.alphabet.specs.Filling.{pasted}
 use Rattle.element.specs.declared.address.Address.{Address}
 use Rattle.leaves.specs.Leaves.{addressed, rows, leaves_of}
 use Rattle.leaves.specs.Walks.{ends_of, passed, AtMost, shown, begins, Reached, Written, rest_rows}
-use Rattle.leaves.proofs.RowLaws.{pasted_length, written-end, begins-shown}
-use Rattle.leaves.proofs.HeaderLaws.{start_reached, start-length, start-written, long_enough}
+use Rattle.leaves.proofs.RowLaws.{pasted_length, written_end, begins_shown}
+use Rattle.leaves.proofs.HeaderLaws.{start_reached, start_length, start_written, long_enough}
 use Rattle.leaves.proofs.walking.list_all.Statement.{statement}
 use Rattle.leaves.proofs.walking.list_all.Tie as tie
 
@@ -18,7 +18,7 @@ use Rattle.leaves.proofs.walking.list_all.Tie as tie
 room : (c : tie.Start) → 16 ≤ length c.args.buffer.now
 room c =
     let m = c.args.message.now in
-    let n = start-length m c.requires.1 in
+    let n = start_length m c.requires.1 in
     let p = c.requires.0 in
     omega arith
 
@@ -61,7 +61,7 @@ start : (c : tie.After-pass) → c.pass.result.start ≡ shown c.pass.result.add
 start c = c.pass.ensures.1 (λ z. let e = ap (λ (x : Address). x.field) c.before.before.before.before.before.before.before.before.before.before.before.before.address-of.ensures in omega arith)
 
 from-nine : (c : tie.After-pass) → begins c.pass.result.address c.pass.result.start ≡ 9
-from-nine c = begins-shown c.pass.result.address c.pass.result.start 9 (start c)
+from-nine c = begins_shown c.pass.result.address c.pass.result.start 9 (start c)
 
 pass-requires : tie.Need-pass-requires
 pass-requires c κs = (subst (AtMost 1048576) (sym c.before.before.before.before.before.before.before.before.before.before.before.address-of.ensures) (omega arith, omega arith, omega arith, omega arith, omega arith), omega arith)
@@ -75,7 +75,7 @@ list-rest-requires c κs =
     let ok = s.requires.1 in
     let e = sym (walks q) in
     let i = sym (from-nine q) in
-    let n = start-length m ok in
+    let n = start_length m ok in
     let r = s.requires.0 in
     let t = two-length q.before.before.before.before.before in
     let z = ap (λ (x : Address). length (rest_rows m x 9)) e in
@@ -91,11 +91,11 @@ returns c =
     let d = s.args.buffer.now in
     let a = q.pass.result.address in
     let d₂ = q.before.before.before.before.before.put-row2.new.0 in
-    let w = start-written m s.requires.1 d _ _ (one q.before.before.before.before.before.before.before.before.before) (two q.before.before.before.before.before) in
+    let w = start_written m s.requires.1 d _ _ (one q.before.before.before.before.before.before.before.before.before) (two q.before.before.before.before.before) in
     let v = subst (λ (x : Address). Written (rows (leaves_of m)) d (rest_rows m x 9) d₂ 16) (sym (walks q)) w in
     let u = subst (λ (x : ℕ). Written (rows (leaves_of m)) d (rest_rows m a x) d₂ 16) (sym (from-nine q)) v in
     let t = subst (λ (x : ℕ). Written (rows (leaves_of m)) d (rest_rows m a (begins a q.pass.result.start)) d₂ x) (sym q.pass.ensures.0.1) u in
-    written-end (rows (leaves_of m)) d _ _ (c.before.before.list-rest.ensures (rows (leaves_of m)) d t)
+    written_end (rows (leaves_of m)) d _ _ (c.before.before.list-rest.ensures (rows (leaves_of m)) d t)
 
 pub list-all-spec : {M : Type 1} → statement M
 list-all-spec =

@@ -8,7 +8,7 @@ use lib.Count.{count_trailing_zeros}
 use lib.ListN.{length}
 use native.Mathlib.Omega.{arith}
 use Rattle.leaves.specs.Walks.{Ends, Reached, Writes, begins, shown, rest_rows}
-use Rattle.leaves.proofs.TurnLaws.{Left, all_left, left-none, left_behind, end_low, end-ends, end_reached}
+use Rattle.leaves.proofs.TurnLaws.{Left, all_left, left_none, left_behind, end_low, end_ends, end_reached}
 use Rattle.leaves.proofs.walking.list_block.Statement.{statement}
 use Rattle.leaves.proofs.walking.list_block.Tie as tie
 
@@ -32,7 +32,7 @@ module _ (c : tie.In-loop invariant-loop decreases-loop) where
   low = end_low m _ _ l.before.before.before.args.place l.loop.bits l.loop.inv.0 c.loop-test.true
 
   ends_there : Ends m (l.before.before.before.args.place + count_trailing_zeros 64 l.loop.bits)
-  ends_there = end-ends m _ _ l.before.before.before.args.place l.loop.bits l.loop.inv.0 c.loop-test.true
+  ends_there = end_ends m _ _ l.before.before.before.args.place l.loop.bits l.loop.inv.0 c.loop-test.true
 
   comes-there : Reached m l.loop.here.address (begins l.loop.here.address l.loop.here.start) (l.before.before.before.args.place + count_trailing_zeros 64 l.loop.bits)
   comes-there = end_reached m _ _ l.before.before.before.args.place l.loop.bits l.loop.inv.0 c.loop-test.true
@@ -60,7 +60,7 @@ returns : tie.Need-returns invariant-loop decreases-loop
 returns c =
     let o = c.before in
     let bytes = o.before.before.before.args.message.now in
-    ((left-none bytes _ _ o.before.before.before.args.place o.loop.bits o.loop.invariant.0 c.loop-test.false, o.loop.invariant.1, o.loop.invariant.4), o.loop.invariant.2)
+    ((left_none bytes _ _ o.before.before.before.args.place o.loop.bits o.loop.invariant.0 c.loop-test.false, o.loop.invariant.1, o.loop.invariant.4), o.loop.invariant.2)
 
 pub list-block-spec : {M : Type 1} → statement M
 list-block-spec =

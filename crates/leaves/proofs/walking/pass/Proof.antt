@@ -6,7 +6,7 @@ use lib.ListN.{get_or}
 use native.Mathlib.Omega.{arith}
 use borrow.Author.Tests.{eq-eqb, ne_eqb}
 use Rattle.leaves.proofs.RestLaws.{pass_field, pass_component, pass_end, pass_repetition, pass_subcomponent}
-use Rattle.leaves.proofs.RowLaws.{leaf_shown, name-shown}
+use Rattle.leaves.proofs.RowLaws.{leaf_shown, name_shown}
 use Rattle.leaves.proofs.walking.pass.Statement.{statement}
 use Rattle.leaves.proofs.walking.pass.Tie as tie
 
@@ -32,7 +32,7 @@ behind-end c =
     let t = c.before.before in
     let a = t.before.before.before.args in
     let e = w.0 ∙ c.before.address-of3.ensures in
-    ((e ∙ pass_end a.t1 a.b a.address t.before.before.if1.false t.before.if2.false t.if3.true, w.2), λ n. w.1 ∙ name-shown _ _ (a.end + 1) e refl)
+    ((e ∙ pass_end a.t1 a.b a.address t.before.before.if1.false t.before.if2.false t.if3.true, w.2), λ n. w.1 ∙ name_shown _ _ (a.end + 1) e refl)
 
 behind-repetition : tie.Need-returns-4
 behind-repetition c =

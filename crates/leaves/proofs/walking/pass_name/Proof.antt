@@ -3,7 +3,7 @@ use borrow.Author.Rules.{rules}
 use Prim.Native.Nat.{ℕ, ◌+◌}
 use mathlib.Core.Path.{◌≡◌, sym, ◌∙◌}
 use native.Mathlib.Omega.{arith}
-use Rattle.leaves.proofs.RowLaws.{leaf_shown, name-shown}
+use Rattle.leaves.proofs.RowLaws.{leaf_shown, name_shown}
 use Rattle.leaves.proofs.walking.pass_name.Statement.{statement}
 use Rattle.leaves.proofs.walking.pass_name.Tie as tie
 
@@ -11,7 +11,7 @@ returns : tie.Need-returns
 returns c =
     let w = c.walk_from.ensures in
     let p = c.before.before.before in
-    (w.0 ∙ p.pass.ensures.0.0, w.2, w.1 ∙ name-shown _ _ (p.before.args.end + 1) w.0 c.before.if1.true)
+    (w.0 ∙ p.pass.ensures.0.0, w.2, w.1 ∙ name_shown _ _ (p.before.args.end + 1) w.0 c.before.if1.true)
 
 returns-2 : tie.Need-returns-2
 returns-2 c =

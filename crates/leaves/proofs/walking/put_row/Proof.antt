@@ -1,8 +1,8 @@
--- Rests on `eight-pasted`: numbers that are set one behind another.
+-- Rests on `eight_pasted`: numbers that are set one behind another.
 use borrow.Author.Rules.{rules}
 use lib.ListN.{length-set}
 use native.Mathlib.Omega.{arith}
-use Rattle.leaves.proofs.RowLaws.{eight-pasted}
+use Rattle.leaves.proofs.RowLaws.{eight_pasted}
 use Rattle.leaves.proofs.walking.put_row.Statement.{statement}
 use Rattle.leaves.proofs.walking.put_row.Tie as tie
 
@@ -34,4 +34,4 @@ put-row-spec =
     (λ c. search rules)
     (λ c. simp length-set (omega arith))
     (λ c. search rules)
-    (λ c. eight-pasted c.args.buffer.now c.args.at _ _ _ _ _ _ _ _ c.requires))
+    (λ c. eight_pasted c.args.buffer.now c.args.at _ _ _ _ _ _ _ _ c.requires))

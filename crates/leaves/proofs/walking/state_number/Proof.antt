@@ -6,19 +6,19 @@ use Prim.Native.Nat.{ℕ, ◌≤◌, ◌<◌, ◌+◌}
 use lib.Dec.{eqb}
 use lib.ListN.{length, get_or}
 use native.Mathlib.Omega.{arith}
-use Rattle.leaves.proofs.RowLaws.{state-none, state_unquoted, state_quotes, state-quoted, state_leaf, state-name}
+use Rattle.leaves.proofs.RowLaws.{state_none, state_unquoted, state_quotes, state_quoted, state_leaf, state_name}
 use Rattle.leaves.proofs.walking.state_number.Statement.{statement}
 use Rattle.leaves.proofs.walking.state_number.Tie as tie
 
 empty : tie.Need-returns
 empty c =
     let a = c.before.before.before.args in
-    state_leaf a.message.now a.start a.end 1 (omega arith) (state-none a.message.now a.start a.end c.if2.true)
+    state_leaf a.message.now a.start a.end 1 (omega arith) (state_none a.message.now a.start a.end c.if2.true)
 
 name : tie.Need-returns-2
 name c =
     let a = c.before.before.before.args in
-    state-name a.message.now a.start a.end (omega (arith, c.if2.false))
+    state_name a.message.now a.start a.end (omega (arith, c.if2.false))
 
 unquoted : tie.Need-returns-3
 unquoted c =
@@ -50,7 +50,7 @@ quoted c =
     let a = s.args in
     let h : a.start < a.end = omega arith in
     state_leaf a.message.now a.start a.end 3 (omega arith)
-    (state-quoted a.message.now a.start a.end (omega arith) s.requires (λ z. omega arith) b.before.if3.false (sym (asked b) ∙ c.if4.false))
+    (state_quoted a.message.now a.start a.end (omega arith) s.requires (λ z. omega arith) b.before.if3.false (sym (asked b) ∙ c.if4.false))
 
 pub state-number-spec : {M : Type 1} → statement M
 state-number-spec =

@@ -9,11 +9,11 @@ use Rattle.alphabet.specs.Filling.{pasted}
 use Rattle.reading.specs.Segments.{delimiters_of}
 use Rattle.element.specs.Levels.{between}
 use Rattle.element.specs.declared.address.Address.{Address}
-use Rattle.element.proofs.LevelLaws.{between-length}
+use Rattle.element.proofs.LevelLaws.{between_length}
 use Rattle.leaves.specs.Leaves.{rows}
 use Rattle.leaves.specs.Walks.{ends_of, passed, Reached, AtMost, rest_rows, here_in, state_at, plain_state, shown, begins, Stands, Writes}
-use Rattle.leaves.proofs.RowLaws.{written-more, pasted_length, pasted-nothing, here-name, here_leaf, begins-shown, state_leaf, told-name, told_leaf, own-start}
-use Rattle.leaves.proofs.TurnLaws.{plain-clear, turn_rows, turn_reached, message_most}
+use Rattle.leaves.proofs.RowLaws.{written_more, pasted_length, pasted_nothing, here_name, here_leaf, begins_shown, state_leaf, told_name, told_leaf, own_start}
+use Rattle.leaves.proofs.TurnLaws.{plain_clear, turn_rows, turn_reached, message_most}
 use Rattle.leaves.proofs.walking.turn.Statement.{statement}
 use Rattle.leaves.proofs.walking.turn.Tie as tie
 
@@ -43,12 +43,12 @@ module _ (s : tie.Start) where
   next : rest_rows m a from ≡ here ++ rest_rows m on (end + 1)
   next =
       let r = s.pre.1.0 in
-      turn_rows m s.pre.3 a from end r.begun s.pre.0.0 r.free s.pre.0.1 r.few r.split-on
+      turn_rows m s.pre.3 a from end r.begun s.pre.0.0 r.free s.pre.0.1 r.few r.split_on
 
   reached : Reached m on (end + 1) (end + 1)
   reached =
       let r = s.pre.1.0 in
-      turn_reached m s.pre.3 a from end r.begun s.pre.0.0 r.free s.pre.0.1 r.few r.split-on
+      turn_reached m s.pre.3 a from end r.begun s.pre.0.0 r.free s.pre.0.1 r.few r.split_on
 
   room : s.args.walk.at + length here ≤ length s.args.buffer.now
   room =
@@ -82,12 +82,12 @@ module _ (s : tie.Start) where
       let r = s.pre.1.0 in
       let b = r.begun in
       let k = s.pre.0.0 in
-      let o = own-start a start n in
+      let o = own_start a start n in
       let p = between m from end in
-      let l = between-length m from end b (omega arith) in
+      let l = between_length m from end b (omega arith) in
       let e : from + length p ≡ end = omega arith in
       let t = state_leaf m start end (plain_state (between m start end)) (omega arith) refl in
-      here_leaf (delimiters_of m) a from p n (plain-clear m from end b (omega arith) r.free)
+      here_leaf (delimiters_of m) a from p n (plain_clear m from end b (omega arith) r.free)
       ∙ ap (λ (x : ℕ). a.segment ∷ a.field ∷ a.repetition ∷ a.component ∷ a.subcomponent ∷ plain_state p ∷ from ∷ x ∷ []) e
       ∙ ap (λ (x : ℕ). a.segment ∷ a.field ∷ a.repetition ∷ a.component ∷ a.subcomponent ∷ plain_state (between m x end) ∷ x ∷ end ∷ []) o
       ∙ ap (λ (x : ℕ). a.segment ∷ a.field ∷ a.repetition ∷ a.component ∷ a.subcomponent ∷ x ∷ start ∷ end ∷ []) t
@@ -96,14 +96,14 @@ module _ (s : tie.Start) where
   behind : (b : Address) (to at : ℕ) (d : List ℕ) → b ≡ on → to ≡ shown b (end + 1) → d ≡ pasted s.args.buffer.now s.args.walk.at here → at ≡ s.args.walk.at + length here
       → Stands m d b to at (end + 1) × Writes m s.args.buffer.now a start s.args.walk.at d b to at
   behind b to at d e t q z =
-      let o = begins-shown b to (end + 1) t in
+      let o = begins_shown b to (end + 1) t in
       let go : rest_rows m a from ≡ here ++ rest_rows m b (begins b to) = next ∙ ap₂ (λ (x : Address) (i : ℕ). here ++ rest_rows m x i) (sym e) (sym o) in
       let n = ap length go in
       let k = length-append here (rest_rows m b (begins b to)) in
       let r = s.pre.1.1 in
       let y = ap length q ∙ pasted_length s.args.buffer.now here s.args.walk.at room in (
         (subst (λ (i : ℕ). Reached m b i (end + 1)) (sym o) (subst (λ (x : Address). Reached m x (end + 1) (end + 1)) (sym e) reached), omega arith, t ∙ ap (shown b) (sym o)),
-        (λ W d₀ w. written-more here (rest_rows m b (begins b to)) d at w go q z),
+        (λ W d₀ w. written_more here (rest_rows m b (begins b to)) d at w go q z),
       )
 
 pass-name-requires : tie.Need-pass-name-requires
@@ -114,13 +114,13 @@ name-returns c =
     let t = c.before.before in
     let s = t.before.before.before.before in
     let p = c.pass-name.ensures in
-    let f = told-name (m s) (a s) (start s) (end s) s.requires.1.2 s.requires.1.0.begun (sym t.before.state-number.ensures ∙ t.if1.true) in
-    let e = here-name (delimiters_of (m s)) (a s) (from s) (between (m s) (from s) (end s)) f in
+    let f = told_name (m s) (a s) (start s) (end s) s.requires.1.2 s.requires.1.0.begun (sym t.before.state-number.ensures ∙ t.if1.true) in
+    let e = here_name (delimiters_of (m s)) (a s) (from s) (between (m s) (from s) (end s)) f in
     let n = ap length e in
     let r = room s in
     let p1 = p.1 in
     behind s _ _ _ _ (p.0 ∙ ap (λ (x : List ℕ). passed x (get_or (m s) (end s) 0) (a s)) s.requires.2) p.2
-    (sym (ap (pasted s.args.buffer.now s.args.walk.at) e ∙ pasted-nothing s.args.buffer.now s.args.walk.at (omega arith))) (omega arith)
+    (sym (ap (pasted s.args.buffer.now s.args.walk.at) e ∙ pasted_nothing s.args.buffer.now s.args.walk.at (omega arith))) (omega arith)
 
 -- what has a state is no name
 no_name : (c : tie.Else1) → c.before.before.before.before.args.walk.address.field ≡ 0 → ⊥

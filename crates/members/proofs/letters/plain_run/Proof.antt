@@ -8,7 +8,7 @@ use native.Mathlib.Nat.{zero-add}
 use borrow.Author.Rules.{rules}
 use Rattle.members.specs.Letters.{not_plain}
 use Rattle.alphabet.specs.Lists.{first}
-use Rattle.alphabet.proofs.ListLaws.{first-here, first_past, first-end}
+use Rattle.alphabet.proofs.ListLaws.{first_here, first_past, first_end}
 use Rattle.members.proofs.letters.plain_run.Statement.{statement}
 use Rattle.members.proofs.letters.plain_run.Tie as tie
 
@@ -22,7 +22,7 @@ returns : tie.Need-returns invariant-loop decreases-loop
 returns c =
     let l = c.before.before.before.before in
     let s = l.before.before.args.bytes.now in
-    let z = first-here not_plain s l.loop.i (omega arith) (ap not (sym c.before.is_plain.ensures) ∙ c.if1.true) in
+    let z = first_here not_plain s l.loop.i (omega arith) (ap not (sym c.before.is_plain.ensures) ∙ c.if1.true) in
     omega arith
 
 loop-again : tie.Need-loop-preserved invariant-loop decreases-loop
@@ -35,7 +35,7 @@ loop-again c =
 returns-2 : tie.Need-returns-2 invariant-loop decreases-loop
 returns-2 c =
     let l = c.before in
-    let z = first-end not_plain l.before.before.args.bytes.now l.loop.i (omega arith) in
+    let z = first_end not_plain l.before.before.args.bytes.now l.loop.i (omega arith) in
     omega arith
 
 pub plain-run-spec : {M : Type 1} → statement M

@@ -5,7 +5,7 @@ use mathlib.Core.Path.{◌≡◌, refl, sym, ap, ◌∙◌}
 use mathlib.Core.Bool.{true}
 use lib.ListN.{length, drop}
 use Rattle.alphabet.specs.Digits.{all_digits, counted}
-use Rattle.alphabet.proofs.DigitLaws.{digits-here, counted_next, counted-end, counted-least}
+use Rattle.alphabet.proofs.DigitLaws.{digits_here, counted_next, counted_end, counted_least}
 use native.Mathlib.Omega.{arith}
 use Rattle.numbers.proofs.digits.count_on.Statement.{statement}
 use Rattle.numbers.proofs.digits.count_on.Tie as tie
@@ -29,19 +29,19 @@ step c =
     let s = a.bytes.now in
     let n = l.loop.n in
     let i = l.loop.i in
-    let d = digits-here s i (omega arith) l.loop.invariant.1 in
+    let d = digits_here s i (omega arith) l.loop.invariant.1 in
     let d0 = d.0 in
     let e = c.wide.ensures in
     let next = n * 10 + (c.wide.result - 48) in
     let q = l.loop.invariant.2 ∙ counted_next s i (omega arith) n ∙ ap (λ (b : ℕ). counted (n * 10 + (b - 48)) (drop (i + 1) s)) (sym e) in
-    let least = counted-least next (drop (i + 1) s) in
+    let least = counted_least next (drop (i + 1) s) in
     let most = l.before.before.requires.1 in
     (omega arith, d.2, q, omega arith)
 
 returns : tie.Need-returns invariant-loop decreases-loop
 returns c =
     let l = c.before in
-    sym (l.loop.invariant.2 ∙ counted-end l.before.before.args.bytes.now l.loop.i l.loop.n (omega arith))
+    sym (l.loop.invariant.2 ∙ counted_end l.before.before.args.bytes.now l.loop.i l.loop.n (omega arith))
 
 pub count-on-spec : {M : Type 1} → statement M
 count-on-spec =

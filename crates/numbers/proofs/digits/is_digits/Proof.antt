@@ -5,7 +5,7 @@ use mathlib.Core.Path.{◌≡◌, refl, sym, ◌∙◌}
 use lib.ListN.{length, drop}
 use borrow.Author.Tests.{not-true, not-false}
 use Rattle.alphabet.specs.Digits.{all_digits}
-use Rattle.alphabet.proofs.DigitLaws.{digits-end, digits-next, digits-not}
+use Rattle.alphabet.proofs.DigitLaws.{digits_end, digits_next, digits_not}
 use native.Mathlib.Omega.{arith}
 use Rattle.numbers.proofs.digits.is_digits.Statement.{statement}
 use Rattle.numbers.proofs.digits.is_digits.Tie as tie
@@ -20,18 +20,18 @@ returns : tie.Need-returns invariant-loop decreases-loop
 returns c =
     let l = c.before.before.before.before in
     let s = l.before.before.args.bytes.now in
-    sym (l.loop.invariant.1 ∙ digits-not s l.loop.i (omega arith) (sym c.before.is_digit.ensures ∙ not-true _ c.if1.true))
+    sym (l.loop.invariant.1 ∙ digits_not s l.loop.i (omega arith) (sym c.before.is_digit.ensures ∙ not-true _ c.if1.true))
 
 loop-again : tie.Need-loop-preserved invariant-loop decreases-loop
 loop-again c =
     let l = c.before.before.before.before in
     let s = l.before.before.args.bytes.now in
-    (omega arith, l.loop.invariant.1 ∙ digits-next s l.loop.i (omega arith) (sym c.before.is_digit.ensures ∙ not-false _ c.if1.false))
+    (omega arith, l.loop.invariant.1 ∙ digits_next s l.loop.i (omega arith) (sym c.before.is_digit.ensures ∙ not-false _ c.if1.false))
 
 returns-2 : tie.Need-returns-2 invariant-loop decreases-loop
 returns-2 c =
     let l = c.before in
-    sym (l.loop.invariant.1 ∙ digits-end l.before.before.args.bytes.now l.loop.i (omega arith))
+    sym (l.loop.invariant.1 ∙ digits_end l.before.before.args.bytes.now l.loop.i (omega arith))
 
 pub is-digits-spec : {M : Type 1} → statement M
 is-digits-spec =

@@ -9,7 +9,7 @@ use lib.ListN.{length, get_or}
 use borrow.Author.Tests.{not-false}
 use Rattle.alphabet.specs.Bytes.{digit}
 use Rattle.numbers.specs.Plain.{Leads}
-use Rattle.numbers.proofs.NumberLaws.{leads-next}
+use Rattle.numbers.proofs.NumberLaws.{leads_next}
 use Rattle.numbers.proofs.digits.leading_digits.Statement.{statement}
 use Rattle.numbers.proofs.digits.leading_digits.Tie as tie
 
@@ -22,7 +22,7 @@ decreases-loop bytes i₀ i = length bytes - i
 loop-again : tie.Need-loop-preserved invariant-loop decreases-loop
 loop-again c =
     let l = c.before.before.before.before in
-    leads-next l.before.before.args.bytes.now l.loop.i l.loop.invariant c.before.before.before.loop-test.true (sym c.before.is_digit.ensures ∙ not-false _ c.if1.false)
+    leads_next l.before.before.args.bytes.now l.loop.i l.loop.invariant c.before.before.before.loop-test.true (sym c.before.is_digit.ensures ∙ not-false _ c.if1.false)
 
 pub leading-digits-spec : {M : Type 1} → statement M
 leading-digits-spec =

@@ -5,13 +5,13 @@ use Prim.Native.Nat.{ℕ, ◌≤◌}
 use lib.Dec.{eqb}
 use lib.ListN.{length, take}
 use lib.Seq.{length-take-le}
-use Rattle.alphabet.proofs.ListLaws.{first-le}
+use Rattle.alphabet.proofs.ListLaws.{first_le}
 use native.Mathlib.Omega.{arith}
 use Rattle.numbers.proofs.numerals.before_point.Statement.{statement}
 use Rattle.numbers.proofs.numerals.before_point.Tie as tie
 
 within : (c : tie.After-find-mark) → c.find-mark.result ≤ length c.before.before.args.bytes.now
-within c = let u = first-le (eqb 46) c.before.before.args.bytes.now in omega (arith, c.find-mark.ensures)
+within c = let u = first_le (eqb 46) c.before.before.args.bytes.now in omega (arith, c.find-mark.ensures)
 
 pub before-point-spec : {M : Type 1} → statement M
 before-point-spec =

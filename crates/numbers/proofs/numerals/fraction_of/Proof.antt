@@ -5,13 +5,13 @@ use Prim.Native.Nat.{ℕ, ◌+◌, ◌≤◌}
 use lib.Dec.{eqb}
 use lib.ListN.{length, drop, drop_of_length-le}
 use Rattle.alphabet.specs.Lists.{find}
-use Rattle.alphabet.proofs.ListLaws.{first-le, rest_of}
+use Rattle.alphabet.proofs.ListLaws.{first_le, rest_of}
 use native.Mathlib.Omega.{arith}
 use Rattle.numbers.proofs.numerals.fraction_of.Statement.{statement}
 use Rattle.numbers.proofs.numerals.fraction_of.Tie as tie
 
 within : (c : tie.After-find-mark) → c.find-mark.result ≤ length c.before.before.args.bytes.now
-within c = let u = first-le (eqb 46) c.before.before.args.bytes.now in omega (arith, c.find-mark.ensures)
+within c = let u = first_le (eqb 46) c.before.before.args.bytes.now in omega (arith, c.find-mark.ensures)
 
 returns : tie.Need-returns
 returns c =

@@ -4,7 +4,7 @@ use Prim.Native.Nat.{◌≤◌, ◌+◌}
 use mathlib.Core.Path.{◌≡◌, sym, ap, ◌∙◌}
 use mathlib.Core.Logic.{inl, inr}
 use native.Mathlib.Omega.{arith}
-use Rattle.alphabet.proofs.BoolLaws.{false-true}
+use Rattle.alphabet.proofs.BoolLaws.{false_true}
 use Rattle.alphabet.proofs.ListLaws.{rest_of}
 use Rattle.numbers.specs.Numbers.{some_digits}
 use Rattle.numbers.specs.Plain.{PlainNumber}
@@ -30,12 +30,12 @@ pub is-usual-spec : {M : Type 1} → statement M
 is-usual-spec =
     tie.close
     (tie.spec
-    (λ c e. false-true e)
+    (λ c e. false_true e)
     (λ c κs. search rules)
-    (λ c e. false-true e)
+    (λ c e. false_true e)
     returns-3
     (λ c. search rules)
-    (λ c e. false-true e)
+    (λ c e. false_true e)
     (λ c. search rules)
     (λ c. search rules)
     (λ c. search rules)

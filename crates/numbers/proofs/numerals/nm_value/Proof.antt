@@ -8,10 +8,10 @@ use Prim.Native.Nat.{ℕ}
 use mir.Syntax.{w64}
 use mir.Val.{SFits}
 use mir.Facts.{to_z-of_z}
-use Rattle.alphabet.proofs.DigitLaws.{counted-least}
+use Rattle.alphabet.proofs.DigitLaws.{counted_least}
 use Rattle.alphabet.specs.Digits.{all_digits, counted, decimal}
 use Rattle.numbers.specs.Numbers.{unsigned, before_point, fraction, signed}
-use Rattle.numbers.proofs.NumberLaws.{nm-before, nm-fraction, nm-below, nm_value_lem, nm-fits}
+use Rattle.numbers.proofs.NumberLaws.{nm_before, nm_fraction, nm_below, nm_value_lem, nm_fits}
 use native.Mathlib.Omega.{arith}
 use Rattle.numbers.proofs.numerals.nm_value.Statement.{statement}
 use Rattle.numbers.proofs.numerals.nm_value.Tie as tie
@@ -33,25 +33,25 @@ count-on-requires : tie.Need-count-on-requires
 count-on-requires c κs =
     let l = c.before.before.before.args.bytes.now in
     let w = whole_is c in
-    let b = nm-below l c.before.before.before.requires in
-    let m = counted-least (decimal (before_point (unsigned l))) (fraction (unsigned l)) in
+    let b = nm_below l c.before.before.before.requires in
+    let m = counted_least (decimal (before_point (unsigned l))) (fraction (unsigned l)) in
     let e = ap (λ (l : List ℕ). counted 0 l) w in
     let k : 10 ^ 18 < 2 ^ 64 = lit< tt in
-    (ap all_digits w ∙ nm-before l c.before.before.before.requires, omega arith)
+    (ap all_digits w ∙ nm_before l c.before.before.before.requires, omega arith)
 
 count-on-requires-2 : tie.Need-count-on-requires-2
 count-on-requires-2 c κs =
     let l = c.before.before.before.before.before.args.bytes.now in
     let f = fraction-is c in
-    let b = nm-below l c.before.before.before.before.before.requires in
+    let b = nm_below l c.before.before.before.before.before.requires in
     let e = ap (counted c.before.count-on.result) f ∙ ap (λ (n : ℕ). counted n (fraction (unsigned l))) (count-is c.before) in
     let k : 10 ^ 18 < 2 ^ 64 = lit< tt in
-    (ap all_digits f ∙ nm-fraction l c.before.before.before.before.before.requires, omega arith)
+    (ap all_digits f ∙ nm_fraction l c.before.before.before.before.before.requires, omega arith)
 
 signed-number-requires : tie.Need-signed-number-requires
 signed-number-requires c κs =
     let e = number_is c.before in
-    let b = nm-below c.before.before.before.before.before.before.before.args.bytes.now c.before.before.before.before.before.before.before.requires in
+    let b = nm_below c.before.before.before.before.before.before.before.args.bytes.now c.before.before.before.before.before.before.before.requires in
     omega arith
 
 returns : tie.Need-returns
@@ -59,7 +59,7 @@ returns c =
     let l = c.before.before.before.before.before.before.before.before.args.bytes.now in
     let e = c.signed-number.ensures ∙ ap (λ (n : ℕ). signed (eqb c.before.byte_at.result 45) n) (number_is c.before.before)
     ∙ ap (λ (b : ℕ). signed (eqb b 45) (counted (decimal (before_point (unsigned l))) (fraction (unsigned l)))) c.before.byte_at.ensures ∙ sym (nm_value_lem l) in
-    to_z-of_z (subst (SFits w64) (sym e) (nm-fits l c.before.before.before.before.before.before.before.before.requires)) ∙ e
+    to_z-of_z (subst (SFits w64) (sym e) (nm_fits l c.before.before.before.before.before.before.before.before.requires)) ∙ e
 
 pub nm-value-spec : {M : Type 1} → statement M
 nm-value-spec =

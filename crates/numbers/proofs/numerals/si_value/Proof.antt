@@ -4,14 +4,14 @@ use Prim.Native.Nat.{◌<◌, ◌^◌}
 use lib.Dec.{lit<}
 use mathlib.Core.Path.{sym, ◌∙◌}
 use borrow.Author.Tests.{not-true, not-false}
-use Rattle.numbers.proofs.NumberLaws.{si_value_lem, si-none, si-digits}
+use Rattle.numbers.proofs.NumberLaws.{si_value_lem, si_none, si_digits}
 use native.Mathlib.Omega.{arith}
 use Rattle.numbers.proofs.numerals.si_value.Statement.{statement}
 use Rattle.numbers.proofs.numerals.si_value.Tie as tie
 
 count-on-requires : tie.Need-count-on-requires
 count-on-requires c κs =
-    let d = si-digits c.before.before.before.args.bytes.now (sym c.before.is-si.ensures ∙ not-false _ c.if1.false) in
+    let d = si_digits c.before.before.before.args.bytes.now (sym c.before.is-si.ensures ∙ not-false _ c.if1.false) in
     let b = d.1 in
     let k : 10 ^ 18 < 2 ^ 64 = lit< tt in
     (d.0, omega arith)
@@ -26,6 +26,6 @@ si-value-spec =
     tie.close
     (tie.spec
     (λ c κs. search rules)
-    (λ c. sym (si-none c.before.before.before.args.bytes.now (sym c.before.is-si.ensures ∙ not-true _ c.if1.true)))
+    (λ c. sym (si_none c.before.before.before.args.bytes.now (sym c.before.is-si.ensures ∙ not-true _ c.if1.true)))
     count-on-requires
     returns-2)

@@ -1,6 +1,6 @@
 -- Rests on the laws of the sign applied: within 18 digits nothing wraps.
 use borrow.Author.Rules.{rules}
-use Rattle.numbers.proofs.NumberLaws.{plain_is, minus-fits, minus_back}
+use Rattle.numbers.proofs.NumberLaws.{plain_is, minus_fits, minus_back}
 use Rattle.numbers.proofs.numerals.signed_number.Statement.{statement}
 use Rattle.numbers.proofs.numerals.signed_number.Tie as tie
 
@@ -15,6 +15,6 @@ signed-number-spec =
     tie.close
     (tie.spec
     (λ c. search rules)
-    (λ c. minus-fits c.before.args.number c.before.requires)
+    (λ c. minus_fits c.before.args.number c.before.requires)
     returns
     returns-2)

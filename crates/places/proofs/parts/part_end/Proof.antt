@@ -6,7 +6,7 @@ use lib.ListN.{length, drop, length-drop}
 use mathlib.Core.Path.{ap, ◌∙◌}
 use lib.Dec.{eqb}
 use Rattle.alphabet.specs.Lists.{find}
-use Rattle.alphabet.proofs.ListLaws.{rest_of, first-le}
+use Rattle.alphabet.proofs.ListLaws.{rest_of, first_le}
 use Rattle.places.proofs.parts.part_end.Statement.{statement}
 use Rattle.places.proofs.parts.part_end.Tie as tie
 
@@ -16,7 +16,7 @@ within c =
     let a = c.before.before.before.args in
     let s = drop a.start a.bytes.now in
     let e = c.find.ensures ∙ ap (find a.separator) (rest_of a.bytes.now a.start) in
-    let u = first-le (eqb a.separator) s in
+    let u = first_le (eqb a.separator) s in
     let n = length-drop a.start a.bytes.now in
     omega arith
 

@@ -7,7 +7,7 @@ use native.Mathlib.Omega.{arith}
 use borrow.Author.Rules.{rules}
 use borrow.Author.Tests.{eq-eqb, ne_eqb}
 use Rattle.alphabet.specs.Lists.{find}
-use Rattle.alphabet.proofs.ListLaws.{first-le, first_reached, first_next}
+use Rattle.alphabet.proofs.ListLaws.{first_le, first_reached, first_next}
 use Rattle.plain.proofs.runs.place_of.Statement.{statement}
 use Rattle.plain.proofs.runs.place_of.Tie as tie
 
@@ -44,7 +44,7 @@ returns-6 c =
     let a = c.before.before.before.before.before in
     let n = size a in
     let k = past-5 c in
-    let m = first-le (eqb a.args.b) a.args.t1 in
+    let m = first_le (eqb a.args.b) a.args.t1 in
     omega arith
 
 pub place-of-spec : {M : Type 1} → statement M

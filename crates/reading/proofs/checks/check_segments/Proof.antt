@@ -10,7 +10,7 @@ use Rattle.alphabet.specs.Answers.{or_else, in_order}
 use Rattle.alphabet.specs.Bytes.{carriage_return}
 use Rattle.alphabet.specs.Parts.{split}
 use Rattle.alphabet.specs.declared.answers.Check.{Check}
-use Rattle.alphabet.proofs.ListLaws.{first-le}
+use Rattle.alphabet.proofs.ListLaws.{first_le}
 use Rattle.alphabet.proofs.CheckLaws.{stops, goes_on}
 use Rattle.reading.specs.Segments.{all_but_last, segments}
 use Rattle.reading.specs.Reading.{segment_checks, segments_check}
@@ -38,7 +38,7 @@ inside c =
     let l = c.before.before in
     let m = l.before.before.before.args.message.now in
     let e = c.segment-end.ensures in
-    let u = first-le (eqb carriage_return) (drop l.loop.start m) in
+    let u = first_le (eqb carriage_return) (drop l.loop.start m) in
     let n = length-drop l.loop.start m in
     omega arith
 

@@ -5,7 +5,7 @@ use mathlib.Core.Path.{ap}
 use lib.Dec.{ltb}
 use lib.ListN.{length}
 use native.Mathlib.Omega.{arith}
-use Rattle.reading.proofs.SegmentLaws.{ended_past, ended-last}
+use Rattle.reading.proofs.SegmentLaws.{ended_past, ended_last}
 use Rattle.reading.proofs.segments.is_ended.Statement.{statement}
 use Rattle.reading.proofs.segments.is_ended.Tie as tie
 
@@ -13,7 +13,7 @@ returns : tie.Need-returns
 returns c = let a = c.before.before.args in ended_past a.message.now a.start c.if1.true
 
 returns-2 : tie.Need-returns-2
-returns-2 c = let a = c.before.before.before.before.args in ended-last a.message.now a.start (omega arith) c.if2.true
+returns-2 c = let a = c.before.before.before.before.args in ended_last a.message.now a.start (omega arith) c.if2.true
 
 returns-3 : tie.Need-returns-3
 returns-3 c =

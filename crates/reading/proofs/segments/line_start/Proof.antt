@@ -7,7 +7,7 @@ use borrow.Author.Rules.{rules}
 use Rattle.alphabet.specs.Bytes.{carriage_return}
 use Rattle.alphabet.specs.Lists.{find}
 use Rattle.alphabet.specs.Parts.{split, standing, part_at, began}
-use Rattle.alphabet.proofs.PartLaws.{standing-first, standing_walk, standing-none}
+use Rattle.alphabet.proofs.PartLaws.{standing_first, standing_walk, standing_none}
 use Rattle.reading.proofs.segments.line_start.Statement.{statement}
 use Rattle.reading.proofs.segments.line_start.Tie as tie
 
@@ -31,7 +31,7 @@ returns c =
     let n : a.index - l.loop.passed ≡ (a.index - l.loop.passed - 1) + 1 = omega arith in
     let e = c.before.segment-end.ensures in
     let d = length-drop l.loop.begin a.message.now in
-    ap began (sym (l.loop.invariant.3 ∙ ap (standing l.loop.begin (split carriage_return r)) n ∙ standing-none carriage_return l.loop.begin r (a.index - l.loop.passed - 1) (omega arith)))
+    ap began (sym (l.loop.invariant.3 ∙ ap (standing l.loop.begin (split carriage_return r)) n ∙ standing_none carriage_return l.loop.begin r (a.index - l.loop.passed - 1) (omega arith)))
 
 loop-again : tie.Need-loop-preserved invariant-loop decreases-loop
 loop-again c =
@@ -57,7 +57,7 @@ returns-2 c =
     let a = l.before.before.args in
     let r = drop l.loop.begin a.message.now in
     let n : a.index - l.loop.passed ≡ 0 = omega arith in
-    ap began (sym (l.loop.invariant.3 ∙ ap (standing l.loop.begin (split carriage_return r)) n ∙ standing-first carriage_return l.loop.begin r))
+    ap began (sym (l.loop.invariant.3 ∙ ap (standing l.loop.begin (split carriage_return r)) n ∙ standing_first carriage_return l.loop.begin r))
 
 pub line-start-spec : {M : Type 1} → statement M
 line-start-spec =

@@ -7,14 +7,14 @@ use lib.ListN.{length-drop, drop}
 use native.Mathlib.Omega.{arith}
 use Rattle.alphabet.specs.Bytes.{carriage_return}
 use Rattle.alphabet.specs.Lists.{find}
-use Rattle.alphabet.proofs.ListLaws.{rest_of, first-end, first-le}
+use Rattle.alphabet.proofs.ListLaws.{rest_of, first_end, first_le}
 use Rattle.reading.proofs.segments.segment_end.Statement.{statement}
 use Rattle.reading.proofs.segments.segment_end.Tie as tie
 
 returns : tie.Need-returns
 returns c =
     let a = c.before.before.args in
-    let z = first-end (eqb carriage_return) a.message.now a.start c.if1.true in
+    let z = first_end (eqb carriage_return) a.message.now a.start c.if1.true in
     omega arith
 
 found : (c : tie.After-find-return) → c.find-return.result ≡ find carriage_return (drop c.before.before.before.before.args.start c.before.before.before.before.args.message.now)
@@ -26,7 +26,7 @@ add-result : tie.Need-overflow-add-result
 add-result c =
     let a = c.before.before.before.before.args in
     let e = found c in
-    let u = first-le (eqb carriage_return) (drop a.start a.message.now) in
+    let u = first_le (eqb carriage_return) (drop a.start a.message.now) in
     let n = length-drop a.start a.message.now in
     omega arith
 

@@ -8,7 +8,7 @@ use Rattle.alphabet.specs.declared.answers.Check.TheVariants.{Passes}
 use Rattle.element.specs.States.{state_of, is_present}
 use Rattle.element.specs.declared.states.State.{State}
 use Rattle.rules.specs.Rules.{form_check, judged_part, placed, sent_check, own_check}
-use Rattle.rules.proofs.RuleLaws.{passing-placed, repetition-other, repetition-present}
+use Rattle.rules.proofs.RuleLaws.{passing_placed, repetition_other, repetition_present}
 use Rattle.rules.proofs.checks.check_own.Statement.{statement}
 use Rattle.rules.proofs.checks.check_own.Tie as tie
 
@@ -34,7 +34,7 @@ returns-2 c =
     let s = p.before.before.before in
     let a = s.before.before.before.before.args in
     goes_on (sent s) p.before.enum_told.given.1
-    (sym (repetition-other a.delimiters.bytes a.row.component a.row.kind 1 a.first.now s.before.before.judged-part.result.now s.before.before.judged-part.ensures
+    (sym (repetition_other a.delimiters.bytes a.row.component a.row.kind 1 a.first.now s.before.before.judged-part.result.now s.before.before.judged-part.ensures
     (sym (p.is_present_lem.ensures ∙ ap is_present s.before.state-of.ensures) ∙ not-true _ c.if1.true)))
 
 -- the part is present: the form decides
@@ -50,13 +50,13 @@ present c x e =
     let a = s.before.before.before.before.args in
     goes_on (sent s) p.before.enum_told.given.1
     (e
-    ∙ sym (repetition-present a.delimiters.bytes a.row.component a.row.kind 1 a.first.now s.before.before.judged-part.result.now s.before.before.judged-part.ensures
+    ∙ sym (repetition_present a.delimiters.bytes a.row.component a.row.kind 1 a.first.now s.before.before.judged-part.result.now s.before.before.judged-part.ensures
     (sym (p.is_present_lem.ensures ∙ ap is_present s.before.state-of.ensures) ∙ not-false _ c.before.if1.false)))
 
 returns-3 : tie.Need-returns-3
 returns-3 c =
     let s = c.before.before.before.before.before.before in
-    present c.before Passes (sym (passing-placed 1 (form_check s.before.before.before.before.args.row.kind s.before.before.judged-part.result.now) (sym c.before.has-form.ensures ∙ c.if2.true)))
+    present c.before Passes (sym (passing_placed 1 (form_check s.before.before.before.before.args.row.kind s.before.before.judged-part.result.now) (sym c.before.has-form.ensures ∙ c.if2.true)))
 
 returns-4 : tie.Need-returns-4
 returns-4 c = present c.before.before.before _ (c.placed.ensures ∙ ap (placed 1) c.before.check-form.ensures)

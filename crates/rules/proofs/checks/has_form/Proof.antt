@@ -9,7 +9,7 @@ use Rattle.alphabet.specs.declared.answers.Check.{Check}
 use Rattle.alphabet.specs.declared.answers.Refusal.TheVariants.{BreaksForm, NotListed, ValueTooLong}
 use Rattle.rules.specs.Rules.{form_check, passing}
 use Rattle.field_table.specs.declared.Kind.{Kind}
-use Rattle.rules.proofs.RuleLaws.{passing-not, passing-most}
+use Rattle.rules.proofs.RuleLaws.{passing_not, passing_most}
 use Rattle.rules.proofs.checks.has_form.Statement.{statement}
 use Rattle.rules.proofs.checks.has_form.Tie as tie
 
@@ -21,20 +21,20 @@ returns-2 : tie.Need-returns-2
 unfolding form_check
 returns-2 c =
     let a = c.before.before.before.before.args in
-    ap (leb (length a.bytes.now)) c.id-limit.ensures ∙ sym (passing-most _ (length a.bytes.now) ValueTooLong 0)
+    ap (leb (length a.bytes.now)) c.id-limit.ensures ∙ sym (passing_most _ (length a.bytes.now) ValueTooLong 0)
     ∙ sym (ap (λ (k : Kind). passing (form_check k a.bytes.now)) c.before.enum-told2.given.1)
 
 returns-3 : tie.Need-returns-3
 unfolding form_check
 returns-3 c =
     let a = c.before.before.before.before.args in
-    c.is-ts.ensures ∙ sym (passing-not _ BreaksForm 0) ∙ sym (ap (λ (k : Kind). passing (form_check k a.bytes.now)) c.before.enum-told3.given.1)
+    c.is-ts.ensures ∙ sym (passing_not _ BreaksForm 0) ∙ sym (ap (λ (k : Kind). passing (form_check k a.bytes.now)) c.before.enum-told3.given.1)
 
 returns-4 : tie.Need-returns-4
 unfolding form_check
 returns-4 c =
     let a = c.before.before.before.before.args in
-    c.is-si.ensures ∙ sym (passing-not _ BreaksForm 0) ∙ sym (ap (λ (k : Kind). passing (form_check k a.bytes.now)) c.before.enum-told4.given.1)
+    c.is-si.ensures ∙ sym (passing_not _ BreaksForm 0) ∙ sym (ap (λ (k : Kind). passing (form_check k a.bytes.now)) c.before.enum-told4.given.1)
 
 returns-5 : tie.Need-returns-5
 unfolding form_check
@@ -46,19 +46,19 @@ returns-6 : tie.Need-returns-6
 unfolding form_check
 returns-6 c =
     let a = c.before.before.before.before.args in
-    c.is-dt.ensures ∙ sym (passing-not _ BreaksForm 0) ∙ sym (ap (λ (k : Kind). passing (form_check k a.bytes.now)) c.before.enum-told6.given.1)
+    c.is-dt.ensures ∙ sym (passing_not _ BreaksForm 0) ∙ sym (ap (λ (k : Kind). passing (form_check k a.bytes.now)) c.before.enum-told6.given.1)
 
 returns-7 : tie.Need-returns-7
 unfolding form_check
 returns-7 c =
     let a = c.before.before.before.before.args in
-    c.is-tm.ensures ∙ sym (passing-not _ BreaksForm 0) ∙ sym (ap (λ (k : Kind). passing (form_check k a.bytes.now)) c.before.enum-told7.given.1)
+    c.is-tm.ensures ∙ sym (passing_not _ BreaksForm 0) ∙ sym (ap (λ (k : Kind). passing (form_check k a.bytes.now)) c.before.enum-told7.given.1)
 
 returns-8 : tie.Need-returns-8
 unfolding form_check
 returns-8 c =
     let a = c.before.before.before.before.before.args in
-    c.is-listed.ensures ∙ sym (passing-not _ NotListed 0) ∙ sym (ap (λ (k : Kind). passing (form_check k a.bytes.now)) c.before.before.kind.given.1)
+    c.is-listed.ensures ∙ sym (passing_not _ NotListed 0) ∙ sym (ap (λ (k : Kind). passing (form_check k a.bytes.now)) c.before.before.kind.given.1)
 
 returns-9 : tie.Need-returns-9
 unfolding form_check

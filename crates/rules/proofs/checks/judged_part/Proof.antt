@@ -8,7 +8,7 @@ use lib.ListN.{length, get_or, take, drop}
 use lib.Seq.{length-take-le}
 use native.Mathlib.Omega.{arith}
 use Rattle.alphabet.specs.Parts.{split}
-use Rattle.alphabet.proofs.ListLaws.{first-le}
+use Rattle.alphabet.proofs.ListLaws.{first_le}
 use Rattle.alphabet.proofs.PartLaws.{part_bytes_lem, past_none, none_past}
 use Rattle.rules.proofs.RuleLaws.{part_whole, part_first, part_component}
 use Rattle.rules.proofs.checks.judged_part.Statement.{statement}
@@ -49,7 +49,7 @@ returns c = let a = c.before.before.args in part_whole a.delimiters.bytes a.repe
 within : (c : tie.After-find-by-words) → c.find-by-words.result ≤ length c.before.before.before.before.before.args.repetition.now
 within c =
     let a = c.before.before.before.before.before.args in
-    let u = first-le (eqb (get_or a.delimiters.bytes 1 0)) a.repetition.now in
+    let u = first_le (eqb (get_or a.delimiters.bytes 1 0)) a.repetition.now in
     omega (arith, c.find-by-words.ensures)
 
 returns-2 : tie.Need-returns-2

@@ -11,7 +11,7 @@ use native.Mathlib.Omega.{arith}
 use Rattle.alphabet.specs.Parts.{split}
 use Rattle.rules.specs.Rules.{some_present}
 use Rattle.alphabet.proofs.PartLaws.{walk_in, walk_more, walk_last}
-use Rattle.rules.proofs.RuleLaws.{present-here, present_past, present-none}
+use Rattle.rules.proofs.RuleLaws.{present_here, present_past, present_none}
 use Rattle.rules.proofs.checks.some_present.Statement.{statement}
 use Rattle.rules.proofs.checks.some_present.Tie as tie
 
@@ -54,8 +54,8 @@ module _ (c : tie.After-is-present invariant-loop decreases-loop) where
   here e = at (eqb end (length field)) refl
     where
       at : (t : Bool) → eqb end (length field) ≡ t → some_present ds (split sep field) ≡ true
-      at true q = last (eqb-true _ _ q) ∙ present-here ds _ _ (sym c.is_present_lem.ensures ∙ e)
-      at false q = more (eqb-false _ _ q) ∙ present-here ds _ _ (sym c.is_present_lem.ensures ∙ e)
+      at true q = last (eqb-true _ _ q) ∙ present_here ds _ _ (sym c.is_present_lem.ensures ∙ e)
+      at false q = more (eqb-false _ _ q) ∙ present_here ds _ _ (sym c.is_present_lem.ensures ∙ e)
 
 returns : tie.Need-returns invariant-loop decreases-loop
 returns c = sym (here c.before c.if1.true)
@@ -63,7 +63,7 @@ returns c = sym (here c.before c.if1.true)
 returns-2 : tie.Need-returns-2 invariant-loop decreases-loop
 returns-2 c =
     let s = c.before.before in
-    sym (last s c.if2.true ∙ present_past (ds s) _ [] (sym s.is_present_lem.ensures ∙ c.before.if1.false) ∙ present-none (ds s))
+    sym (last s c.if2.true ∙ present_past (ds s) _ [] (sym s.is_present_lem.ensures ∙ c.before.if1.false) ∙ present_none (ds s))
 
 loop-again : tie.Need-loop-preserved invariant-loop decreases-loop
 loop-again c =

@@ -6,17 +6,17 @@ use lib.ListN.{get_or}
 use borrow.Author.Tests.{not-true}
 use Rattle.alphabet.specs.Answers.{in_order}
 use Rattle.alphabet.specs.Parts.{split}
-use Rattle.alphabet.proofs.BoolLaws.{false-true}
+use Rattle.alphabet.proofs.BoolLaws.{false_true}
 use Rattle.field_table.specs.declared.Kind.{Kind}
 use Rattle.rules.specs.Rules.{repetition_checks}
-use Rattle.rules.proofs.PlainRowLaws.{row-none, own-plain, any_checks}
+use Rattle.rules.proofs.PlainRowLaws.{row_none, own_plain, any_checks}
 use Rattle.rules.proofs.plain.is_plain.Statement.{statement}
 use Rattle.rules.proofs.plain.is_plain.Tie as tie
 
 returns : tie.Need-returns
 returns c e permits own said =
     let a = c.before.before.before.args in
-    row-none a.delimiters.bytes a.row said a.field.now c.before.if1.true (not-true _ e)
+    row_none a.delimiters.bytes a.row said a.field.now c.before.if1.true (not-true _ e)
 
 returns-3 : tie.Need-returns-3
 returns-3 c e permits own =
@@ -32,14 +32,14 @@ returns-5 : tie.Need-returns-5
 returns-5 c e permits own said =
     let a = c.before.before.before.before.before.before.args in
     let w = c.is-plain-form.ensures e in
-    own-plain a.delimiters.bytes permits a.row said a.field.now w.0 (omega arith) own w.1
+    own_plain a.delimiters.bytes permits a.row said a.field.now w.0 (omega arith) own w.1
 
 pub is-plain-spec : {M : Type 1} → statement M
 is-plain-spec =
     tie.close
     (tie.spec
     returns
-    (λ c e. false-true e)
+    (λ c e. false_true e)
     (λ c. search rules)
     (λ c κs. omega arith)
     (λ c. search rules)

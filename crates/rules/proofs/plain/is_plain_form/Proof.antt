@@ -2,12 +2,12 @@
 use borrow.Author.Rules.{rules}
 use mathlib.Core.Path.{sym, ap, ◌∙◌}
 use Rattle.alphabet.specs.declared.answers.Refusal.TheVariants.{BreaksForm, NotListed}
-use Rattle.alphabet.proofs.BoolLaws.{false-true}
+use Rattle.alphabet.proofs.BoolLaws.{false_true}
 use Rattle.field_table.specs.declared.Kind.{Kind}
 use Rattle.forms.specs.declared.layouts.Form.TheVariants.{Ts}
 use Rattle.rules.specs.Rules.{form_check, passing}
-use Rattle.rules.proofs.RuleLaws.{passing-not}
-use Rattle.rules.proofs.PlainLaws.{si-plain, time_plain, listed_plain}
+use Rattle.rules.proofs.RuleLaws.{passing_not}
+use Rattle.rules.proofs.PlainLaws.{si_plain, time_plain, listed_plain}
 use Rattle.rules.proofs.plain.is_plain_form.Statement.{statement}
 use Rattle.rules.proofs.plain.is_plain_form.Tie as tie
 
@@ -17,7 +17,7 @@ returns c e =
     let a = c.before.before.before.before.args in
     let t = sym c.is-ts.ensures ∙ e in (
       time_plain Ts a.bytes.now t,
-      ap (λ (k : Kind). passing (form_check k a.bytes.now)) c.before.enum_told.given.1 ∙ passing-not _ BreaksForm 0 ∙ t,
+      ap (λ (k : Kind). passing (form_check k a.bytes.now)) c.before.enum_told.given.1 ∙ passing_not _ BreaksForm 0 ∙ t,
     )
 
 returns-2 : tie.Need-returns-2
@@ -25,8 +25,8 @@ unfolding form_check
 returns-2 c e =
     let a = c.before.before.before.before.args in
     let t = sym c.is-si.ensures ∙ e in (
-      si-plain a.bytes.now t,
-      ap (λ (k : Kind). passing (form_check k a.bytes.now)) c.before.enum-told2.given.1 ∙ passing-not _ BreaksForm 0 ∙ t,
+      si_plain a.bytes.now t,
+      ap (λ (k : Kind). passing (form_check k a.bytes.now)) c.before.enum-told2.given.1 ∙ passing_not _ BreaksForm 0 ∙ t,
     )
 
 returns-3 : tie.Need-returns-3
@@ -35,7 +35,7 @@ returns-3 c e =
     let a = c.before.before.before.before.before.args in
     let t = sym c.is-listed.ensures ∙ e in (
       listed_plain _ a.bytes.now t,
-      ap (λ (k : Kind). passing (form_check k a.bytes.now)) c.before.before.kind.given.1 ∙ passing-not _ NotListed 0 ∙ t,
+      ap (λ (k : Kind). passing (form_check k a.bytes.now)) c.before.before.kind.given.1 ∙ passing_not _ NotListed 0 ∙ t,
     )
 
 pub is-plain-form-spec : {M : Type 1} → statement M
@@ -51,4 +51,4 @@ is-plain-form-spec =
     returns
     returns-2
     returns-3
-    (λ c e. false-true e))
+    (λ c e. false_true e))

@@ -8,7 +8,7 @@ use lib.ListN.{length, get_or}
 use Rattle.alphabet.specs.Answers.{in_order}
 use Rattle.alphabet.specs.Limits.{id_limit}
 use Rattle.alphabet.specs.Parts.{split}
-use Rattle.alphabet.proofs.BoolLaws.{false-true}
+use Rattle.alphabet.proofs.BoolLaws.{false_true}
 use Rattle.field_table.specs.declared.Kind.{Kind}
 use Rattle.rules.specs.Rules.{is_said, repetition_checks}
 use Rattle.rules.proofs.PlainRowLaws.{short_identifier}
@@ -26,4 +26,4 @@ returns-2 c e k =
 
 pub is-plain-identifier-spec : {M : Type 1} → statement M
 is-plain-identifier-spec =
-    tie.close (tie.spec (λ c κs. search rules) (λ c e. false-true e) (λ c κs. c.before.before.before.requires) returns-2)
+    tie.close (tie.spec (λ c κs. search rules) (λ c e. false_true e) (λ c κs. c.before.before.before.requires) returns-2)

@@ -11,10 +11,10 @@ use lib.ListN.{length, get_or}
 use Rattle.alphabet.specs.Answers.{in_order}
 use Rattle.alphabet.specs.Parts.{split}
 use Rattle.alphabet.specs.declared.answers.Check.TheVariants.{Passes}
-use Rattle.alphabet.proofs.BoolLaws.{false-true, or_neither}
+use Rattle.alphabet.proofs.BoolLaws.{false_true, or_neither}
 use Rattle.element.specs.States.{blank}
 use Rattle.rules.specs.Rules.{is_said, repeated_check, repetition_checks, row_check}
-use Rattle.rules.proofs.PlainRowLaws.{row-sent, may_repeat, no_second}
+use Rattle.rules.proofs.PlainRowLaws.{row_sent, may_repeat, no_second}
 use Rattle.rules.proofs.plain.is_sent.Statement.{statement}
 use Rattle.rules.proofs.plain.is_sent.Tie as tie
 
@@ -28,7 +28,7 @@ begun c r k f said =
     let a = c.before.before.before.before.before.before.args in
     let b = or_neither (eqb (get_or a.field.now 0 0) 34) (blank a.delimiters.bytes (get_or a.field.now 0 0)) (sym c.before.is_open.ensures ∙ c.if2.false) in
     let h : 1 ≤ length a.field.now = omega arith in
-    row-sent a.delimiters.bytes a.row said a.field.now k c.before.before.before.if1.false h b.0 b.1 r f
+    row_sent a.delimiters.bytes a.row said a.field.now k c.before.before.before.if1.false h b.0 b.1 r f
 
 returns-3 : tie.Need-returns-3
 returns-3 c e =
@@ -45,10 +45,10 @@ pub is-sent-spec : {M : Type 1} → statement M
 is-sent-spec =
     tie.close
     (tie.spec
-    (λ c e. false-true e)
+    (λ c e. false_true e)
     (λ c. search rules)
     (λ c κs. search rules)
-    (λ c e. false-true e)
+    (λ c e. false_true e)
     returns-3
     (λ c. search rules)
     (λ c κs. search rules)

@@ -8,8 +8,8 @@ use lib.ListN.{length, take, drop}
 use lib.Seq.{length-take-le}
 use native.Mathlib.Omega.{arith}
 use Rattle.alphabet.specs.Lists.{first, either}
-use Rattle.alphabet.proofs.ListLaws.{first-le, first_block, rest_of}
-use Rattle.alphabet.proofs.BlockLaws.{first_from, first-inside}
+use Rattle.alphabet.proofs.ListLaws.{first_le, first_block, rest_of}
+use Rattle.alphabet.proofs.BlockLaws.{first_from, first_inside}
 use Rattle.search.proofs.both.find_two.Statement.{statement}
 use Rattle.search.proofs.both.find_two.Tie as tie
 
@@ -45,7 +45,7 @@ returns c =
     let f = c.before in
     let n = front f in
     let e = f.find-two-by-words.ensures in
-    e ∙ sym (first-inside (either (one f) (other f)) (s f) (near f) (omega (arith, c.if2.true)))
+    e ∙ sym (first_inside (either (one f) (other f)) (s f) (near f) (omega (arith, c.if2.true)))
 
 whole : (c : tie.After-find-two-far)
     → near c.before.before.before.before + c.find-two-far.result ≡ first (either (one c.before.before.before.before) (other c.before.before.before.before)) (s c.before.before.before.before)
@@ -58,7 +58,7 @@ fits : tie.Need-overflow-add-result
 fits c =
     let f = c.before.before.before.before in
     let e = whole c in
-    let m = first-le (either (one f) (other f)) (s f) in
+    let m = first_le (either (one f) (other f)) (s f) in
     omega arith
 
 pub find-two-spec : {M : Type 1} → statement M

@@ -5,7 +5,7 @@ use mathlib.Core.Path.{◌≡◌, sym, ap, ◌∙◌}
 use lib.ListN.{length, drop, length-drop}
 use native.Mathlib.Omega.{arith}
 use Rattle.alphabet.specs.Lists.{first, either}
-use Rattle.alphabet.proofs.ListLaws.{first-le, rest_of}
+use Rattle.alphabet.proofs.ListLaws.{first_le, rest_of}
 use Rattle.alphabet.proofs.BlockLaws.{first_from}
 use Rattle.search.proofs.both.find_two_far.Statement.{statement}
 use Rattle.search.proofs.both.find_two_far.Tie as tie
@@ -14,7 +14,7 @@ inside : (c : tie.After-before-either) → c.before-either.result ≤ length c.b
 inside c =
     let a = c.before.before.args in
     let h = c.before-either.ensures in
-    let m = first-le (either a.one a.other) a.bytes.now in
+    let m = first_le (either a.one a.other) a.bytes.now in
     omega arith
 
 -- the whole search, in its two halves
@@ -31,7 +31,7 @@ fits : tie.Need-overflow-add-result
 fits c =
     let a = c.before.before.before.before.args in
     let e = whole c in
-    let m = first-le (either a.one a.other) a.bytes.now in
+    let m = first_le (either a.one a.other) a.bytes.now in
     omega arith
 
 pub find-two-far-spec : {M : Type 1} → statement M

@@ -5,7 +5,7 @@ use lib.Dec.{eqb}
 use native.Mathlib.Omega.{arith}
 use borrow.Author.Rules.{rules}
 use Rattle.alphabet.specs.Lists.{find}
-use Rattle.alphabet.proofs.ListLaws.{first-le, rest_of}
+use Rattle.alphabet.proofs.ListLaws.{first_le, rest_of}
 use Rattle.alphabet.proofs.BlockLaws.{first_from}
 use Rattle.search.proofs.far.find_far.Statement.{statement}
 use Rattle.search.proofs.far.find_far.Tie as tie
@@ -13,7 +13,7 @@ use Rattle.search.proofs.far.find_far.Tie as tie
 sub-find-by-words : tie.Need-overflow-sub-find-by-words
 sub-find-by-words c =
     let a = c.before.before.args in
-    let m = first-le (eqb a.b) a.bytes.now in
+    let m = first_le (eqb a.b) a.bytes.now in
     let h = c.before-first.ensures in
     omega arith
 
@@ -29,7 +29,7 @@ add-result : tie.Need-overflow-add-result
 add-result c =
     let a = c.before.before.before.before.args in
     let r = returns c in
-    let m = first-le (eqb a.b) a.bytes.now in
+    let m = first_le (eqb a.b) a.bytes.now in
     omega arith
 
 pub find-far-spec : {M : Type 1} → statement M

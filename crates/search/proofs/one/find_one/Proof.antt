@@ -1,4 +1,4 @@
--- Rests on `first_block` and `first-inside`: a block without b is passed over whole, and in another the first one is found.
+-- Rests on `first_block` and `first_inside`: a block without b is passed over whole, and in another the first one is found.
 use Prim.Native.Nat.{ℕ, ◌≤◌, ◌+◌, ◌-◌}
 use mathlib.Core.Path.{◌≡◌, sym, ap, ◌∙◌}
 use lib.Dec.{eqb}
@@ -7,8 +7,8 @@ use native.Mathlib.Omega.{arith}
 use borrow.Author.Rules.{rules}
 use borrow.Author.Tests.{leb-true, leb-false, not-true, not-false}
 use Rattle.alphabet.specs.Lists.{find}
-use Rattle.alphabet.proofs.ListLaws.{first_block, first-le, rest_of}
-use Rattle.alphabet.proofs.BlockLaws.{block_size, first_from, first-inside}
+use Rattle.alphabet.proofs.ListLaws.{first_block, first_le, rest_of}
+use Rattle.alphabet.proofs.BlockLaws.{block_size, first_from, first_inside}
 use Rattle.search.proofs.one.find_one.Statement.{statement}
 use Rattle.search.proofs.one.find_one.Tie as tie
 
@@ -31,14 +31,14 @@ there c =
     let w = leb-false (length block) (find a.b block) (sym c.before.before.is-without.ensures ∙ not-true _ c.before.if1.true) in
     let e = c.find-within.ensures in
     let f = first_from (eqb a.b) s i l.loop.invariant.1 in
-    let g = first-inside (eqb a.b) (drop i s) (i + 32 - i) w in
+    let g = first_inside (eqb a.b) (drop i s) (i + 32 - i) w in
     omega arith
 
 add-result : tie.Need-overflow-add-result invariant-loop decreases-loop
 add-result c =
     let a = c.before.before.before.before.before.before.before.args in
     let r = there c in
-    let m = first-le (eqb a.b) a.bytes.now in
+    let m = first_le (eqb a.b) a.bytes.now in
     omega arith
 
 loop-again : tie.Need-loop-preserved invariant-loop decreases-loop
@@ -68,7 +68,7 @@ add-result-2 : tie.Need-overflow-add-result-2 invariant-loop decreases-loop
 add-result-2 c =
     let a = c.before.before.before.before.before.args in
     let r = rest c in
-    let m = first-le (eqb a.b) a.bytes.now in
+    let m = first_le (eqb a.b) a.bytes.now in
     omega arith
 
 pub find-one-spec : {M : Type 1} → statement M

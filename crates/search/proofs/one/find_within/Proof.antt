@@ -7,7 +7,7 @@ use native.Mathlib.Omega.{arith}
 use borrow.Author.Rules.{rules}
 use borrow.Author.Tests.{eq-eqb, ne_eqb}
 use Rattle.alphabet.specs.Lists.{find}
-use Rattle.alphabet.proofs.ListLaws.{first-le, first_reached, first_next}
+use Rattle.alphabet.proofs.ListLaws.{first_le, first_reached, first_next}
 use Rattle.search.proofs.one.find_within.Statement.{statement}
 use Rattle.search.proofs.one.find_within.Tie as tie
 
@@ -20,7 +20,7 @@ decreases-loop bytes b half i₀ i = length bytes - i
 loop-holds : tie.Need-loop-init invariant-loop decreases-loop
 loop-holds c =
     let a = c.before.before.before.args in
-    let k = first-le (eqb a.b) a.bytes.now in
+    let k = first_le (eqb a.b) a.bytes.now in
     let h = c.past2.ensures in
     (omega arith, h)
 
@@ -40,7 +40,7 @@ returns-2 : tie.Need-returns-2 invariant-loop decreases-loop
 returns-2 c =
     let a = c.before.before.before.before.before.args in
     let i = c.before.loop.invariant.1 in
-    let k = first-le (eqb a.b) a.bytes.now in
+    let k = first_le (eqb a.b) a.bytes.now in
     omega arith
 
 pub find-within-spec : {M : Type 1} → statement M

@@ -8,20 +8,20 @@ use native.Mathlib.Omega.{arith}
 use borrow.Author.Rules.{rules}
 use borrow.Author.Tests.{leb-true, not-false}
 use Rattle.alphabet.specs.Lists.{find}
-use Rattle.alphabet.proofs.ListLaws.{first-le, first_block}
+use Rattle.alphabet.proofs.ListLaws.{first_le, first_block}
 use Rattle.search.proofs.one.past.Statement.{statement}
 use Rattle.search.proofs.one.past.Tie as tie
 
 sub-if1 : tie.Need-overflow-sub-if1
 sub-if1 c =
     let a = c.before.args in
-    let k = first-le (eqb a.b) a.bytes.now in
+    let k = first_le (eqb a.b) a.bytes.now in
     omega (arith, c.before.requires)
 
 part-is-without-end : tie.Need-slice-bounds-is-without-end
 part-is-without-end c =
     let a = c.before.before.args in
-    let k = first-le (eqb a.b) a.bytes.now in
+    let k = first_le (eqb a.b) a.bytes.now in
     omega (arith, c.before.before.requires)
 
 returns-3 : tie.Need-returns-3
@@ -33,7 +33,7 @@ returns-3 c =
     let e : n ≡ a.n = omega arith in
     let p : i ≤ find a.b s = c.before.before.before.before.before.requires in
     let d = length-drop i s in
-    let f = first-le (eqb a.b) s in
+    let f = first_le (eqb a.b) s in
     let k = length-take-le n (drop i s) (omega arith) in
     let w = leb-true (length (take n (drop i s))) (find a.b (take n (drop i s))) (sym c.before.is-without.ensures ∙ not-false _ c.if2.false) in
     let g = first_block (eqb a.b) s i n (omega arith) p (omega arith) in

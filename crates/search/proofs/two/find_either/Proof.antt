@@ -5,7 +5,7 @@ use lib.ListN.{length, drop}
 use native.Mathlib.Omega.{arith}
 use borrow.Author.Rules.{rules}
 use Rattle.alphabet.specs.Lists.{first, either}
-use Rattle.alphabet.proofs.ListLaws.{first-le, first_reached, first_next, rest_of}
+use Rattle.alphabet.proofs.ListLaws.{first_le, first_reached, first_next, rest_of}
 use Rattle.alphabet.proofs.BlockLaws.{first_from}
 use Rattle.search.specs.Two.{near}
 use Rattle.search.proofs.NearLaws.{near_sooner}
@@ -32,7 +32,7 @@ returns c =
     let k = c.before.before in
     let a = k.before.before.before.args in
     let n = sooner k in
-    let m = first-le (either a.one a.other) a.bytes.now in
+    let m = first_le (either a.one a.other) a.bytes.now in
     let w = c.before.is-far-behind.ensures c.if1.true k.before-near.ensures in
     omega arith
 
@@ -41,7 +41,7 @@ sub-before-either c =
     let k = c.before.before in
     let a = k.before.before.before.args in
     let n = sooner k in
-    let m = first-le (either a.one a.other) a.bytes.now in
+    let m = first_le (either a.one a.other) a.bytes.now in
     let h = k.before-near.ensures in
     omega arith
 
@@ -65,14 +65,14 @@ reached c =
 add-i : tie.Need-overflow-add-i invariant-loop decreases-loop
 add-i c =
     let a = c.before.before.before.before.before.before.before.args in
-    let m = first-le (either a.one a.other) a.bytes.now in
+    let m = first_le (either a.one a.other) a.bytes.now in
     let r = reached c in
     omega arith
 
 loop-holds : tie.Need-loop-init invariant-loop decreases-loop
 loop-holds c =
     let a = c.before.before.before.before.before.before.before.args in
-    let m = first-le (either a.one a.other) a.bytes.now in
+    let m = first_le (either a.one a.other) a.bytes.now in
     let r = reached c in
     (omega arith, r)
 
@@ -92,7 +92,7 @@ returns-3 : tie.Need-returns-3 invariant-loop decreases-loop
 returns-3 c =
     let a = c.before.before.before.before.before.before.before.before.before.args in
     let i = c.before.loop.invariant.1 in
-    let k = first-le (either a.one a.other) a.bytes.now in
+    let k = first_le (either a.one a.other) a.bytes.now in
     omega arith
 
 pub find-either-spec : {M : Type 1} → statement M

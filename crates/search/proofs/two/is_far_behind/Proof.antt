@@ -7,7 +7,7 @@ use lib.Seq.{length-take-le}
 use native.Mathlib.Omega.{arith}
 use Rattle.alphabet.specs.Lists.{first}
 use Rattle.search.specs.Two.{near}
-use Rattle.alphabet.proofs.BoolLaws.{false-true}
+use Rattle.alphabet.proofs.BoolLaws.{false_true}
 use Rattle.alphabet.proofs.ListLaws.{first_block}
 use Rattle.search.proofs.two.is_far_behind.Statement.{statement}
 use Rattle.search.proofs.two.is_far_behind.Tie as tie
@@ -32,9 +32,9 @@ is-far-behind-spec =
     tie.close
     (tie.spec
     returns
-    (λ c e h. false-true e)
+    (λ c e h. false_true e)
     (λ c. search rules)
-    (λ c e h. false-true e)
+    (λ c e h. false_true e)
     (λ c. search rules)
     (λ c. search rules)
     (λ c. search rules)

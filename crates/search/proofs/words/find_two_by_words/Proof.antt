@@ -1,4 +1,4 @@
--- Rests on `first-mark`: where a word has a mark the lowest is the first byte that is sought, and another word is passed over whole.
+-- Rests on `first_mark`: where a word has a mark the lowest is the first byte that is sought, and another word is passed over whole.
 use Prim.Native.Nat.{ℕ, ◌≤◌, ◌+◌, ◌-◌, ◌/◌}
 use mathlib.Core.Path.{◌≡◌, sym, ap, ◌∙◌}
 use lib.Count.{count_trailing_zeros, trailing_of_zero, trailing_le}
@@ -6,9 +6,9 @@ use lib.ListN.{length, take, drop}
 use native.Mathlib.Omega.{arith}
 use borrow.Author.Rules.{rules}
 use Rattle.alphabet.specs.Lists.{first, either}
-use Rattle.alphabet.proofs.ListLaws.{first_block, first-le, rest_of}
-use Rattle.alphabet.proofs.BlockLaws.{first_from, first-inside}
-use Rattle.search.proofs.WordLaws.{word_size, first-mark, marks-some}
+use Rattle.alphabet.proofs.ListLaws.{first_block, first_le, rest_of}
+use Rattle.alphabet.proofs.BlockLaws.{first_from, first_inside}
+use Rattle.search.proofs.WordLaws.{word_size, first_mark, marks_some}
 use Rattle.search.proofs.words.find_two_by_words.Statement.{statement}
 use Rattle.search.proofs.words.find_two_by_words.Tie as tie
 
@@ -30,7 +30,7 @@ place : (c : tie.After-sought invariant-loop decreases-loop)
 place c =
     let l = c.before.before.before in
     let a = l.before.before.args in
-    ap (λ (n : ℕ). count_trailing_zeros 64 n / 8) c.sought.ensures ∙ first-mark (either a.one a.other) _ (word_size a.bytes.now l.loop.i (omega arith))
+    ap (λ (n : ℕ). count_trailing_zeros 64 n / 8) c.sought.ensures ∙ first_mark (either a.one a.other) _ (word_size a.bytes.now l.loop.i (omega arith))
 
 returns : tie.Need-returns invariant-loop decreases-loop
 returns c =
@@ -42,7 +42,7 @@ returns c =
     let n = word_size s i (omega arith) in
     let p = place c.before in
     let f = first_from test s i l.loop.invariant.1 in
-    let g = first-inside test (drop i s) (i + 8 - i) (marks-some test (take (i + 8 - i) (drop i s)) (λ z. c.if1.true (c.before.sought.ensures ∙ z))) in
+    let g = first_inside test (drop i s) (i + 8 - i) (marks_some test (take (i + 8 - i) (drop i s)) (λ z. c.if1.true (c.before.sought.ensures ∙ z))) in
     omega arith
 
 cast-result : tie.Need-overflow-cast-result invariant-loop decreases-loop
@@ -80,7 +80,7 @@ add-result-2 : tie.Need-overflow-add-result-2 invariant-loop decreases-loop
 add-result-2 c =
     let a = c.before.before.before.before.before.args in
     let r = rest c in
-    let m = first-le (either a.one a.other) a.bytes.now in
+    let m = first_le (either a.one a.other) a.bytes.now in
     omega arith
 
 pub find-two-by-words-spec : {M : Type 1} → statement M

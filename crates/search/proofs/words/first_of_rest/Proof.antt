@@ -4,7 +4,7 @@ use mathlib.Core.Path.{◌≡◌, sym}
 use lib.ListN.{length}
 use native.Mathlib.Omega.{arith}
 use Rattle.alphabet.specs.Lists.{first, either}
-use Rattle.alphabet.proofs.ListLaws.{first-le, first_reached, first_next}
+use Rattle.alphabet.proofs.ListLaws.{first_le, first_reached, first_next}
 use Rattle.search.proofs.words.first_of_rest.Statement.{statement}
 use Rattle.search.proofs.words.first_of_rest.Tie as tie
 
@@ -30,7 +30,7 @@ returns-2 : tie.Need-returns-2 invariant-loop decreases-loop
 returns-2 c =
     let a = c.before.before.args in
     let i = c.before.loop.invariant.1 in
-    let k = first-le (either a.one a.other) a.bytes.now in
+    let k = first_le (either a.one a.other) a.bytes.now in
     omega arith
 
 pub first-of-rest-spec : {M : Type 1} → statement M

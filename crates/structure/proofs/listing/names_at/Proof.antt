@@ -14,7 +14,7 @@ use Rattle.structure.specs.SegmentNames.{among}
 use Rattle.fault.specs.Faults.{name_list}
 use Rattle.structure.specs.Engine.{listing}
 use Rattle.fault.specs.declared.Names.{Names}
-use Rattle.structure.proofs.ListingLaws.{filled, filled_more, filled-front, filled-length, listing-short, listing_taken, listing-passed, listing_none}
+use Rattle.structure.proofs.ListingLaws.{filled, filled_more, filled_front, filled_length, listing_short, listing_taken, listing_passed, listing_none}
 use Rattle.structure.proofs.listing.names_at.Statement.{statement}
 use Rattle.structure.proofs.listing.names_at.Tie as tie
 
@@ -27,14 +27,14 @@ decreases-loop names places list₀ count₀ p₀ list count p = length names - 
 
 -- there is room in the array
 room : (c : tie.At-loop invariant-loop decreases-loop) → c.loop.count ≤ c.loop.p
-room c = omega (arith, c.loop.invariant.2, listing-short c.before.before.args.names.now c.before.before.args.places c.loop.p)
+room c = omega (arith, c.loop.invariant.2, listing_short c.before.before.args.names.now c.before.before.args.places c.loop.p)
 
 -- and it has 64 places
 sized : (c : tie.At-loop invariant-loop decreases-loop) → length c.before.before.args.names.now ≤ 64 → c.loop.p ≤ 64 → length c.loop.list ≡ 64
 sized c h k =
     let a = c.before.before.args in
-    let n = listing-short a.names.now a.places c.loop.p in
-    ap length c.loop.invariant.1 ∙ filled-length (listing a.names.now a.places c.loop.p) (omega arith)
+    let n = listing_short a.names.now a.places c.loop.p in
+    ap length c.loop.invariant.1 ∙ filled_length (listing a.names.now a.places c.loop.p) (omega arith)
 
 share : (c : tie.After-shared-slice-known2 invariant-loop decreases-loop) → c.before.before.loop.count ≤ length c.before.before.loop.list
 share c =
@@ -50,7 +50,7 @@ known c =
     let l = c.before.before.before.before in
     let a = l.before.before.args in
     let so_far = listing a.names.now a.places l.loop.p in
-    let front = ap₂ take l.loop.invariant.2 l.loop.invariant.1 ∙ filled-front so_far in
+    let front = ap₂ take l.loop.invariant.2 l.loop.invariant.1 ∙ filled_front so_far in
     c.is_among.ensures ∙ ap (among (get_or a.names.now l.loop.p 0)) front
 
 loop-again : tie.Need-loop-preserved invariant-loop decreases-loop
@@ -68,12 +68,12 @@ loop-again c =
       ⊎_elim
           (λ w. w.1 ∙ ap₂ (λ (x : List ℕ) (i : ℕ). set x i (get_or ns p 0)) l.loop.invariant.1 l.loop.invariant.2 ∙ filled_more so_far (get_or ns p 0) small
           ∙ ap filled (sym (listing_taken ns a.places p (asked ∙ w.0.taken))))
-          (λ w. w.1 ∙ l.loop.invariant.1 ∙ ap filled (sym (listing-passed ns a.places p (asked ∙ w.0.left))))
+          (λ w. w.1 ∙ l.loop.invariant.1 ∙ ap filled (sym (listing_passed ns a.places p (asked ∙ w.0.left))))
           c.if1.branch,
       ⊎_elim
           (λ w. w.2 ∙ ap (λ (i : ℕ). i + 1) l.loop.invariant.2 ∙ sym (length-append so_far (get_or ns p 0 ∷ []))
           ∙ ap length (sym (listing_taken ns a.places p (asked ∙ w.0.taken))))
-          (λ w. w.2 ∙ l.loop.invariant.2 ∙ ap length (sym (listing-passed ns a.places p (asked ∙ w.0.left))))
+          (λ w. w.2 ∙ l.loop.invariant.2 ∙ ap length (sym (listing_passed ns a.places p (asked ∙ w.0.left))))
           c.if1.branch,
     )
 

@@ -4,7 +4,7 @@ use mathlib.Core.Path.{◌≡◌, refl, sym, ◌∙◌}
 use lib.ListN.{length, drop}
 use native.Mathlib.Omega.{arith}
 use Rattle.structure.specs.SegmentNames.{among}
-use Rattle.structure.proofs.NameLaws.{among-end, among-here, among_next}
+use Rattle.structure.proofs.NameLaws.{among_end, among_here, among_next}
 use Rattle.structure.proofs.names.is_among.Statement.{statement}
 use Rattle.structure.proofs.names.is_among.Tie as tie
 
@@ -18,7 +18,7 @@ returns : tie.Need-returns invariant-loop decreases-loop
 returns c =
     let l = c.before.before.before in
     let a = l.before.args in
-    sym (l.loop.invariant.1 ∙ among-here a.name a.names.now l.loop.i (omega arith) c.if1.true)
+    sym (l.loop.invariant.1 ∙ among_here a.name a.names.now l.loop.i (omega arith) c.if1.true)
 
 loop-again : tie.Need-loop-preserved invariant-loop decreases-loop
 loop-again c =
@@ -30,7 +30,7 @@ returns-2 : tie.Need-returns-2 invariant-loop decreases-loop
 returns-2 c =
     let l = c.before in
     let a = l.before.args in
-    sym (l.loop.invariant.1 ∙ among-end a.name a.names.now l.loop.i (omega arith))
+    sym (l.loop.invariant.1 ∙ among_end a.name a.names.now l.loop.i (omega arith))
 
 pub is-among-spec : {M : Type 1} → statement M
 is-among-spec =

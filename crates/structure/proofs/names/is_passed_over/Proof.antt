@@ -2,12 +2,12 @@
 use mathlib.Core.Path.{◌≡◌, sym, ap, ◌∙◌}
 use mathlib.Core.Bool.{not}
 use borrow.Author.Rules.{rules}
-use Rattle.structure.proofs.NameLaws.{passed-other, passed_z}
+use Rattle.structure.proofs.NameLaws.{passed_other, passed_z}
 use Rattle.structure.proofs.names.is_passed_over.Statement.{statement}
 use Rattle.structure.proofs.names.is_passed_over.Tie as tie
 
 returns : tie.Need-returns
-returns c = let a = c.before.before.args in sym (passed-other a.names.now a.name c.if1.true)
+returns c = let a = c.before.before.args in sym (passed_other a.names.now a.name c.if1.true)
 
 returns-2 : tie.Need-returns-2
 returns-2 c =

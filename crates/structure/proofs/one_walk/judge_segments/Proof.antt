@@ -10,8 +10,8 @@ use Rattle.alphabet.specs.Answers.{or_else, in_order}
 use Rattle.alphabet.specs.Bytes.{carriage_return}
 use Rattle.alphabet.specs.Lists.{find}
 use Rattle.alphabet.specs.declared.answers.Check.{Check}
-use Rattle.alphabet.proofs.CheckLaws.{fails_or, passes-or}
-use Rattle.alphabet.proofs.ListLaws.{first-le}
+use Rattle.alphabet.proofs.CheckLaws.{fails_or, passes_or}
+use Rattle.alphabet.proofs.ListLaws.{first_le}
 use Rattle.reading.specs.Segments.{segments}
 use Rattle.reading.specs.Reading.{segments_check}
 use Rattle.reading.proofs.SegmentLaws.{checks_walk, checks_over}
@@ -21,7 +21,7 @@ use Rattle.structure.specs.Engine.{into, walked, resumed}
 use Rattle.structure.specs.OneWalk.{JudgedAsRead}
 use Rattle.structure.specs.OneWalk.JudgedAsRead.{faulty, judged}
 use Rattle.structure.specs.declared.walking.Walked.{Walked}
-use Rattle.structure.proofs.SegmentWalk.{names_from, names-all, names_walk, names-over}
+use Rattle.structure.proofs.SegmentWalk.{names_from, names_all, names_walk, names_over}
 use Rattle.structure.proofs.OneWalk.{checks_left}
 use Rattle.structure.proofs.one_walk.judge_segments.Statement.{statement}
 use Rattle.structure.proofs.one_walk.judge_segments.Tie as tie
@@ -49,7 +49,7 @@ loop-holds c =
       omega arith,
       c.segment-end.ensures,
       rw c.before.before.byte_at.ensures,
-      sym (b.ensures a.names.now a.follow.now a.last (segment_names m)) ∙ ap (resumed a.names.now a.follow.now a.last b.result 0) (names-all m),
+      sym (b.ensures a.names.now a.follow.now a.last (segment_names m)) ∙ ap (resumed a.names.now a.follow.now a.last b.result 0) (names_all m),
     )
 
 -- ---- the message
@@ -77,7 +77,7 @@ module _ (l : tie.At-loop invariant-loop decreases-loop) where
   inside : (l.loop.start ≤ l.loop.end) × (l.loop.end ≤ length message)
   inside =
       let e = l.loop.inv.2 in
-      let u = first-le (eqb carriage_return) (drop l.loop.start message) in
+      let u = first_le (eqb carriage_return) (drop l.loop.start message) in
       let n = length-drop l.loop.start message in
       let h = l.loop.inv.0 in
       (omega arith, omega arith)
@@ -130,7 +130,7 @@ loop-again c =
       omega arith,
       omega arith,
       c.segment-end2.ensures,
-      checked k.before.before.before.before ∙ passes-or k.before.before.enum_told.given.1 (checks-behind l),
+      checked k.before.before.before.before ∙ passes_or k.before.before.enum_told.given.1 (checks-behind l),
       walked_on k,
     )
 
@@ -142,7 +142,7 @@ returns-2 c = λ s t.
     judged (l.loop.invariant.3 ∙ ap in_order (checks_over (message l) l.loop.start (separator l) l.loop.number over))
     (c.tell.ensures.judges s (follow l) (last l) (into 1) (segment_names (message l)) t
     (c.before.finish.ensures (names l) (follow l) (last l)
-    ∙ sym (l.loop.invariant.4 ∙ ap (resumed (names l) (follow l) (last l) l.loop.course l.loop.number) (names-over (message l) l.loop.start over))))
+    ∙ sym (l.loop.invariant.4 ∙ ap (resumed (names l) (follow l) (last l) l.loop.course l.loop.number) (names_over (message l) l.loop.start over))))
 
 pub judge-segments-spec : {M : Type 1} → statement M
 judge-segments-spec =

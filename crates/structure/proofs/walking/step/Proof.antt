@@ -8,7 +8,7 @@ use lib.Count.{count_trailing_zeros, trailing_le}
 use lib.ListN.{length}
 use native.Mathlib.Omega.{arith}
 use Rattle.structure.specs.Engine.{entry, join, gathered}
-use Rattle.structure.proofs.LowestLaws.{without_lowest, without_hit, without_other, without_past, join-none, nothing_left}
+use Rattle.structure.proofs.LowestLaws.{without_lowest, without_hit, without_other, without_past, join_none, nothing_left}
 use Rattle.structure.proofs.walking.step.Statement.{statement}
 use Rattle.structure.proofs.walking.step.Tie as tie
 
@@ -69,7 +69,7 @@ step_spec =
     (tie.spec
     invariant-loop
     decreases-loop
-    (λ c. (omega arith, join-none _))
+    (λ c. (omega arith, join_none _))
     cast-p
     (λ c. omega arith)
     (λ c. omega arith)

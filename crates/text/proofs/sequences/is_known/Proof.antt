@@ -9,12 +9,12 @@ use borrow.Author.Tests.{eq-eqb, ne_eqb}
 use borrow.Author.Rules.{rules}
 use Rattle.alphabet.proofs.ListLaws.{rest_of}
 use Rattle.alphabet.specs.Hex.{all_hex}
-use Rattle.text.proofs.SequenceLaws.{known-none, known_one, known_more}
+use Rattle.text.proofs.SequenceLaws.{known_none, known_one, known_more}
 use Rattle.text.proofs.sequences.is_known.Statement.{statement}
 use Rattle.text.proofs.sequences.is_known.Tie as tie
 
 returns : tie.Need-returns
-returns c = sym (known-none c.before.before.args.inside.now c.if1.true)
+returns c = sym (known_none c.before.before.args.inside.now c.if1.true)
 
 returns-2 : tie.Need-returns-2
 returns-2 c =

@@ -13,8 +13,8 @@ use Rattle.alphabet.specs.Lists.{find}
 use Rattle.escaping.specs.Escape.{letters}
 use Rattle.alphabet.specs.Hex.{all_hex, pairs_of}
 use Rattle.alphabet.specs.Filling.{pasted}
-use Rattle.text.proofs.SequenceLaws.{known_one, known_more, meaning-letter, meaning_pairs, known_some}
-use Rattle.alphabet.proofs.FillingLaws.{set-pasted}
+use Rattle.text.proofs.SequenceLaws.{known_one, known_more, meaning_letter, meaning_pairs, known_some}
+use Rattle.alphabet.proofs.FillingLaws.{set_pasted}
 use Rattle.text.proofs.sequences.put_meaning.Statement.{statement}
 use Rattle.text.proofs.sequences.put_meaning.Tie as tie
 
@@ -28,7 +28,7 @@ array-read-buffer c =
 slice-write-buffer : tie.Need-slice-write-buffer
 slice-write-buffer c =
     let a = c.before.before.before.before.before.before.args in
-    let m = ap length (meaning-letter a.delimiters.bytes a.inside.now (omega arith)) in
+    let m = ap length (meaning_letter a.delimiters.bytes a.inside.now (omega arith)) in
     omega (arith, c.before.before.before.before.before.before.requires.1)
 
 returns : tie.Need-returns
@@ -38,11 +38,11 @@ returns c =
     let s = a.inside.now in
     let d = a.buffer.now in
     let h : length s ≡ 1 = omega arith in
-    let e = meaning-letter ds s h in
+    let e = meaning_letter ds s h in
     let m = ap length e in
     let k = c.place_of.result in (
       omega arith,
-      set-pasted d a.at (get_or ds k 0) (slice-write-buffer c) ∙ ap (pasted d a.at) (ap (λ (j : ℕ). get_or ds j 0 ∷ []) c.place_of.ensures ∙ sym e),
+      set_pasted d a.at (get_or ds k 0) (slice-write-buffer c) ∙ ap (pasted d a.at) (ap (λ (j : ℕ). get_or ds j 0 ∷ []) c.place_of.ensures ∙ sym e),
     )
 
 sub-put-pairs : tie.Need-overflow-sub-put-pairs

@@ -9,8 +9,8 @@ use borrow.Author.Rules.{rules}
 use mathlib.Core.Bool.{true}
 use Rattle.alphabet.specs.Bytes.{hex_of}
 use Rattle.alphabet.specs.Hex.{all_hex, pairs_of}
-use Rattle.alphabet.proofs.HexLaws.{hex-holds, pairs_next, pairs_end}
-use Rattle.alphabet.proofs.FillingLaws.{Filling, fill_more, fill-room, fill-length, fill_from, fill_from_end, set-pasted}
+use Rattle.alphabet.proofs.HexLaws.{hex_holds, pairs_next, pairs_end}
+use Rattle.alphabet.proofs.FillingLaws.{Filling, fill_more, fill_room, fill_length, fill_from, fill_from_end, set_pasted}
 use Rattle.text.proofs.sequences.put_pairs.Statement.{statement}
 use Rattle.text.proofs.sequences.put_pairs.Tie as tie
 
@@ -31,7 +31,7 @@ room k =
 pair : (k : tie.In-loop invariant-loop decreases-loop)
     → let s = k.before.before.before.before.args.digits.now in let i = k.before.loop.i in
     (i + 1 < length s) × (hex_of (get_or s i 0) < 16) × (hex_of (get_or s (i + 1) 0) < 16) × (all_hex (drop (i + 2) s) ≡ true)
-pair k = hex-holds k.before.before.before.before.args.digits.now k.before.loop.i k.loop-test.true k.before.loop.invariant.1
+pair k = hex_holds k.before.before.before.before.args.digits.now k.before.loop.i k.loop-test.true k.before.loop.invariant.1
 
 inside : (k : tie.In-loop invariant-loop decreases-loop) → k.before.loop.place < length k.before.loop.buffer
 inside k =
@@ -40,8 +40,8 @@ inside k =
     let f = l.loop.invariant.2 in
     let p = pairs_next s l.loop.i (pair k).0 in
     let n = ap length p in
-    let r = fill-room f in
-    let q = fill-length f (room l.before) in
+    let r = fill_room f in
+    let q = fill_length f (room l.before) in
     omega (arith, room l.before)
 
 loop-holds : tie.Need-loop-init invariant-loop decreases-loop
@@ -62,7 +62,7 @@ slice-write-buffer : tie.Need-slice-write-buffer invariant-loop decreases-loop
 slice-write-buffer c = inside c.before.before.before.before
 
 add-place : tie.Need-overflow-add-place invariant-loop decreases-loop
-add-place c = let p = inside c.before.before.before.before in let f = fill-length c.before.before.before.before.before.loop.invariant.2 (room c.before.before.before.before.before.before) in omega arith
+add-place c = let p = inside c.before.before.before.before in let f = fill_length c.before.before.before.before.before.loop.invariant.2 (room c.before.before.before.before.before.before) in omega arith
 
 add-i : tie.Need-overflow-add-i invariant-loop decreases-loop
 add-i c = let p = pair c.before.before.before.before in omega arith
@@ -79,11 +79,11 @@ loop-again c =
     let e : hex_of (get_or s l.loop.i 0) * 16 + hex_of (get_or s (l.loop.i + 1) 0) ≡ v = omega (arith, c.before.before.hex-value.ensures) in (
       omega arith,
       p.3,
-      fill_more (v ∷ []) _ _ _ l.loop.invariant.2 (pairs_next s l.loop.i p.0 ∙ ap (λ (k : ℕ). (k ∷ []) ++ pairs_of (drop (l.loop.i + 2) s)) e) (set-pasted l.loop.buffer l.loop.place v (inside c.before.before.before.before)) refl,
+      fill_more (v ∷ []) _ _ _ l.loop.invariant.2 (pairs_next s l.loop.i p.0 ∙ ap (λ (k : ℕ). (k ∷ []) ++ pairs_of (drop (l.loop.i + 2) s)) e) (set_pasted l.loop.buffer l.loop.place v (inside c.before.before.before.before)) refl,
     )
 
 same_length : tie.Need-same-length invariant-loop decreases-loop
-same_length c = fill-length c.before.loop.invariant.2 (room c.before.before)
+same_length c = fill_length c.before.loop.invariant.2 (room c.before.before)
 
 returns : tie.Need-returns invariant-loop decreases-loop
 returns c =

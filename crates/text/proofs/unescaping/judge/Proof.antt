@@ -8,7 +8,7 @@ use Rattle.text.specs.Unescape.{plain_text, step}
 use Rattle.plain.specs.Plain.{special}
 use Rattle.text.specs.Judging.{judged}
 use Rattle.text.specs.declared.unescaping.Judged.{Judged}
-use Rattle.text.proofs.StepLaws.{step_bounds, seen-fault, seen_bytes, Scanning, scanning_start, scanning_more, scanning_stop, scanning_end}
+use Rattle.text.proofs.StepLaws.{step_bounds, seen_fault, seen_bytes, Scanning, scanning_start, scanning_more, scanning_stop, scanning_end}
 use Rattle.plain.proofs.PlainLaws.{run_from}
 use Rattle.text.proofs.RunLaws.{scanning_run}
 use Rattle.text.proofs.unescaping.judge.Statement.{statement}
@@ -30,7 +30,7 @@ returns c =
     let a = l.before.before.args in
     let s = a.text.now in
     let g = c.before.found.given in
-    let y = seen-fault (step plain_text a.delimiters.bytes (get_or s l.loop.i 0) (drop (l.loop.i + 1) s)) g.0.0 (sym g.1 ∙ c.before.before.before.step-at.ensures) in
+    let y = seen_fault (step plain_text a.delimiters.bytes (get_or s l.loop.i 0) (drop (l.loop.i + 1) s)) g.0.0 (sym g.1 ∙ c.before.before.before.step-at.ensures) in
     ap judged (sym (scanning_stop g.0.0 l.loop.invariant.2 (omega arith) y))
 
 -- the scan behind what stands at the place

@@ -12,8 +12,8 @@ use Rattle.escaping.specs.Escape.{escape_of}
 use Rattle.text.specs.Unescape.{known, meaning, plain_text, emit, step}
 use Rattle.text.specs.Judging.{seen}
 use Rattle.text.specs.declared.unescaping.Found.{Found}
-use Rattle.text.proofs.SequenceLaws.{meaning_one, meaning-more}
-use Rattle.text.proofs.StepLaws.{step-opens, step-known, step-unknown, step-unclosed}
+use Rattle.text.proofs.SequenceLaws.{meaning_one, meaning_more}
+use Rattle.text.proofs.StepLaws.{step_opens, step_known, step_unknown, step_unclosed}
 use Rattle.text.proofs.unescaping.sequence_in.Statement.{statement}
 use Rattle.text.proofs.unescaping.sequence_in.Tie as tie
 
@@ -24,7 +24,7 @@ returns c =
     let ds = a.delimiters.bytes in
     let r = a.rest.now in
     let e = c.before.find.ensures in
-    ap seen (sym (step-unclosed plain_text ds (escape_of ds) r refl (omega arith)) ∙ step-opens plain_text ds (escape_of ds) r refl)
+    ap seen (sym (step_unclosed plain_text ds (escape_of ds) r refl (omega arith)) ∙ step_opens plain_text ds (escape_of ds) r refl)
 
 returns-2 : tie.Need-returns-2
 unfolding seen
@@ -35,7 +35,7 @@ returns-2 c =
     let r = a.rest.now in
     let n = f.find.result in
     let k = sym c.before.is_Known.ensures ∙ not-true _ c.if2.true in
-    ap seen (sym (step-unknown plain_text ds (escape_of ds) r n refl (sym f.find.ensures) (omega arith) k) ∙ step-opens plain_text ds (escape_of ds) r refl)
+    ap seen (sym (step_unknown plain_text ds (escape_of ds) r n refl (sym f.find.ensures) (omega arith) k) ∙ step_opens plain_text ds (escape_of ds) r refl)
 
 -- a sequence that is closed and known
 is : (c : tie.Else2)
@@ -49,7 +49,7 @@ is c =
     let r = a.rest.now in
     let n = f.find.result in
     let k = sym c.before.is_Known.ensures ∙ not-false _ c.if2.false in
-    (k, length-take-le n r (omega arith), step-known plain_text ds (escape_of ds) r n refl (sym f.find.ensures) (omega arith) k)
+    (k, length-take-le n r (omega arith), step_known plain_text ds (escape_of ds) r n refl (sym f.find.ensures) (omega arith) k)
 
 returns-3 : tie.Need-returns-3
 unfolding seen
@@ -61,7 +61,7 @@ returns-3 c =
     let n = f.find.result in
     let h = is c.before in
     let t = h.1 in
-    ap (λ (m : ℕ). Found.Bytes m (n + 1)) (sym (meaning_one ds (take n r) h.0 (omega arith))) ∙ ap seen (sym h.2 ∙ step-opens plain_text ds (escape_of ds) r refl)
+    ap (λ (m : ℕ). Found.Bytes m (n + 1)) (sym (meaning_one ds (take n r) h.0 (omega arith))) ∙ ap seen (sym h.2 ∙ step_opens plain_text ds (escape_of ds) r refl)
 
 returns-4 : tie.Need-returns-4
 unfolding seen
@@ -73,8 +73,8 @@ returns-4 c =
     let n = f.find.result in
     let h = is c.before in
     let t = h.1 in
-    let m = meaning-more ds (take n r) h.0 (omega arith) in
-    ap (λ (m : ℕ). Found.Bytes m (n + 1)) (sym (m ∙ ap (λ (z : ℕ). z / 2) t)) ∙ ap seen (sym h.2 ∙ step-opens plain_text ds (escape_of ds) r refl)
+    let m = meaning_more ds (take n r) h.0 (omega arith) in
+    ap (λ (m : ℕ). Found.Bytes m (n + 1)) (sym (m ∙ ap (λ (z : ℕ). z / 2) t)) ∙ ap seen (sym h.2 ∙ step_opens plain_text ds (escape_of ds) r refl)
 
 pub sequence-in-spec : {M : Type 1} → statement M
 sequence-in-spec =

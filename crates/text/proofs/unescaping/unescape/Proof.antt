@@ -11,7 +11,7 @@ use Rattle.text.specs.Unescape.{plain_text, scan}
 use Rattle.escaping.specs.Outcomes.{answer, filled}
 use Rattle.text.specs.Judging.{text_of}
 use Rattle.escaping.proofs.OutcomeLaws.{ended}
-use Rattle.text.proofs.OutcomeLaws.{judged-text, judged-fault, unescaping_bad, unescaping-null, unescaping-fault, unescaping-fits, unescaping-long}
+use Rattle.text.proofs.OutcomeLaws.{judged_text, judged_fault, unescaping_bad, unescaping_null, unescaping_fault, unescaping_fits, unescaping_long}
 use Rattle.text.proofs.unescaping.unescape.Statement.{statement}
 use Rattle.text.proofs.unescaping.unescape.Tie as tie
 
@@ -36,7 +36,7 @@ returns-2 c =
     let ds = a.delimiters.bytes in
     let s = a.text.now in
     let d = a.buffer.now in
-    let r = ended _ _ d (unescaping-null ds s (length d) (omega arith) (sym c.before.before.is-null.ensures ∙ c.before.if2.true)) in
+    let r = ended _ _ d (unescaping_null ds s (length d) (omega arith) (sym c.before.before.is-null.ensures ∙ c.before.if2.true)) in
     (c.refused2.ensures ∙ r.0, r.1)
 
 returns-3 : tie.Need-returns-3
@@ -47,9 +47,9 @@ returns-3 c =
     let s = a.text.now in
     let d = a.buffer.now in
     let g = c.before.before.before.found2.given in
-    let y = judged-text (scan plain_text ds 0 0 s) g.0.0 (sym g.1 ∙ c.before.before.before.before.before.judge.ensures) in
+    let y = judged_text (scan plain_text ds 0 0 s) g.0.0 (sym g.1 ∙ c.before.before.before.before.before.judge.ensures) in
     let z = y.1 in
-    let r = ended _ _ d (unescaping-long ds s (length d) (omega arith) (sym c.before.before.before.before.before.before.before.is-null.ensures ∙ c.before.before.before.before.before.before.if2.false) (text_of (scan plain_text ds 0 0 s)) y.0 (omega arith)) in
+    let r = ended _ _ d (unescaping_long ds s (length d) (omega arith) (sym c.before.before.before.before.before.before.before.is-null.ensures ∙ c.before.before.before.before.before.before.if2.false) (text_of (scan plain_text ds 0 0 s)) y.0 (omega arith)) in
     (c.refused4.ensures ∙ r.0, r.1)
 
 write-text-requires : tie.Need-write-text-requires
@@ -59,7 +59,7 @@ write-text-requires c κs =
     let s = a.text.now in
     let d = a.buffer.now in
     let g = c.before.before.before.found2.given in
-    let y = judged-text (scan plain_text ds 0 0 s) g.0.0 (sym g.1 ∙ c.before.before.before.before.before.judge.ensures) in
+    let y = judged_text (scan plain_text ds 0 0 s) g.0.0 (sym g.1 ∙ c.before.before.before.before.before.judge.ensures) in
     let z = y.1 in
     (y.2, omega arith)
 
@@ -71,8 +71,8 @@ returns-4 c =
     let s = a.text.now in
     let d = a.buffer.now in
     let g = c.before.before.found.given in
-    let y = judged-fault (scan plain_text ds 0 0 s) g.0.0 g.0.1.0 (sym g.1 ∙ c.before.before.before.before.judge.ensures) in
-    let r = ended _ _ d (unescaping-fault ds s (length d) (omega arith) (sym c.before.before.before.before.before.before.is-null.ensures ∙ c.before.before.before.before.before.if2.false) g.0.0 g.0.1.0 y) in
+    let y = judged_fault (scan plain_text ds 0 0 s) g.0.0 g.0.1.0 (sym g.1 ∙ c.before.before.before.before.judge.ensures) in
+    let r = ended _ _ d (unescaping_fault ds s (length d) (omega arith) (sym c.before.before.before.before.before.before.is-null.ensures ∙ c.before.before.before.before.before.if2.false) g.0.0 g.0.1.0 y) in
     (c.refused3.ensures ∙ r.0, r.1)
 
 returns-5 : tie.Need-returns-5
@@ -83,9 +83,9 @@ returns-5 c =
     let s = a.text.now in
     let d = a.buffer.now in
     let g = c.before.before.before.before.before.before.found2.given in
-    let y = judged-text (scan plain_text ds 0 0 s) g.0.0 (sym g.1 ∙ c.before.before.before.before.before.before.before.before.judge.ensures) in
+    let y = judged_text (scan plain_text ds 0 0 s) g.0.0 (sym g.1 ∙ c.before.before.before.before.before.before.before.before.judge.ensures) in
     let z = y.1 in
-    let r = ended _ _ d (unescaping-fits ds s (length d) (omega arith) (sym c.before.before.before.before.before.before.before.before.before.before.is-null.ensures ∙ c.before.before.before.before.before.before.before.before.before.if2.false) (text_of (scan plain_text ds 0 0 s)) y.0 (omega arith)) in
+    let r = ended _ _ d (unescaping_fits ds s (length d) (omega arith) (sym c.before.before.before.before.before.before.before.before.before.before.is-null.ensures ∙ c.before.before.before.before.before.before.before.before.before.if2.false) (text_of (scan plain_text ds 0 0 s)) y.0 (omega arith)) in
     (ap made (sym z) ∙ r.0, c.before.before.write-text.ensures ∙ r.1)
 
 pub unescape-spec : {M : Type 1} → statement M

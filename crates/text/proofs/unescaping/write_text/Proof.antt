@@ -15,10 +15,10 @@ use Rattle.alphabet.specs.Lists.{find}
 use Rattle.escaping.specs.Escape.{escape_of}
 use Rattle.text.specs.Unescape.{known, meaning, plain_text, emit, step, scan}
 use Rattle.text.specs.Judging.{is_text, text_of}
-use Rattle.alphabet.proofs.FillingLaws.{Filling, fill_start, fill_more, fill-room, fill-length, fill_end, put-fits}
-use Rattle.text.proofs.StepLaws.{step-known, scan-end, text_past, text-opens}
+use Rattle.alphabet.proofs.FillingLaws.{Filling, fill_start, fill_more, fill_room, fill_length, fill_end, put_fits}
+use Rattle.text.proofs.StepLaws.{step_known, scan_end, text_past, text_opens}
 use Rattle.plain.proofs.PlainLaws.{run_from}
-use Rattle.text.proofs.RunLaws.{run_reaches, text-run}
+use Rattle.text.proofs.RunLaws.{run_reaches, text_run}
 use Rattle.text.proofs.unescaping.write_text.Statement.{statement}
 use Rattle.text.proofs.unescaping.write_text.Tie as tie
 
@@ -42,7 +42,7 @@ abbrev Opens : tie.At-loop invariant-loop decreases-loop → ℕ → List ℕ �
 Opens l n r = (n < length r) × (known (take n r) ≡ true) × (step plain_text (Ds l) (get_or (S l) l.loop.i 0) (drop (l.loop.i + 1) (S l)) ≡ emit (meaning (Ds l) (take n r)) (n + 1))
 
 kept : (l : tie.At-loop invariant-loop decreases-loop) → length l.loop.buffer ≡ length l.before.before.before.before.args.buffer.now
-kept l = fill-length l.loop.invariant.2 l.before.before.before.before.requires.1
+kept l = fill_length l.loop.invariant.2 l.before.before.before.before.requires.1
 
 -- a sequence that opens there
 opened : (k : tie.After-find invariant-loop decreases-loop) → Opens k.before.before.before.before.before k.find.result (R k.before.before.before.before.before)
@@ -56,10 +56,10 @@ opened k =
     let q = rest_of s (i + 1) in
     let x = k.before.before.if1.true in
     let m : n ≡ find e r = k.find.ensures ∙ ap (find e) q in
-    let o = text-opens plain_text (Ds l) s i k.before.before.before.before.loop-test.true l.loop.invariant.1 x in
+    let o = text_opens plain_text (Ds l) s i k.before.before.before.before.loop-test.true l.loop.invariant.1 x in
     let h : n < length r = subst⁻¹ (λ (z : ℕ). z < length r) m o.0 in
     let w : known (take n r) ≡ true = subst⁻¹ (λ (z : ℕ). known (take z r) ≡ true) m o.1 in
-    subst⁻¹ (Opens l n) q (h, w, step-known plain_text (Ds l) (get_or s i 0) r n x (sym m) h w)
+    subst⁻¹ (Opens l n) q (h, w, step_known plain_text (Ds l) (get_or s i 0) r n x (sym m) h w)
 
 -- the text behind it
 behind : (k : tie.After-find invariant-loop decreases-loop) →
@@ -99,7 +99,7 @@ plain k =
     let m : n ≡ find e (drop i (S l)) = k.find-one.ensures ∙ ap (find e) (rest_of (S l) i) in
     let b = first_past (eqb e) (S l) i h (ne_eqb e _ (λ w. k.before.before.if1.false (sym w))) in
     let r = run_from (eqb e) (S l) i n (omega arith) k.find-one.ensures in
-    let t = text-run plain_text (Ds l) (S l) i n (omega (arith, m, run_reaches plain_text (Ds l) (S l) i five g)) five g in
+    let t = text_run plain_text (Ds l) (S l) i n (omega (arith, m, run_reaches plain_text (Ds l) (S l) i five g)) five g in
     let u = text_of (scan plain_text (Ds l) (i + n) 0 (drop (i + n) (S l))) in
     (omega arith, r.1, t.0, t.1 ∙ ap (λ (w : List ℕ). w ++ u) (map-id (take n (drop i (S l)))))
 
@@ -116,7 +116,7 @@ put-meaning-requires c κs =
     let o = opened k in
     let t = ap length (behind k).1 in
     let n = length-append (meaning (Ds l) (take k.find.result (R l))) (text_of (scan plain_text (Ds l) (l.loop.i + 1 + k.find.result + 1) 0 (drop (l.loop.i + 1 + k.find.result + 1) (S l)))) in
-    let r = fill-room l.loop.invariant.2 in
+    let r = fill_room l.loop.invariant.2 in
     let q = kept l in
     (o.1, omega (arith, l.before.before.before.before.requires.1))
 
@@ -165,9 +165,9 @@ loop-again-2 c =
     let d = length-drop i s in
     let y = length-take-le n (drop i s) (omega arith) in
     let t = length-take-le (i + n - i) (drop i s) (omega arith) in
-    let r = fill-room f in
+    let r = fill_room f in
     let q = kept l in
-    let p = put-fits l.loop.buffer (take (i + n - i) (drop i s)) l.loop.place (omega (arith, l.before.before.before.before.requires.1)) in
+    let p = put_fits l.loop.buffer (take (i + n - i) (drop i s)) l.loop.place (omega (arith, l.before.before.before.before.requires.1)) in
     (h, m.2, fill_more _ _ _ _ f (m.3 ∙ ap (λ (j : ℕ). take j (drop i s) ++ u) (sym e)) (c.before.before.put-long.ensures.1 ∙ p.1) (c.before.before.put-long.ensures.0 ∙ p.0))
 
 same_length : tie.Need-same-length invariant-loop decreases-loop
@@ -177,7 +177,7 @@ returns : tie.Need-returns invariant-loop decreases-loop
 unfolding text_of
 returns c =
     let l = c.before in
-    fill_end l.loop.invariant.2 (ap text_of (scan-end plain_text (Ds l) (S l) l.loop.i (omega arith)))
+    fill_end l.loop.invariant.2 (ap text_of (scan_end plain_text (Ds l) (S l) l.loop.i (omega arith)))
 
 pub write-text-spec : {M : Type 1} → statement M
 write-text-spec =

@@ -7,7 +7,7 @@ use lib.ListN.{length, take}
 use lib.Seq.{take_all}
 use native.Mathlib.Omega.{arith}
 use Rattle.alphabet.specs.Digits.{all_digits}
-use Rattle.times.proofs.JudgeLaws.{digits-none, digits_step}
+use Rattle.times.proofs.JudgeLaws.{digits_none, digits_step}
 use Rattle.times.proofs.judging.is_block_of_digits.Statement.{statement}
 use Rattle.times.proofs.judging.is_block_of_digits.Tie as tie
 
@@ -35,7 +35,7 @@ is-block-of-digits-spec =
     (tie.spec
     invariant-loop
     decreases-loop
-    (λ c. (omega arith, digits-none c.before.args.bytes.now))
+    (λ c. (omega arith, digits_none c.before.args.bytes.now))
     (λ c. omega arith)
     (λ c κs. search rules)
     (λ c. omega arith)

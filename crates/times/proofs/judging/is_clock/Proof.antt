@@ -6,18 +6,18 @@ use native.Mathlib.Omega.{arith}
 use borrow.Author.Tests.{not-true, not-false}
 use Rattle.calendar.specs.Calendar.{valid_clock}
 use Rattle.times.specs.Times.{clock_of}
-use Rattle.times.proofs.JudgeLaws.{first-not, first_so}
+use Rattle.times.proofs.JudgeLaws.{first_not, first_so}
 use Rattle.times.proofs.judging.is_clock.Statement.{statement}
 use Rattle.times.proofs.judging.is_clock.Tie as tie
 
 returns : tie.Need-returns
 unfolding valid_clock clock_of
-returns c = first-not _ (sym c.before.is-figure.ensures ∙ not-true _ c.if1.true)
+returns c = first_not _ (sym c.before.is-figure.ensures ∙ not-true _ c.if1.true)
 
 returns-2 : tie.Need-returns-2
 unfolding valid_clock clock_of
 returns-2 c =
-    first-not _ (sym c.before.is-figure2.ensures ∙ not-true _ c.if2.true)
+    first_not _ (sym c.before.is-figure2.ensures ∙ not-true _ c.if2.true)
     ∙ first_so _ (sym c.before.before.before.is-figure.ensures ∙ not-false _ c.before.before.if1.false)
 
 returns-3 : tie.Need-returns-3

@@ -7,7 +7,7 @@ use native.Mathlib.Omega.{arith}
 use Rattle.calendar.specs.Calendar.{in_range}
 use Rattle.calendar.specs.declared.figures.Figure.{Figure}
 use Rattle.times.proofs.FigureLaws.{figure_sent, figure_not}
-use Rattle.times.proofs.JudgeLaws.{two_digits, in-most}
+use Rattle.times.proofs.JudgeLaws.{two_digits, in_most}
 use Rattle.times.proofs.judging.is_figure.Statement.{statement}
 use Rattle.times.proofs.judging.is_figure.Tie as tie
 
@@ -19,7 +19,7 @@ returns c =
 returns-2 : tie.Need-returns-2
 returns-2 c =
     let a = c.before.before.before.args in
-    ap (λ (n : ℕ). leb n a.most) c.two_digits.ensures ∙ in-most a.most _ ∙ ap (in_range 0 a.most) (sym (figure_sent a.digits.now a.place 2 c.before.if1.false))
+    ap (λ (n : ℕ). leb n a.most) c.two_digits.ensures ∙ in_most a.most _ ∙ ap (in_range 0 a.most) (sym (figure_sent a.digits.now a.place 2 c.before.if1.false))
 
 pub is-figure-spec : {M : Type 1} → statement M
 is-figure-spec =

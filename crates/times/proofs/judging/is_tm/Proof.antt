@@ -14,7 +14,7 @@ use Rattle.forms.proofs.FormLaws.{behind}
 use Rattle.forms.proofs.PlaceLaws.{sign_within, point_within, same_parts, placed_form}
 use Rattle.forms.specs.declared.layouts.Form.TheVariants.{Tm}
 use Rattle.times.specs.Judged.{front_judged, zone_judged}
-use Rattle.times.proofs.JudgeLaws.{first-not, first_so, judged}
+use Rattle.times.proofs.JudgeLaws.{first_not, first_so, judged}
 use Rattle.times.proofs.judging.is_tm.Statement.{statement}
 use Rattle.times.proofs.judging.is_tm.Tie as tie
 
@@ -54,11 +54,11 @@ front-so : (c : tie.After-is-tm-front) → c.is-tm-front.result ≡ front_judged
 front-so c = c.is-tm-front.ensures ∙ ap (front_judged Tm) (front-is c.before)
 
 returns : tie.Need-returns
-returns c = first-not _ (sym (front-so c.before) ∙ not-true _ c.if1.true) ∙ judged Tm (l c.before.before)
+returns c = first_not _ (sym (front-so c.before) ∙ not-true _ c.if1.true) ∙ judged Tm (l c.before.before)
 
 returns-2 : tie.Need-returns-2
 returns-2 c =
-    first-not _ (sym (fraction-is c.before) ∙ not-true _ c.if2.true)
+    first_not _ (sym (fraction-is c.before) ∙ not-true _ c.if2.true)
     ∙ first_so _ (sym (front-so c.before.before.before.before) ∙ not-false _ c.before.before.before.if1.false) ∙ judged Tm (l c.before.before.before.before.before)
 
 returns-3 : tie.Need-returns-3

@@ -14,7 +14,7 @@ use Rattle.forms.proofs.FormLaws.{behind}
 use Rattle.forms.proofs.PlaceLaws.{sign_within, point_within, same_parts, placed_form}
 use Rattle.forms.specs.declared.layouts.Form.TheVariants.{Ts}
 use Rattle.times.specs.Judged.{front_judged, zone_judged}
-use Rattle.times.proofs.JudgeLaws.{first-not, first_so, judged}
+use Rattle.times.proofs.JudgeLaws.{first_not, first_so, judged}
 use Rattle.times.proofs.judging.is_ts.Statement.{statement}
 use Rattle.times.proofs.judging.is_ts.Tie as tie
 
@@ -57,11 +57,11 @@ returns : tie.Need-returns
 returns c = sym (c.before.is-usual-ts.ensures c.if1.true)
 
 returns-2 : tie.Need-returns-2
-returns-2 c = first-not _ (sym (front-so c.before) ∙ not-true _ c.if2.true) ∙ judged Ts (l c.before.before)
+returns-2 c = first_not _ (sym (front-so c.before) ∙ not-true _ c.if2.true) ∙ judged Ts (l c.before.before)
 
 returns-3 : tie.Need-returns-3
 returns-3 c =
-    first-not _ (sym (fraction-is c.before) ∙ not-true _ c.if3.true)
+    first_not _ (sym (fraction-is c.before) ∙ not-true _ c.if3.true)
     ∙ first_so _ (sym (front-so c.before.before.before.before) ∙ not-false _ c.before.before.before.if2.false) ∙ judged Ts (l c.before.before.before.before.before)
 
 returns-4 : tie.Need-returns-4

@@ -10,10 +10,10 @@ use lib.Seq.{length-take-le}
 use native.Mathlib.Omega.{arith}
 use borrow.Author.Tests.{not-false}
 use Rattle.alphabet.specs.Digits.{all_digits}
-use Rattle.alphabet.proofs.BoolLaws.{false-true, and_both}
+use Rattle.alphabet.proofs.BoolLaws.{false_true, and_both}
 use Rattle.alphabet.proofs.ListLaws.{rest_of}
 use Rattle.times.specs.Judged.{zone_judged}
-use Rattle.times.proofs.JudgeLaws.{last_block, usual-ts}
+use Rattle.times.proofs.JudgeLaws.{last_block, usual_ts}
 use Rattle.times.proofs.judging.is_usual_ts.Statement.{statement}
 use Rattle.times.proofs.judging.is_usual_ts.Tie as tie
 
@@ -42,7 +42,7 @@ returns-6 c e =
     let d = k.before.before in
     let b = d.before in
     let s = b.before.before.before.before.before.before in
-    usual-ts (l s) (all s) (not-false _ s.if2.false) (digits b)
+    usual_ts (l s) (all s) (not-false _ s.if2.false) (digits b)
     (sym d.is_date.ensures ∙ not-false _ k.before.if4.false)
     (sym k.is-clock.ensures ∙ not-false _ c.before.before.if5.false)
     (ap zone_judged (sym (rest_of (l s) 14)) ∙ sym c.is-zone.ensures ∙ e)
@@ -51,9 +51,9 @@ pub is-usual-ts-spec : {M : Type 1} → statement M
 is-usual-ts-spec =
     tie.close
     (tie.spec
-    (λ c e. false-true e)
+    (λ c e. false_true e)
     (λ c. search rules)
-    (λ c e. false-true e)
+    (λ c e. false_true e)
     (λ c. sym (before-sign c.before))
     (λ c. let n = before-sign c.before.before in sym (length-take-le 8 (take 14 (l c.before.before)) (omega arith)))
     (λ c κs. search rules)
@@ -61,11 +61,11 @@ is-usual-ts-spec =
     (λ c. let n = before-sign c.before.before.before in omega arith)
     (λ c. search rules)
     (λ c κs. search rules)
-    (λ c e. false-true e)
+    (λ c e. false_true e)
     (λ c κs. let n = before-sign c.before.before.before.before.before.before in (digits c, omega arith))
-    (λ c e. false-true e)
+    (λ c e. false_true e)
     (λ c κs. (digits c.before.before, omega arith))
-    (λ c e. false-true e)
+    (λ c e. false_true e)
     (λ c. search rules)
     (λ c. search rules)
     (λ c. search rules)

@@ -5,9 +5,9 @@ use mathlib.Core.Bool.{Bool, true}
 use borrow.Author.Tests.{not-true, not-false}
 use Rattle.calendar.specs.declared.figures.Time.{Time}
 use Rattle.forms.specs.Forms.{dt_form}
-use Rattle.forms.proofs.FormLaws.{dt-digits}
+use Rattle.forms.proofs.FormLaws.{dt_digits}
 use Rattle.times.specs.Times.{dt_time, time_if}
-use Rattle.times.proofs.TimeLaws.{dt-broken, dt-read}
+use Rattle.times.proofs.TimeLaws.{dt_broken, dt_read_lem}
 use Rattle.times.proofs.moments.read_dt.Statement.{statement}
 use Rattle.times.proofs.moments.read_dt.Tie as tie
 
@@ -17,11 +17,11 @@ form c = sym c.before.is-dt-form.ensures ∙ not-false _ c.if1.false
 returns : tie.Need-returns
 returns c =
     let t = c.before.before in
-    c.time-if.ensures ∙ dt-broken t.before.before.before.args.bytes.now (sym t.before.is-dt-form.ensures ∙ not-true _ t.if1.true)
+    c.time-if.ensures ∙ dt_broken t.before.before.before.args.bytes.now (sym t.before.is-dt-form.ensures ∙ not-true _ t.if1.true)
 
 -- the time that is put together
 time : (c : tie.After-no-offset) → Time
-time c = record { date = c.before.before.date-of.result; clock = c.before.no-clock.result; offset = c.no-offset.result }
+time c = record { date = c.before.before.date-of.result; clock = c.before.no_clock_lem.result; offset = c.no-offset.result }
 
 returns-2 : tie.Need-returns-2
 unfolding dt_time time
@@ -29,8 +29,8 @@ returns-2 c =
     let o = c.before.before in
     let e = o.before.before.before in
     c.time-if2.ensures ∙ ap (λ (t : Bool). time_if t (time o)) c.before.is_time_row.ensures
-    ∙ dt-read e.before.before.before.args.bytes.now (time o) (form e)
-    (λ i. record { date = o.before.before.date-of.ensures i; clock = o.before.no-clock.ensures i; offset = o.no-offset.ensures i })
+    ∙ dt_read_lem e.before.before.before.args.bytes.now (time o) (form e)
+    (λ i. record { date = o.before.before.date-of.ensures i; clock = o.before.no_clock_lem.ensures i; offset = o.no-offset.ensures i })
 
 pub read-dt-spec : {M : Type 1} → statement M
 read-dt-spec =
@@ -40,7 +40,7 @@ read-dt-spec =
     (λ c κs. search rules)
     (λ c κs. search rules)
     returns
-    (λ c κs. dt-digits _ (form c))
+    (λ c κs. dt_digits _ (form c))
     (λ c κs. search rules)
     (λ c κs. search rules)
     (λ c κs. search rules)

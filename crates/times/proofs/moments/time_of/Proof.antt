@@ -8,7 +8,7 @@ use lib.ListN.{length, drop}
 use Rattle.alphabet.specs.Digits.{all_digits}
 use Rattle.forms.specs.declared.layouts.Form.{Form}
 use Rattle.forms.specs.declared.layouts.Form.TheVariants.{Tm, Ts}
-use Rattle.forms.proofs.FormLaws.{Formed, formed, fraction-holds, zone_holds}
+use Rattle.forms.proofs.FormLaws.{Formed, formed, fraction_holds, zone_holds}
 use Rattle.times.specs.Times.{parts_time}
 use Rattle.times.proofs.moments.time_of.Statement.{statement}
 use Rattle.times.proofs.moments.time_of.Tie as tie
@@ -17,7 +17,7 @@ form : (c : tie.Start) → Formed c.args.form c.args.front.now c.args.tail.now c
 form c = formed c.args.form c.args.front.now c.args.tail.now c.args.zone.now c.requires
 
 tail : (c : tie.Start) → (all_digits (drop 1 c.args.tail.now) ≡ true) × (length c.args.tail.now ≤ 5)
-tail c = fraction-holds _ c.args.tail.now (form c).tailed
+tail c = fraction_holds _ c.args.tail.now (form c).tailed
 
 returns : tie.Need-returns
 returns c =

@@ -4,7 +4,7 @@ use mathlib.Core.Path.{sym, ◌∙◌}
 use mir.Syntax.{w64}
 use mir.Val.{SFits}
 use mir.Facts.{to_z-of_z}
-use Rattle.value.proofs.AskedLaws.{number-present, number-other}
+use Rattle.value.proofs.AskedLaws.{number_present, number_other}
 use Rattle.value.proofs.asked.number_from.Statement.{statement}
 use Rattle.value.proofs.asked.number_from.Tie as tie
 
@@ -12,10 +12,10 @@ returns : tie.Need-returns
 returns c =
     let a = c.before.before.before.before.args in
     let f : SFits w64 a.read.value = search rules in
-    number-present a.found a.read _ (sym c.before.before.is_present_lem.ensures ∙ c.before.if1.true) (to_z-of_z f)
+    number_present a.found a.read _ (sym c.before.before.is_present_lem.ensures ∙ c.before.if1.true) (to_z-of_z f)
 
 returns-2 : tie.Need-returns-2
-returns-2 c = let a = c.before.before.before.before.args in number-other a.found a.read (sym c.before.before.is_present_lem.ensures ∙ c.before.if1.false)
+returns-2 c = let a = c.before.before.before.before.args in number_other a.found a.read (sym c.before.before.is_present_lem.ensures ∙ c.before.if1.false)
 
 pub number-from-spec : {M : Type 1} → statement M
 number-from-spec =

@@ -12,8 +12,8 @@ use Rattle.alphabet.specs.Bytes.{carriage_return}
 use Rattle.alphabet.specs.Lists.{find}
 use Rattle.alphabet.specs.declared.answers.Check.{Check}
 use Rattle.alphabet.specs.declared.answers.Check.TheVariants.{Passes}
-use Rattle.alphabet.proofs.CheckLaws.{fails_or, passes-or}
-use Rattle.alphabet.proofs.ListLaws.{first-le}
+use Rattle.alphabet.proofs.CheckLaws.{fails_or, passes_or}
+use Rattle.alphabet.proofs.ListLaws.{first_le}
 use Rattle.reading.specs.Segments.{segments, delimiters_of}
 use Rattle.reading.specs.Reading.{segments_check}
 use Rattle.reading.proofs.SegmentLaws.{checks_walk, checks_over}
@@ -22,12 +22,12 @@ use Rattle.structure.specs.SegmentNames.{segment_names}
 use Rattle.structure.specs.Engine.{into, walked, resumed}
 use Rattle.structure.specs.declared.walking.Walked.{Walked}
 use Rattle.structure.specs.declared.walking.Walked.TheVariants.{Accepted}
-use Rattle.structure.proofs.SegmentWalk.{names_from, names-all, names_walk, names-over}
+use Rattle.structure.proofs.SegmentWalk.{names_from, names_all, names_walk, names_over}
 use Rattle.structure.proofs.OneWalk.{checks_left}
 use Rattle.field_table.specs.Table.{rows}
 use Rattle.rules.specs.Plain.{Permitted}
 use Rattle.fields.specs.Judging.{Fault, or_fault, judging}
-use Rattle.fields.proofs.JudgeLaws.{segments_left, segments-start, segments-none, segment-next}
+use Rattle.fields.proofs.JudgeLaws.{segments_left, segments_start, segments_none, segment_next}
 use Rattle.verdict.specs.Walk.{fault_of, Decides}
 use Rattle.verdict.specs.Walk.Decides.{unread}
 use Rattle.verdict.proofs.OneWalk.{or_sound, goes, decides}
@@ -58,8 +58,8 @@ loop-holds c =
       omega arith,
       c.segment-end.ensures,
       rw c.before.before.byte_at.ensures,
-      sym (b.ensures a.names.now a.follow.now a.last (segment_names m)) ∙ ap (resumed a.names.now a.follow.now a.last b.result 0) (names-all m),
-      λ p e. segments-start rows m,
+      sym (b.ensures a.names.now a.follow.now a.last (segment_names m)) ∙ ap (resumed a.names.now a.follow.now a.last b.result 0) (names_all m),
+      λ p e. segments_start rows m,
     )
 
 -- ---- the message
@@ -93,7 +93,7 @@ module _ (l : tie.At-loop invariant-loop decreases-loop) where
   inside : (l.loop.start ≤ l.loop.end) × (l.loop.end ≤ length message)
   inside =
       let e = l.loop.inv.2 in
-      let u = first-le (eqb carriage_return) (drop l.loop.start message) in
+      let u = first_le (eqb carriage_return) (drop l.loop.start message) in
       let n = length-drop l.loop.start message in
       let h = l.loop.inv.0 in
       (omega arith, omega arith)
@@ -139,7 +139,7 @@ module _ (c : tie.After-judge-more invariant-loop decreases-loop) where
   judged-on : Permitted (delimiters_of (message at)) → whole (message at) (names at) (follow at) (last at) ≡ Accepted → judging rows (message at) ≡ or_fault (fault_of c.judge-more.result) (segments_left rows (message at) (at.loop.number + 1) (at.loop.end + 1))
   judged-on p e =
       at.loop.inv.5 p e
-      ∙ ap (or_fault (fault_of at.loop.found)) (segment-next rows (message at) at.loop.number at.loop.start at.loop.end at.loop.inv.2 before-end (ds at) at.before.before.before.before.delimiters-of.ensures)
+      ∙ ap (or_fault (fault_of at.loop.found)) (segment_next rows (message at) at.loop.number at.loop.start at.loop.end at.loop.inv.2 before-end (ds at) at.before.before.before.before.delimiters-of.ensures)
       ∙ sym (c.judge-more.ensures (subst Permitted (sym at.before.before.before.before.delimiters-of.ensures) p) (goes (names at) (follow at) (last at) c.before.advance.result (at.loop.number + 1) (names_from (message at) (at.loop.end + 1)) (sym walked_on ∙ e))
       (segments_left rows (message at) (at.loop.number + 1) (at.loop.end + 1)))
 
@@ -169,7 +169,7 @@ loop-again c =
       omega arith,
       omega arith,
       c.segment-end2.ensures,
-      checked k.before.before.before.before.before ∙ passes-or k.before.before.before.enum_told.given.1 (checks-behind l),
+      checked k.before.before.before.before.before ∙ passes_or k.before.before.before.enum_told.given.1 (checks-behind l),
       walked_on k,
       judged-on k,
     )
@@ -181,11 +181,11 @@ returns-2 c = λ p s t.
     let over : length (message l) ≤ l.loop.start + find carriage_return (drop l.loop.start (message l)) = omega (arith, c.before.before.loop-test.false) in
     let w : c.before.finish.result ≡ whole (message l) (names l) (follow l) (last l) =
     c.before.finish.ensures (names l) (follow l) (last l)
-    ∙ sym (l.loop.invariant.4 ∙ ap (resumed (names l) (follow l) (last l) l.loop.course l.loop.number) (names-over (message l) l.loop.start over)) in
+    ∙ sym (l.loop.invariant.4 ∙ ap (resumed (names l) (follow l) (last l) l.loop.course l.loop.number) (names_over (message l) l.loop.start over)) in
     decides s (message l) (names l) (follow l) (last l) t
     (l.loop.invariant.3 ∙ ap in_order (checks_over (message l) l.loop.start (separator l) l.loop.number over))
     (fault_of l.loop.found) c.before.finish.result w
-    (λ (a : c.before.finish.result ≡ Accepted). sym (l.loop.invariant.5 p (sym w ∙ a) ∙ ap (or_fault (fault_of l.loop.found)) (segments-none rows (message l) l.loop.number l.loop.start over) ∙ or_sound (fault_of l.loop.found)))
+    (λ (a : c.before.finish.result ≡ Accepted). sym (l.loop.invariant.5 p (sym w ∙ a) ∙ ap (or_fault (fault_of l.loop.found)) (segments_none rows (message l) l.loop.number l.loop.start over) ∙ or_sound (fault_of l.loop.found)))
     c.tell.ensures
 
 pub judge-segments-spec : {M : Type 1} → statement M

@@ -2,13 +2,13 @@
 use mathlib.Core.Path.{sym, ap, ◌∙◌}
 use Prim.Native.Nat.{ℕ}
 use Rattle.formatting.specs.Pages.{line_with, word_ended}
-use Rattle.formatting.proofs.PageLaws.{ended-none, ended_some}
+use Rattle.formatting.proofs.PageLaws.{ended_none, ended_some}
 use borrow.Author.Rules.{rules}
 use Rattle.formatting.proofs.page.Page.end_word.Statement.{statement}
 use Rattle.formatting.proofs.page.Page.end_word.Tie as tie
 
 returns : tie.Need-returns
-returns c = let k = c.before.before.args.self in sym (ended-none k c.if1.true)
+returns c = let k = c.before.before.args.self in sym (ended_none k c.if1.true)
 
 reach-requires : tie.Need-reach-requires
 reach-requires c κs = search rules

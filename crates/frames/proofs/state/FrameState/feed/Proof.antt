@@ -15,8 +15,8 @@ use Rattle.alphabet.proofs.ListLaws.{rest_of}
 use Rattle.frames.specs.declared.steps.Step.{Step}
 use Rattle.frames.specs.Wire.{frame_limit}
 use Rattle.frames.specs.Feeding.{Feeding, feeding, told, known, foreign, fed, stored, stopping}
-use Rattle.frames.proofs.FeedLaws.{frame_limit_le, gathers_below, length-stored, stored-set, stored-not, feed_end, feed_stop, feed_on, fed-known, fed-foreign}
-use Rattle.frames.proofs.KnownLaws.{known-after}
+use Rattle.frames.proofs.FeedLaws.{frame_limit_le, gathers_below, length_stored, stored_set, stored_not, feed_end, feed_stop, feed_on, fed_known, fed_foreign}
+use Rattle.frames.proofs.KnownLaws.{known_after}
 use Rattle.frames.proofs.state.FrameState.feed.Statement.{statement}
 use Rattle.frames.proofs.state.FrameState.feed.Tie as tie
 
@@ -36,14 +36,14 @@ whole : (c : tie.After-limit-of invariant-loop decreases-loop)
     fed a.self a.piece.now a.buffer.now ≡ feeding c.limit-of.result a.self a.buffer.now 0 a.piece.now
 whole c =
     let a = c.before.before.before.before.before.args in
-    fed-known a.self a.piece.now a.buffer.now (can c) ∙ ap (λ (n : ℕ). feeding n a.self a.buffer.now 0 a.piece.now) (sym c.limit-of.ensures)
+    fed_known a.self a.piece.now a.buffer.now (can c) ∙ ap (λ (n : ℕ). feeding n a.self a.buffer.now 0 a.piece.now) (sym c.limit-of.ensures)
 
 returns : tie.Need-returns invariant-loop decreases-loop
 unfolding foreign
 returns c =
     let k = c.before in
     let a = k.before.before.before.before.args in
-    let e = fed-foreign a.self a.piece.now a.buffer.now (sym k.before.is_Known.ensures ∙ not-true _ k.if1.true) in
+    let e = fed_foreign a.self a.piece.now a.buffer.now (sym k.before.is_Known.ensures ∙ not-true _ k.if1.true) in
     (c.given.ensures ∙ ap (λ (f : Feeding). f.said) (sym e), ap (λ (f : Feeding). f.left) (sym e))
 
 loop-holds : tie.Need-loop-init invariant-loop decreases-loop
@@ -143,12 +143,12 @@ slice-write-buffer c =
 after : (c : tie.Joined3 invariant-loop decreases-loop)
     → let k = c.before.before.before.before.before.before.before in
     c.if3.buffer ≡ stored (X k) k.pass.result.state.held (get_or (Piece (L k)) (At k) 0) c.before.step_by.result.gathers
-after c = ⊎_elim (λ w. w.1 ∙ sym (stored-set _ _ _ w.0.taken)) (λ w. w.1 ∙ sym (stored-not _ _ _ w.0.left)) c.if3.branch
+after c = ⊎_elim (λ w. w.1 ∙ sym (stored_set _ _ _ w.0.taken)) (λ w. w.1 ∙ sym (stored_not _ _ _ w.0.left)) c.if3.branch
 
 after-size : (c : tie.Joined3 invariant-loop decreases-loop) → let k = c.before.before.before.before.before.before.before in length c.if3.buffer ≡ length (L k).before.before.before.before.before.before.args.buffer.now
 after-size c =
     let k = c.before.before.before.before.before.before.before in
-    ap length (after c) ∙ length-stored (X k) k.pass.result.state.held (get_or (Piece (L k)) (At k) 0) c.before.step_by.result.gathers ∙ (behind k).size
+    ap length (after c) ∙ length_stored (X k) k.pass.result.state.held (get_or (Piece (L k)) (At k) 0) c.before.step_by.result.gathers ∙ (behind k).size
 
 add-i-2 : tie.Need-overflow-add-i-2 invariant-loop decreases-loop
 add-i-2 c =
@@ -188,7 +188,7 @@ loop-again c =
     let h : At k + 1 ≤ length (Piece l) = omega arith in (
       h,
       after-size j,
-      known-after _ _ k.pass.result.state (get_or (Piece l) (At k) 0) j.before.step_by.result (behind k).known-still l.before.limit-of.ensures j.before.step_by.ensures,
+      known_after _ _ k.pass.result.state (get_or (Piece l) (At k) 0) j.before.step_by.result (behind k).known-still l.before.limit-of.ensures j.before.step_by.ensures,
       sym (whole l.before) ∙ (behind k).on
           ∙ feed_on _ k.pass.result.state (X k) (Piece l) (At k) j.before.step_by.result j.if3.buffer w j.before.step_by.ensures (after j)
           (sym c.before.stopping.ensures ∙ c.if4.false),
