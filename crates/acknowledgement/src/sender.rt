@@ -32,7 +32,7 @@ pub fn header_of<'a>(message: &'a [u8], line: &[u8]) -> &'a [u8]
 
 // Where fields of the header end; those that are absent end where the header does. The bytes of a field stand between
 // the end of the field before it and its own.
-#[derive(Drop)]
+#[derive(Clone, Copy)]
 pub struct FieldEnds {
     pub two: usize,
     pub four: usize,

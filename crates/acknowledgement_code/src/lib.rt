@@ -9,7 +9,7 @@ use fault::FaultRecord;
 
 // What the letters say: AA, AE or AR. At an error the message is wrong; at a rejection it is of a kind that is not
 // taken here.
-#[derive(Drop)]
+#[derive(Clone, Copy)]
 pub enum Code {
     Accept,
     Error,

@@ -3,7 +3,7 @@ ghost use Rattle.std.specs.Prelude.{◌≡◌};
 ghost use Rattle.alphabet.specs.Answers.{number_of, fails_if, or_else, answered};
 
 // Each case is one number of the table in document 01, and from `StructureName` on of document 02; `number` gives it.
-#[derive(Drop)]
+#[derive(Clone, Copy)]
 pub enum Refusal {
     None,
     Length,
@@ -46,14 +46,14 @@ pub enum Refusal {
 }
 
 // What a check finds: nothing wrong, or the first fault and its place.
-#[derive(Drop)]
+#[derive(Clone, Copy)]
 pub enum Check {
     Passes,
     Fails { kind: Refusal, place: usize },
 }
 
 // The answer: the kind of refusal and its place, or the length of what was written.
-#[derive(Drop)]
+#[derive(Clone, Copy)]
 pub struct Answer {
     pub kind: Refusal,
     pub place: usize,

@@ -5,7 +5,7 @@ ghost use Rattle.alphabet.specs.Delimiters.{permitted, first_wrong_delimiter};
 use crate::bytes::find;
 
 // In the message's order: field, component, repetition, escape, subcomponent.
-#[derive(Drop)]
+#[derive(Clone, Copy)]
 pub struct Delimiters {
     pub bytes: [u8; 5],
 }

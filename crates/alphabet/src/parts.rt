@@ -6,14 +6,14 @@ ghost use Rattle.alphabet.specs.Parts.{part_at};
 use crate::bytes::find;
 
 // Where a part stands, from `start` up to and without `end`; or that there are fewer parts.
-#[derive(Drop)]
+#[derive(Clone, Copy)]
 pub enum Part {
     At { start: usize, end: usize },
     Absent,
 }
 
 // Where a part begins, for walks that seek an end only where it is asked for; or that there are fewer parts.
-#[derive(Drop)]
+#[derive(Clone, Copy)]
 pub enum Start {
     From { start: usize },
     Missing,

@@ -4,7 +4,7 @@ use crate::{decimals, words};
 use element::Address;
 
 // What the words behind a message ask for: the element at an address, or nothing.
-#[derive(Drop)]
+#[derive(Clone, Copy)]
 pub enum Asked {
     At(Address),
     Refused,

@@ -5,7 +5,7 @@ ghost use Rattle.alphabet.specs.Hex.{all_hex, pairs_of};
 ghost use Rattle.asking.specs.Hex.{said, fitting, Told, Reaching};
 
 // What a word says: so many bytes, which are at the front of the buffer now, or nothing.
-#[derive(Drop)]
+#[derive(Clone, Copy)]
 pub enum Decoded {
     Length(usize),
     Refused,

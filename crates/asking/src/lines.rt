@@ -6,7 +6,7 @@ ghost use Rattle.asking.specs.Lines.{Within, Gathered};
 use crate::bytes;
 
 // What is gathered of a line: the buffer holds all of it, so many bytes, or it is too long for the buffer.
-#[derive(Drop)]
+#[derive(Clone, Copy)]
 pub enum Line {
     Holds(usize),
     TooLong,

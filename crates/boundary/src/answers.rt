@@ -8,7 +8,7 @@ use alphabet::Answer;
 
 // A number of the table, 0 where nothing was refused; its place; and the length of what was written.
 #[repr(C)]
-#[derive(Drop)]
+#[derive(Clone, Copy)]
 pub struct CAnswer {
     pub number: u32,
     pub place: usize,

@@ -8,7 +8,7 @@ use frames::{Fed, FrameState, Stop};
 
 // The mode, the bytes held and the count of bytes dropped outside frames. All zeros is the start.
 #[repr(C)]
-#[derive(Drop)]
+#[derive(Clone, Copy)]
 pub struct CFrameState {
     pub mode: u64,
     pub held: usize,
@@ -17,7 +17,7 @@ pub struct CFrameState {
 
 // The number; what the reader stopped at; the bytes of the piece that are done with; the frame's length; the state.
 #[repr(C)]
-#[derive(Drop)]
+#[derive(Clone, Copy)]
 pub struct CFed {
     pub number: u32,
     pub stop: u32,

@@ -8,7 +8,7 @@ use fault::FaultRecord;
 // A number of the table; the place; whether the message could have ended there; and how many names could have stood
 // there.
 #[repr(C)]
-#[derive(Drop)]
+#[derive(Clone, Copy)]
 pub struct CStructure {
     pub number: u32,
     pub could_end: bool,
@@ -18,7 +18,7 @@ pub struct CStructure {
 
 // The same with the field and the repetition of a field's fault.
 #[repr(C)]
-#[derive(Drop)]
+#[derive(Clone, Copy)]
 pub struct CVerdict {
     pub number: u32,
     pub could_end: bool,

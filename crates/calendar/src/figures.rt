@@ -3,13 +3,13 @@ ghost use Rattle.std.specs.Prelude.{◌≡◌};
 ghost use Rattle.calendar.specs.Calendar.{no_date, no_clock, no_offset, no_time};
 
 // A figure of a time, as a month or an hour.
-#[derive(Drop)]
+#[derive(Clone, Copy)]
 pub enum Figure {
     NotSent,
     Sent(u64),
 }
 
-#[derive(Drop)]
+#[derive(Clone, Copy)]
 pub struct Date {
     pub year: Figure,
     pub month: Figure,
@@ -17,7 +17,7 @@ pub struct Date {
 }
 
 // The fraction of a second is the number that its digits say, with their count: .5, .50 and .05 differ.
-#[derive(Drop)]
+#[derive(Clone, Copy)]
 pub struct Clock {
     pub hour: Figure,
     pub minute: Figure,
@@ -26,7 +26,7 @@ pub struct Clock {
     pub digits: usize,
 }
 
-#[derive(Drop)]
+#[derive(Clone, Copy)]
 pub enum Sign {
     NotSent,
     Plus,
@@ -34,14 +34,14 @@ pub enum Sign {
 }
 
 // The offset from UTC, its sign apart: -0030, -0000 and +0000 differ.
-#[derive(Drop)]
+#[derive(Clone, Copy)]
 pub struct Offset {
     pub sign: Sign,
     pub hours: u64,
     pub minutes: u64,
 }
 
-#[derive(Drop)]
+#[derive(Clone, Copy)]
 pub struct Time {
     pub date: Date,
     pub clock: Clock,

@@ -5,7 +5,7 @@ ghost use Rattle.element.specs.Addresses.{address_check, type_address};
 use alphabet::{Check, Refusal};
 
 // Segments count from 0, all else from 1; 0 for the last three means the whole.
-#[derive(Drop)]
+#[derive(Clone, Copy)]
 pub struct Address {
     pub segment: usize,
     pub field: usize,

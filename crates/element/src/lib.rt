@@ -23,7 +23,7 @@ pub use states::{State, is_present, state_of};
 
 // An element: its state, and the bytes of the message that it is, from `start` up to and without `end`.
 // An absent element stands nowhere: 0 and 0.
-#[derive(Drop)]
+#[derive(Clone, Copy)]
 pub struct Element {
     pub state: State,
     pub start: usize,
@@ -31,7 +31,7 @@ pub struct Element {
 }
 
 // The answer to a question for an element: a refusal, or the element.
-#[derive(Drop)]
+#[derive(Clone, Copy)]
 pub struct Found {
     pub answer: Answer,
     pub element: Element,

@@ -4,7 +4,7 @@ ghost use Rattle.element.specs.States.{state_of, is_empty, is_present};
 
 use alphabet::Delimiters;
 
-#[derive(Drop)]
+#[derive(Clone, Copy)]
 pub enum State {
     Absent,
     Empty,

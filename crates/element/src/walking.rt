@@ -27,7 +27,7 @@ fn separators_in(block: &[u8], separator: u8) -> u8
 }
 
 // How far a walk along a segment has come, and how many separators it has still to pass.
-#[derive(Drop)]
+#[derive(Clone, Copy)]
 struct Walk {
     place: usize,
     left: usize,

@@ -15,7 +15,7 @@ const FEW: usize = 256;
 const MANY: usize = 4096;
 
 // Where a segment stands, from 0 to 0 where there is none, and how many of its name stand up to and with it.
-#[derive(Drop)]
+#[derive(Clone, Copy)]
 pub struct Located {
     pub start: usize,
     pub end: usize,

@@ -5,7 +5,7 @@ ghost use Rattle.error_segment.specs.Numerals.{numeral};
 ghost use Rattle.error_segment.specs.Pieces.{said};
 
 // A numeral: the digits from `start` on.
-#[derive(Drop)]
+#[derive(Clone, Copy)]
 pub struct Numeral {
     pub digits: [u8; 20],
     pub start: usize,

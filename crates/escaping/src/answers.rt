@@ -7,7 +7,7 @@ ghost use Rattle.escaping.specs.Outcomes.{answer};
 use alphabet::{Answer, Refusal};
 
 // Whether something of a length goes into a room.
-#[derive(Drop)]
+#[derive(Clone, Copy)]
 pub enum Room {
     Takes(usize),
     Short,

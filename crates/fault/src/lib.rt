@@ -8,7 +8,7 @@ ghost use Rattle.fault.specs.Faults.{name_list, plain, at_field};
 use alphabet::Refusal;
 
 // Names, the first `count` of the list; zeros stand behind them.
-#[derive(Drop)]
+#[derive(Clone, Copy)]
 pub struct Names {
     pub list: [u32; 64],
     pub count: usize,
@@ -18,7 +18,7 @@ pub struct Names {
 // field and repetition are those of a field's fault. For a segment that cannot stand where it stands and for a message
 // that ended early: whether it could have ended there, and the names that could have stood there. What a fault does not
 // use is 0, no and no names.
-#[derive(Drop)]
+#[derive(Clone, Copy)]
 pub struct FaultRecord {
     pub kind: Refusal,
     pub place: usize,

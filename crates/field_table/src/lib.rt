@@ -8,7 +8,7 @@ ghost use Rattle.field_table.specs.declared.Values.TheVariants.{ValueTypes, Code
 ghost use Rattle.field_table.specs.Codes.{singles, CodeOf};
 
 // The lists: MSH-11, MSH-12, PID-8, OBX-2, OBX-11 and MSA-1.
-#[derive(Drop)]
+#[derive(Clone, Copy)]
 pub enum Values {
     Processing,
     Version,
@@ -19,7 +19,7 @@ pub enum Values {
 }
 
 // What it is judged by: a form, a list, or what another field of the segment says.
-#[derive(Drop)]
+#[derive(Clone, Copy)]
 pub enum Kind {
     Any,
     Identifier,
@@ -34,7 +34,7 @@ pub enum Kind {
 
 // The segment's name is its three bytes as one number, the first highest. Of each repetition a row judges a component,
 // counted from 1, or the whole, which is 0.
-#[derive(Drop)]
+#[derive(Clone, Copy)]
 pub struct Row {
     pub segment: u32,
     pub field: usize,

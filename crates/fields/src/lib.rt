@@ -68,7 +68,7 @@ fn end_of_rows(name: u32) -> usize
 }
 
 // What the rows find in a segment: the first check that fails, and of which field, or one that passes.
-#[derive(Drop)]
+#[derive(Clone, Copy)]
 pub struct Judged {
     pub found: Check,
     pub field: usize,

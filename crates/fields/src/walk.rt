@@ -14,7 +14,7 @@ use rules::{
 };
 
 // Part `index` of a segment, from 0, begins at `place`.
-#[derive(Drop)]
+#[derive(Clone, Copy)]
 pub struct Cursor {
     pub index: usize,
     pub place: usize,
@@ -22,7 +22,7 @@ pub struct Cursor {
 
 // A part of a segment, from `start` up to and without `end`, its repetition 1 up to and without `first`; and the cursor
 // from which to seek the next.
-#[derive(Drop)]
+#[derive(Clone, Copy)]
 struct Sought {
     pub cursor: Cursor,
     pub start: usize,
@@ -33,7 +33,7 @@ struct Sought {
 // A row of a segment as it is judged: what the last check found, first those of the row's opening; where those of its
 // repetitions stand that are left, from `start` up to and without `end`, or none where `start` is past `end`; the
 // number of the first of them; and what they are to be judged by.
-#[derive(Drop)]
+#[derive(Clone, Copy)]
 struct Turn {
     pub cursor: Cursor,
     pub found: Check,
@@ -312,7 +312,7 @@ fn next_repetition(delimiters: Delimiters, segment: &[u8], turn: Turn) -> Turn
 
 // A row of a segment that was judged: the first check that fails, or one that passes; and the cursor from which to seek
 // the next.
-#[derive(Drop)]
+#[derive(Clone, Copy)]
 pub struct RowJudged {
     pub cursor: Cursor,
     pub found: Check,

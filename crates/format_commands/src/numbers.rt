@@ -4,14 +4,14 @@ ghost use Rattle.std.specs.Prelude.{◌≡◌};
 ghost use Rattle.format_commands.specs.Commands.{past_if, digits_of, signed_of, number_of, held_size, held_number};
 
 // A number with its sign.
-#[derive(Drop)]
+#[derive(Clone, Copy)]
 pub struct Amount {
     pub minus: bool,
     pub size: usize,
 }
 
 // What stands behind a command's name: a number, or none in the form of one.
-#[derive(Drop)]
+#[derive(Clone, Copy)]
 pub enum Number {
     Missing,
     Given(Amount),

@@ -6,7 +6,7 @@ ghost use Rattle.format_commands.specs.Commands.{numbered, order_of, is_order, c
 use crate::numbers::{Amount, Number, number_of};
 
 // What a sequence asks for.
-#[derive(Drop)]
+#[derive(Clone, Copy)]
 pub enum Order {
     Unknown,
     Highlight,

@@ -16,7 +16,7 @@ use plain::plain_run;
 use text::is_known;
 
 // The page behind the items that were read, and the fault behind them, where there is one.
-#[derive(Drop)]
+#[derive(Clone, Copy)]
 pub struct Laying {
     pub found: Check,
     pub page: Page,

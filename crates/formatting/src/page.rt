@@ -11,7 +11,7 @@ pub const WIDTH: usize = 200;
 
 // The state of the layout. What is owed and where a line begins are held at 201, which fits on no line. The numbers
 // stand before what is true or false, so that the compiler has no gaps between them to copy.
-#[derive(Drop)]
+#[derive(Clone, Copy)]
 pub struct Page {
     // how many bytes were written
     pub place: usize,

@@ -3,7 +3,7 @@ ghost use Rattle.std.specs.Prelude.{◌≡◌};
 ghost use Rattle.forms.specs.Forms.{dt_length, dt_form, layout_of, front_length, fraction_form, zone_form, parts_form};
 
 // The two that have a clock and a zone: TM, a clock alone, and TS, a date and a clock.
-#[derive(Drop)]
+#[derive(Clone, Copy)]
 pub enum Form {
     Tm,
     Ts,

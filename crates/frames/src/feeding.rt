@@ -9,7 +9,7 @@ use crate::steps::{Event, step_by};
 use alphabet::{Answer, Refusal};
 
 // What the reader stopped at: the piece's end, a frame, a dropped frame; or nothing, where it refused the state.
-#[derive(Drop)]
+#[derive(Clone, Copy)]
 pub enum Stop {
     More,
     Frame,
@@ -19,7 +19,7 @@ pub enum Stop {
 
 // What goes back. A frame stands at the front of the buffer, as long as the answer says; `used` bytes of the piece are
 // done with, and what is left of it is handed in next, with the state.
-#[derive(Drop)]
+#[derive(Clone, Copy)]
 pub struct Fed {
     pub answer: Answer,
     pub used: usize,

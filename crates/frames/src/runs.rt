@@ -10,7 +10,7 @@ use crate::state::{CLOSES, FrameState, INSIDE, OPENS, OUTSIDE, SKIPPING, most_dr
 const MASK: u8 = 27;
 
 // How many bytes were passed over, and the state behind them.
-#[derive(Drop)]
+#[derive(Clone, Copy)]
 pub struct Passed {
     pub run: usize,
     pub state: FrameState,

@@ -23,7 +23,7 @@ pub const SKIPPING_END: u64 = 4;
 
 // The mode, the bytes held in the buffer, and the count of the bytes dropped outside frames. They are numbers, and the
 // mode no enum, since the caller keeps them between two pieces: any three may come back, and are judged (14).
-#[derive(Drop)]
+#[derive(Clone, Copy)]
 pub struct FrameState {
     pub mode: u64,
     pub held: usize,

@@ -16,7 +16,7 @@ use element::Address;
 const NAMED: usize = 1_048_576;
 
 // Where a walk stands: the address of the leaf that it is in, where that begins, and where its row will stand.
-#[derive(Drop)]
+#[derive(Clone, Copy)]
 struct Walk {
     address: Address,
     start: usize,

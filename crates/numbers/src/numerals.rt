@@ -12,7 +12,7 @@ use alphabet::{Check, Refusal};
 const MOST_DIGITS: usize = 18;
 
 // What bytes say as a number: the refusal, or the number. A whole number has no decimals.
-#[derive(Drop)]
+#[derive(Clone, Copy)]
 pub struct ReadNumber {
     pub kind: Refusal,
     pub value: i64,

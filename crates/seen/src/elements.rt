@@ -12,7 +12,7 @@ const NOT_SENT: u64 = 0xffff_ffff_ffff_ffff;
 
 // A number of the table and its place, or the state and where the bytes stand: from `start` up to `end`.
 #[repr(C)]
-#[derive(Drop)]
+#[derive(Clone, Copy)]
 pub struct CElement {
     pub number: u32,
     pub state: u32,
@@ -24,7 +24,7 @@ pub struct CElement {
 // A number of the table and its place, or the state and, where it is present, the number: `value` with so many
 // decimals.
 #[repr(C)]
-#[derive(Drop)]
+#[derive(Clone, Copy)]
 pub struct CNumber {
     pub number: u32,
     pub state: u32,
@@ -34,7 +34,7 @@ pub struct CNumber {
 }
 
 #[repr(C)]
-#[derive(Drop)]
+#[derive(Clone, Copy)]
 pub struct CDate {
     pub year: u64,
     pub month: u64,
@@ -43,7 +43,7 @@ pub struct CDate {
 
 // The fraction of a second is the number that its digits say, with their count.
 #[repr(C)]
-#[derive(Drop)]
+#[derive(Clone, Copy)]
 pub struct CClock {
     pub hour: u64,
     pub minute: u64,
@@ -54,7 +54,7 @@ pub struct CClock {
 
 // The offset from UTC. Its sign is 0 for none sent, 1 for plus and 2 for minus.
 #[repr(C)]
-#[derive(Drop)]
+#[derive(Clone, Copy)]
 pub struct COffset {
     pub sign: u64,
     pub hours: u64,
@@ -63,7 +63,7 @@ pub struct COffset {
 
 // A number of the table and its place, or the state and, where it is present, the time.
 #[repr(C)]
-#[derive(Drop)]
+#[derive(Clone, Copy)]
 pub struct CTime {
     pub number: u32,
     pub state: u32,

@@ -7,7 +7,7 @@ use segments::SegmentFound;
 // A number of the table and its place, or the name, three bytes with the first highest, and where the segment stands:
 // from `start` up to `end`, where its CR is.
 #[repr(C)]
-#[derive(Drop)]
+#[derive(Clone, Copy)]
 pub struct CSegment {
     pub number: u32,
     pub name: u32,

@@ -10,7 +10,7 @@ use alphabet::{Answer, Check, Part, Refusal};
 
 // The answer to a question for a segment: a refusal, or its name as one number in base 256 and the bytes of the message
 // that it is, from `start` up to and without `end`, where its CR stands.
-#[derive(Drop)]
+#[derive(Clone, Copy)]
 pub struct SegmentFound {
     pub answer: Answer,
     pub name: u32,

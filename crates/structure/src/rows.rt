@@ -5,7 +5,7 @@ ghost use Rattle.structure.specs.Engine.{rows_with};
 // A row for each place where a name stands: the name, and the set of places that can be filled next, in which bit p is
 // place p. The rows are the first `count` of the lists; zeros stand behind them. `last` is the set of places behind
 // which a message can end.
-#[derive(Drop)]
+#[derive(Clone, Copy)]
 pub struct Rows {
     pub names: [u32; 64],
     pub follow: [u64; 64],

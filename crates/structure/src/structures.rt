@@ -10,7 +10,7 @@ use crate::{ack, adt_a01, adt_a02, adt_a40, oru_r01};
 use element::type_address;
 
 // The structures that are listed; a type that chooses none is unlisted.
-#[derive(Drop)]
+#[derive(Clone, Copy)]
 pub enum Structure {
     ObservationReport,
     Acknowledgement,

@@ -6,7 +6,7 @@ ghost use Rattle.structure.specs.Engine.{entry, into, stepped, walked, resumed};
 use crate::names::is_passed_over;
 
 // What can come next: a set of places, and whether the message could end.
-#[derive(Drop)]
+#[derive(Clone, Copy)]
 pub struct Next {
     pub places: u64,
     pub ends: bool,
@@ -14,7 +14,7 @@ pub struct Next {
 
 // A walk on its way: what can come next; or the segment that cannot stand where it stands, with the places that could
 // have been filled there, and whether the message could have ended there.
-#[derive(Drop)]
+#[derive(Clone, Copy)]
 pub enum Course {
     Going {
         places: u64,
@@ -29,7 +29,7 @@ pub enum Course {
 
 // What a walk comes to. Where it stops, the places that could have been filled there, and whether the message could
 // have ended there, which it could not where it ended too early.
-#[derive(Drop)]
+#[derive(Clone, Copy)]
 pub enum Walked {
     Accepted,
     Misplaced {

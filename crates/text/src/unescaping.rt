@@ -15,14 +15,14 @@ use escaping::refused;
 use plain::{place_of, plain_run};
 
 // What stands at a place of a text: a fault, or bytes, as many as `length`, with `skip` bytes more after the first.
-#[derive(Drop)]
+#[derive(Clone, Copy)]
 pub enum Found {
     Fault(Refusal),
     Bytes { length: usize, skip: usize },
 }
 
 // What a whole text is: its length, or its first fault and the place.
-#[derive(Drop)]
+#[derive(Clone, Copy)]
 pub enum Judged {
     Text(usize),
     Fault { kind: Refusal, place: usize },

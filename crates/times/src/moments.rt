@@ -10,7 +10,7 @@ use calendar::Time;
 use forms::Form;
 
 // What bytes say as a time: the refusal, or the time.
-#[derive(Drop)]
+#[derive(Clone, Copy)]
 pub struct ReadTime {
     pub kind: Refusal,
     pub time: Time,

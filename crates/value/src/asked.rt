@@ -11,7 +11,7 @@ use numbers::ReadNumber;
 use times::ReadTime;
 
 // The answer: a refusal, or the element's state and, where it is present, its number.
-#[derive(Drop)]
+#[derive(Clone, Copy)]
 pub struct NumberFound {
     pub answer: Answer,
     pub state: State,
@@ -20,7 +20,7 @@ pub struct NumberFound {
 }
 
 // The answer: a refusal, or the element's state and, where it is present, its time.
-#[derive(Drop)]
+#[derive(Clone, Copy)]
 pub struct TimeFound {
     pub answer: Answer,
     pub state: State,

@@ -15,7 +15,7 @@ use fault::FaultRecord;
 use structure::{Course, Walked};
 
 // The first fault of the fields, in the segments that were judged.
-#[derive(Drop)]
+#[derive(Clone, Copy)]
 pub struct Found {
     pub check: Check,
     pub segment: usize,
