@@ -7,7 +7,6 @@ mod walk;
 
 ghost use Rattle.std.specs.Prelude.{◌≡◌, ◌+◌, ◌^◌, ◌<◌, length};
 ghost use Rattle.field_table.specs.Table.{rows};
-ghost use Rattle.rules.specs.Plain.{Permitted};
 ghost use Rattle.fields.specs.Judging.{name_at, located, fault_answer};
 ghost use Rattle.fields.specs.Walk.{NoneBefore, NoneFrom, judged_in};
 
@@ -113,17 +112,16 @@ fn judge_rows(
     }
 }
 
-// The first fault of the fields of one segment, under delimiters that are permitted. Most segments are seen at once to
-// have none.
+// The first fault of the fields of one segment. Most segments are seen at once to have none.
 pub fn judge_segment(delimiters: Delimiters, segment: &[u8], number: usize) -> Judged
     requires { length segment.now + 1 < 2 ^ 64 }
-    ensures { Permitted delimiters.bytes → located number result.field result.found
+    ensures { located number result.field result.found
         ≡ judged_in rows delimiters.bytes number segment.now }
 {
     let name = name_of(number, segment);
     let from = first_row(name);
     let to = end_of_rows(name);
-    if plain::is_plain(delimiters, segment, number, name, from, to) {
+    if plain::is_seen_sound(delimiters, segment, number, name, from, to) {
         return Judged {
             found: Check::Passes,
             field: 0,

@@ -113,3 +113,22 @@ pub fn is_plain(
     }
     true
 }
+
+// The same of any delimiters: where they are not those of a message that can be read, nothing is seen at once.
+pub fn is_seen_sound(
+    delimiters: Delimiters,
+    segment: &[u8],
+    number: usize,
+    name: u32,
+    from: usize,
+    to: usize,
+) -> bool
+    requires { NoneBefore rows name from × NoneFrom rows name to }
+    ensures { result ≡ true → name ≡ name_at number segment.now
+        → judged_in rows delimiters.bytes number segment.now ≡ Sound }
+{
+    if alphabet::first_wrong_delimiter(delimiters) != 5 {
+        return false;
+    }
+    is_plain(delimiters, segment, number, name, from, to)
+}

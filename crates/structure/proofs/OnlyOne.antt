@@ -19,7 +19,7 @@ use Rattle.structure.specs.Shapes.{Shape, Yields, Viable, Fills, Possible, names
 use Rattle.structure.specs.SegmentNames.{kept, segment_names}
 use Rattle.structure.specs.Listed.{In, Listed}
 use Rattle.structure.specs.Structures.{ListedStructure, chosen, unlisted, structure_for, built_in}
-use Rattle.structure.specs.Judged.{front, Refused, refused_as, Judged, accepted, refused, StructuredBy, no_structure, by, AnswersBy, unread, read, Answers}
+use Rattle.structure.specs.Judged.{front, Refused, refused_as, Judged, accepted, refused, StructuredBy, no_structure, by, AnswersBy, unread, read, Structured, Answers}
 use Rattle.fault.specs.Faults.{plain}
 use Rattle.fault.specs.declared.FaultRecord.{FaultRecord}
 use Rattle.structure.proofs.PlaceLaws.{CouldEnd, yields_is}
@@ -114,7 +114,7 @@ module _ (s : Shape) where
 
 module _ (book : List ListedStructure) (m : List ℕ) where
   -- no second judgement of a message that was read
-  one_structured_by : {r t : FaultRecord} → StructuredBy book m r → StructuredBy book m t → r ≡ t
+  pub one_structured_by : {r t : FaultRecord} → StructuredBy book m r → StructuredBy book m t → r ≡ t
   one_structured_by (no_structure e) (no_structure f) = refl
   one_structured_by (no_structure e) (by x f j) = absurd (let z : ◌≡◌ {A = ℕ} 0 1 = cc in omega arith)
   one_structured_by (by x e j) (no_structure f) = absurd (let z : ◌≡◌ {A = ℕ} 0 1 = cc in omega arith)
@@ -130,5 +130,8 @@ module _ (book : List ListedStructure) (m : List ℕ) where
   only_one_by (read e j) (read f k) = one_structured_by j k
 
 -- by the structures of document 01
+pub one_structured : (m : List ℕ) {r t : FaultRecord} → Structured m r → Structured m t → r ≡ t
+one_structured m a b = one_structured_by built_in m a b
+
 pub only_one : (m : List ℕ) {r t : FaultRecord} → Answers m r → Answers m t → r ≡ t
 only_one m a b = only_one_by built_in m a b

@@ -1,4 +1,4 @@
--- Tables as one value: what is copied place by place, that the rows are the tables which were copied, and which structure was chosen. Assumes nothing.
+-- Tables as one value: what is copied place by place, that the rows are the tables which were copied, which structure was chosen, and a message that is judged by them. Assumes nothing.
 use mathlib.Core.Path.{◌≡◌, refl, sym, ap, ◌∙◌, subst}
 use mathlib.Core.List.{List, [], ◌∷◌, ◌++◌}
 use Prim.Native.Nat.{ℕ, ◌+◌, ◌≤◌, ◌<◌}
@@ -6,8 +6,13 @@ use native.Mathlib.Numerals.{add-one}
 use native.Mathlib.Omega.{arith}
 use lib.ListN.{length, get_or, take, set}
 use lib.Seq.{take-suc, length-take-le}
+use Rattle.alphabet.specs.declared.answers.Refusal.TheVariants.{NoStructure}
+use Rattle.fault.specs.Faults.{plain}
+use Rattle.fault.specs.declared.FaultRecord.{FaultRecord}
 use Rattle.structure.specs.Shapes.{Shape}
-use Rattle.structure.specs.Structures.{ListedStructure, Choice, chosen, unlisted}
+use Rattle.structure.specs.SegmentNames.{segment_names}
+use Rattle.structure.specs.Structures.{ListedStructure, Choice, chosen, unlisted, structure_for}
+use Rattle.structure.specs.Judged.{Judged, StructuredBy, no_structure, by}
 use Rattle.structure.specs.Engine.{into, Tables, rows_with, RowsAre, RowsOf}
 use Rattle.structure.specs.declared.rows.Rows.{Rows}
 use Rattle.structure.proofs.ListingLaws.{filled, filled_more, filled_front}
@@ -51,3 +56,17 @@ pub one_chosen : (choice : Choice) (r : Rows) → RowsOf choice r → (r.count �
     → (x : ListedStructure) × (choice ≡ chosen x) × Tables x.shape (take r.count r.names) (take r.count r.follow) r.last (into 1)
 one_chosen (chosen x) r h n = (x, refl, h.2)
 one_chosen unlisted r h n = absurd (n h)
+
+-- ---- a message judged by the rows of the structure that was chosen
+
+module _ (book : List ListedStructure) (m : List ℕ) where
+  -- there are none
+  pub by_no_rows : (choice : Choice) (r : Rows) → choice ≡ structure_for book m → RowsOf choice r → r.count ≡ 0 → StructuredBy book m (plain NoStructure 0)
+  by_no_rows (chosen x) r e h n = let some = h.0 in absurd (omega arith)
+  by_no_rows unlisted r e h n = no_structure (sym e)
+
+  -- or the tables of a structure are at hand
+  pub by_rows : (choice : Choice) (r : Rows) {j : FaultRecord} → choice ≡ structure_for book m → RowsOf choice r → (r.count ≡ 0 → ⊥)
+      → ((s : Shape) → Tables s (take r.count r.names) (take r.count r.follow) r.last (into 1) → Judged s (segment_names m) j) → StructuredBy book m j
+  by_rows (chosen x) r e h n judge = by x (sym e) (judge x.shape h.2)
+  by_rows unlisted r e h n judge = absurd (n h)

@@ -1,10 +1,13 @@
 // How a walk by a structure's tables becomes a judgement: accepted, or a segment that cannot stand where it stands, or
 // a message that ended early, with the names that could have stood there.
-ghost use Rattle.std.specs.Prelude.{◌≤◌, length};
-ghost use Rattle.structure.specs.Engine.{Tells};
+ghost use Rattle.std.specs.Prelude.{◌≡◌, ◌≤◌, length};
+ghost use Rattle.structure.specs.Shapes.{Shape};
+ghost use Rattle.structure.specs.SegmentNames.{segment_names};
+ghost use Rattle.structure.specs.Judged.{Judged};
+ghost use Rattle.structure.specs.Engine.{into, Tables, Tells};
 
 use crate::listing::names_at;
-use crate::walking::Walked;
+use crate::walking::{Walked, walk};
 use alphabet::Refusal;
 use fault::FaultRecord;
 
@@ -36,4 +39,14 @@ pub fn tell(walked: Walked, names: &[u32]) -> FaultRecord
             names: names_at(names, places),
         },
     }
+}
+
+// Judges the names of a message by tables, for whatever structure they are the tables of.
+pub fn judge_by(message: &[u8], names: &[u32], follow: &[u64], last: u64) -> FaultRecord
+    requires { (length names.now ≤ 64) × (length follow.now ≡ length names.now) }
+    ensures { (s : Shape)
+        → Tables s names.now follow.now last (into 1)
+        → Judged s (segment_names message.now) result }
+{
+    tell(walk(message, names, follow, last), names)
 }

@@ -23,7 +23,7 @@ use fault::FaultRecord;
 pub use judging::tell;
 pub use one_walk::judge_unlisted;
 pub use rows::Rows;
-pub use structures::rows_for;
+pub use structures::{judge_read, rows_for};
 pub use walking::{Course, Walked, advance, begin, finish};
 
 // Judges the structure of a message: a reading fault, 20, 21, 22, or accepted.

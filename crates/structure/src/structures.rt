@@ -1,13 +1,17 @@
-// Which structure of document 01 the type of a message chooses, and its tables. A type that chooses none has tables of
-// no rows.
+// Which structure of document 01 the type of a message chooses, its tables, and the message judged by them. A type that
+// chooses none has tables of no rows.
 ghost use Rattle.std.specs.Prelude.{◌≡◌};
 ghost use Rattle.alphabet.specs.Bytes.{ascii};
 ghost use Rattle.structure.specs.Structures.{choose, structure_for, built_in};
+ghost use Rattle.structure.specs.Judged.{Structured};
 ghost use Rattle.structure.specs.Engine.{choice_of, RowsOf};
 
+use crate::judging::judge_by;
 use crate::rows::{Rows, rows_from};
 use crate::{ack, adt_a01, adt_a02, adt_a40, oru_r01};
+use alphabet::Refusal;
 use element::type_address;
+use fault::FaultRecord;
 
 // The structures that are listed; a type that chooses none is unlisted.
 #[derive(Clone, Copy)]
@@ -80,4 +84,22 @@ pub fn rows_for(message: &[u8]) -> Rows
     ensures { RowsOf (structure_for built_in message.now) result }
 {
     rows_of(structure_of(message))
+}
+
+// Judges the structure of a message that was read: no reading fault is looked for.
+pub fn judge_read(message: &[u8]) -> FaultRecord
+    ensures { Structured message.now result }
+{
+    let rows = rows_for(message);
+    if rows.count == 0 {
+        return fault::plain(Refusal::NoStructure, 0);
+    }
+    let names = rows.names;
+    let follow = rows.follow;
+    judge_by(
+        message,
+        &names[..rows.count],
+        &follow[..rows.count],
+        rows.last,
+    )
 }

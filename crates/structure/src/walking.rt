@@ -1,6 +1,7 @@
 // The walk over a message's segments by the tables of a structure. What is known is a set of places, those that could
 // be filled next, as the bits of one number, and whether the message could end; each segment name steps it.
 ghost use Rattle.std.specs.Prelude.{◌≡◌, List, [], ◌∷◌, ℕ, ◌+◌, ◌≤◌, length};
+ghost use Rattle.structure.specs.SegmentNames.{segment_names};
 ghost use Rattle.structure.specs.Engine.{entry, into, stepped, walked, resumed};
 
 use crate::names::is_passed_over;
@@ -139,4 +140,27 @@ pub fn finish(course: Course, number: usize) -> Walked
             ends: ends,
         },
     }
+}
+
+// Walks the segments of a message, up to the first that cannot stand where it stands.
+pub fn walk(message: &[u8], names: &[u32], follow: &[u64], last: u64) -> Walked
+    requires { (length names.now ≤ 64) × (length follow.now ≡ length names.now) }
+    ensures { result
+        ≡ walked names.now follow.now last (into 1) 0 (segment_names message.now) }
+{
+    let mut course = begin();
+    let mut number = 0;
+    let mut start = 0;
+    let mut end = reading::segment_end(message, start);
+    while end < message.len() {
+        let name = reading::name_of(&message[start..end]);
+        course = advance(names, follow, last, course, number, name);
+        let Course::Going { .. } = course else {
+            break;
+        };
+        number += 1;
+        start = end + 1;
+        end = reading::segment_end(message, start);
+    }
+    finish(course, number)
 }

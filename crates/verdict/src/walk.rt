@@ -1,9 +1,7 @@
 // One walk over the segments of a message for all three judges: each segment is read, takes the structure's walk one on,
 // and is judged by the rows of its name.
 ghost use Rattle.std.specs.Prelude.{◌≡◌, ◌+◌, ◌^◌, ◌≤◌, ◌<◌, length};
-ghost use Rattle.reading.specs.Segments.{delimiters_of};
 ghost use Rattle.field_table.specs.Table.{rows};
-ghost use Rattle.rules.specs.Plain.{Permitted};
 ghost use Rattle.structure.specs.Shapes.{Shape};
 ghost use Rattle.structure.specs.Engine.{into, Tables};
 ghost use Rattle.fields.specs.Judging.{Fault, or_fault};
@@ -32,7 +30,7 @@ fn judge_more(
     number: usize,
 ) -> Found
     requires { length segment.now + 1 < 2 ^ 64 }
-    ensures { Permitted delimiters.bytes → Goes course → (later : Fault)
+    ensures { Goes course → (later : Fault)
         → or_fault (fault_of result) later
         ≡ or_fault (fault_of found) (or_fault (judged_in rows delimiters.bytes number segment.now) later) }
 {
@@ -64,11 +62,10 @@ fn tell(walked: Walked, names: &[u32], found: Found) -> FaultRecord
     fields::fault_at(check, found.segment, found.field)
 }
 
-// The verdict on the segments of a message whose delimiters are permitted, by tables, for whatever structure they are the
-// tables of.
+// The verdict on the segments of a message, by tables, for whatever structure they are the tables of.
 pub fn judge_segments(message: &[u8], names: &[u32], follow: &[u64], last: u64) -> FaultRecord
     requires { (length names.now ≤ 64) × (length follow.now ≡ length names.now) }
-    ensures { Permitted (delimiters_of message.now) → (s : Shape)
+    ensures { (s : Shape)
         → Tables s names.now follow.now last (into 1)
         → Decides s message.now result }
 {

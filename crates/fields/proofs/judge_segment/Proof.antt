@@ -5,12 +5,12 @@ use Rattle.fields.proofs.judge_segment.Statement.{statement}
 use Rattle.fields.proofs.judge_segment.Tie as tie
 
 returns : tie.Need-returns
-returns c = λ p.
+returns c =
     let q = c.before in
-    sym (q.is_plain.ensures c.if1.true p q.before.before.before.name_of.ensures)
+    sym (q.is_seen_sound.ensures c.if1.true q.before.before.before.name_of.ensures)
 
 returns-2 : tie.Need-returns-2
-returns-2 c = λ p. c.judge-rows.ensures
+returns-2 c = c.judge-rows.ensures
 
 pub judge-segment-spec : {M : Type 1} → statement M
 judge-segment-spec =

@@ -7,11 +7,7 @@ use lib.Seq.{length-take-le}
 use lib.ListN.{length, take}
 use native.Mathlib.Omega.{arith}
 use Rattle.alphabet.specs.declared.answers.Check.TheVariants.{Passes}
-use Rattle.alphabet.proofs.DelimiterLaws.{delimiter_permitted}
-use Rattle.reading.specs.Segments.{delimiters_of}
 use Rattle.reading.specs.Reading.{opening, segments_check, reading}
-use Rattle.reading.proofs.Accepted.{opened_if}
-use Rattle.rules.specs.Plain.{Permitted}
 use Rattle.structure.specs.Structures.{structure_for, built_in}
 use Rattle.structure.proofs.RowLaws.{rows_few}
 use Rattle.structure.proofs.OneWalk.{opening_fails, end_fails, left_to_read}
@@ -46,10 +42,6 @@ module _ (c : tie.After-rows-for) where
   left : reading message ≡ segments_check message
   left = left_to_read message opened (sym c.before.before.before.check-end.ensures ∙ c.before.enum-told2.given.1)
 
-  -- the delimiters of a message whose opening passes are permitted
-  permitted-all : Permitted (delimiters_of message)
-  permitted-all i h = delimiter_permitted (delimiters_of message) refl (opened_if message opened).delimiters_right i h
-
   -- a structure has at most 64 rows, and so many fit the lists
   few : c.rows-for.result.count ≤ 64
   few = rows_few (structure_for built_in message) c.rows-for.result c.rows-for.ensures
@@ -83,7 +75,7 @@ returns-4 : tie.Need-returns-4
 returns-4 c =
     let k = c.before.before.before.before.before.before.before in
     with_rows built_in (message k) (left k) k.rows-for.result k.rows-for.ensures
-    c.before.before.before.before.before.if1.false (c.judge-segments.ensures (permitted-all k))
+    c.before.before.before.before.before.if1.false c.judge-segments.ensures
 
 pub verdict-spec : {M : Type 1} → statement M
 verdict-spec =

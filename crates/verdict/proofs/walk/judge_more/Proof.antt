@@ -9,17 +9,17 @@ use Rattle.verdict.proofs.walk.judge_more.Statement.{statement}
 use Rattle.verdict.proofs.walk.judge_more.Tie as tie
 
 returns : tie.Need-returns
-returns c = λ p g later. absurd (subst (λ (x : Course). Goes x) c.enum-told2.given.1 g)
+returns c = λ g later. absurd (subst (λ (x : Course). Goes x) c.enum-told2.given.1 g)
 
 returns-2 : tie.Need-returns-2
-returns-2 c = λ p g later.
+returns-2 c = λ g later.
     let f = c.before.before.before.before.before.args.found in
     fault_stays f.segment f.field c.enum-told4.given.1 _ _
 
 returns-3 : tie.Need-returns-3
-returns-3 c = λ p g later.
+returns-3 c = λ g later.
     let f = c.before.before.before.before.before.before.args.found in
-    ap (λ (x : Fault). or_fault x later) (c.judge-segment.ensures p) ∙ sym (none_yet f.segment f.field c.before.enum-told3.given.1 _)
+    ap (λ (x : Fault). or_fault x later) c.judge-segment.ensures ∙ sym (none_yet f.segment f.field c.before.enum-told3.given.1 _)
 
 pub judge-more-spec : {M : Type 1} → statement M
 judge-more-spec =

@@ -14,7 +14,7 @@ use Rattle.alphabet.specs.declared.answers.Check.{Check}
 use Rattle.alphabet.specs.declared.answers.Check.TheVariants.{Passes}
 use Rattle.alphabet.proofs.CheckLaws.{fails_or, passes_or}
 use Rattle.alphabet.proofs.ListLaws.{first_le}
-use Rattle.reading.specs.Segments.{segments, delimiters_of}
+use Rattle.reading.specs.Segments.{segments}
 use Rattle.reading.specs.Reading.{segments_check}
 use Rattle.reading.proofs.SegmentLaws.{checks_walk, checks_over}
 use Rattle.fault.specs.declared.FaultRecord.{FaultRecord}
@@ -25,7 +25,6 @@ use Rattle.structure.specs.declared.walking.Walked.TheVariants.{Accepted}
 use Rattle.structure.proofs.SegmentWalk.{names_from, names_all, names_walk, names_over}
 use Rattle.structure.proofs.OneWalk.{checks_left}
 use Rattle.field_table.specs.Table.{rows}
-use Rattle.rules.specs.Plain.{Permitted}
 use Rattle.fields.specs.Judging.{Fault, or_fault, judging}
 use Rattle.fields.proofs.JudgeLaws.{segments_left, segments_start, segments_none, segment_next}
 use Rattle.verdict.specs.Walk.{fault_of, Decides}
@@ -43,7 +42,7 @@ invariant-loop message names follow last delimiters separator course₀ found₀
     (start ≤ length message) × (number ≤ start) × (end ≡ start + find carriage_return (drop start message))
     × (segments_check message ≡ in_order (checks_left message separator number start))
     × (whole message names follow last ≡ resumed names follow last course number (names_from message start))
-    × (Permitted (delimiters_of message) → whole message names follow last ≡ Accepted → judging rows message ≡ or_fault (fault_of found) (segments_left rows message number start))
+    × (whole message names follow last ≡ Accepted → judging rows message ≡ or_fault (fault_of found) (segments_left rows message number start))
 
 abbrev decreases-loop : tie.decreases-loop
 decreases-loop message names follow last delimiters separator course₀ found₀ number₀ start₀ end₀ course found number start end = length message - start
@@ -59,7 +58,7 @@ loop-holds c =
       c.segment-end.ensures,
       rw c.before.before.byte_at.ensures,
       sym (b.ensures a.names.now a.follow.now a.last (segment_names m)) ∙ ap (resumed a.names.now a.follow.now a.last b.result 0) (names_all m),
-      λ p e. segments_start rows m,
+      λ e. segments_start rows m,
     )
 
 -- ---- the message
@@ -136,17 +135,17 @@ module _ (c : tie.After-judge-more invariant-loop decreases-loop) where
       ∙ sym (c.before.advance.ensures (names_from (message at) (at.loop.end + 1)))
 
   -- where the structure accepts, the fault left is this segment's, which the call added, or one behind it
-  judged-on : Permitted (delimiters_of (message at)) → whole (message at) (names at) (follow at) (last at) ≡ Accepted → judging rows (message at) ≡ or_fault (fault_of c.judge-more.result) (segments_left rows (message at) (at.loop.number + 1) (at.loop.end + 1))
-  judged-on p e =
-      at.loop.inv.5 p e
+  judged-on : whole (message at) (names at) (follow at) (last at) ≡ Accepted → judging rows (message at) ≡ or_fault (fault_of c.judge-more.result) (segments_left rows (message at) (at.loop.number + 1) (at.loop.end + 1))
+  judged-on e =
+      at.loop.inv.5 e
       ∙ ap (or_fault (fault_of at.loop.found)) (segment_next rows (message at) at.loop.number at.loop.start at.loop.end at.loop.inv.2 before-end (ds at) at.before.before.before.before.delimiters-of.ensures)
-      ∙ sym (c.judge-more.ensures (subst Permitted (sym at.before.before.before.before.delimiters-of.ensures) p) (goes (names at) (follow at) (last at) c.before.advance.result (at.loop.number + 1) (names_from (message at) (at.loop.end + 1)) (sym walked_on ∙ e))
+      ∙ sym (c.judge-more.ensures (goes (names at) (follow at) (last at) c.before.advance.result (at.loop.number + 1) (names_from (message at) (at.loop.end + 1)) (sym walked_on ∙ e))
       (segments_left rows (message at) (at.loop.number + 1) (at.loop.end + 1)))
 
 -- ---- the needs
 
 returns : tie.Need-returns invariant-loop decreases-loop
-returns c = λ p s t.
+returns c = λ s t.
     let k = c.before.before.before.before in
     let l = k.before.before.before in
     subst (λ (r : FaultRecord). Decides s (message l) r) (sym c.plain.ensures) (unread _ _ (checked k ∙ fails_or c.before.before.read.given.1 (checks-behind l)))
@@ -175,7 +174,7 @@ loop-again c =
     )
 
 returns-2 : tie.Need-returns-2 invariant-loop decreases-loop
-returns-2 c = λ p s t.
+returns-2 c = λ s t.
     let l = c.before.before.before in
     let e = l.loop.invariant.2 in
     let over : length (message l) ≤ l.loop.start + find carriage_return (drop l.loop.start (message l)) = omega (arith, c.before.before.loop-test.false) in
@@ -185,7 +184,7 @@ returns-2 c = λ p s t.
     decides s (message l) (names l) (follow l) (last l) t
     (l.loop.invariant.3 ∙ ap in_order (checks_over (message l) l.loop.start (separator l) l.loop.number over))
     (fault_of l.loop.found) c.before.finish.result w
-    (λ (a : c.before.finish.result ≡ Accepted). sym (l.loop.invariant.5 p (sym w ∙ a) ∙ ap (or_fault (fault_of l.loop.found)) (segments_none rows (message l) l.loop.number l.loop.start over) ∙ or_sound (fault_of l.loop.found)))
+    (λ (a : c.before.finish.result ≡ Accepted). sym (l.loop.invariant.5 (sym w ∙ a) ∙ ap (or_fault (fault_of l.loop.found)) (segments_none rows (message l) l.loop.number l.loop.start over) ∙ or_sound (fault_of l.loop.found)))
     c.tell.ensures
 
 pub judge-segments-spec : {M : Type 1} → statement M
