@@ -163,7 +163,7 @@ module _ {d₀ : List ℕ} {s : Sheet} {c : Page} {t d : List ℕ} (m : Matches 
       at (on s (content s s.line s.owed (s.word ++ p)) (suc k) q) (goes_run s _ u (λ (r : List Item). run_note s u r some e ∙ g.moved r))
       (matches_run (content s s.line s.owed (s.word ++ p)) (suc k) q (reach_of c + length p) (suc k) (length q) g (omega arith) (omega arith) refl)
 
-settled_same : {c c' : Page} {u : List ℕ} → Settled c u c' → (c'.writes ≡ c.writes) × (c'.unfit ≡ c.unfit) × (c'.place ≡ c.place)
+settled_same : {c : Page} {u : List ℕ} {c' : Page} → Settled c u c' → (c'.writes ≡ c.writes) × (c'.unfit ≡ c.unfit) × (c'.place ≡ c.place)
 settled_same (word i) = (refl, refl, refl)
 settled_same (blank k q f i z) = (refl, refl, refl)
 settled_same (words p q k f fm i z) = (refl, refl, refl)

@@ -51,7 +51,7 @@ says_on {k} {n} {l} (x ∷ r) s e =
     let t1 = t.1 in
     let z : 48 + (x - 48) ≡ x = omega arith in
     let one = subst (λ (y : ℕ). Says (suc k) (l ++ (y ∷ [])) (n * 10 + (x - 48))) z (more (x - 48) (omega arith) s) in
-    let i = says_on r one b.1 in
+    let i = says_on {k = suc k} {n = n * 10 + (x - 48)} {l = l ++ (x ∷ [])} r one b.1 in
     let j : suc k + length r ≡ k + suc (length r) = omega arith in
     subst (λ (m : ℕ). Says m (l ++ (x ∷ r)) (counted (n * 10 + (x - 48)) r)) j
     (subst (λ (y : List ℕ). Says (suc k + length r) y (counted (n * 10 + (x - 48)) r)) (append_one l r x) i)

@@ -35,6 +35,7 @@ among (k ∷ ks) n e = first_or k ks n (λ q. among ks n (at (eqb n k) q e))
 
 -- and what it has not got is not in it
 pub apart : (l : List ℕ) (n : ℕ) → has l n ≡ false → In n l → ⊥
+apart [] n e i = elim i [ ]
 apart (k ∷ ks) n e here = let z = (or_neither (eqb n n) (has ks n) e).0 in eqb-false n n z refl
 apart (k ∷ ks) n e (there i) = apart ks n (or_neither (eqb n k) (has ks n) e).1 i
 

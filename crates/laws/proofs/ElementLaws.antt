@@ -73,15 +73,15 @@ state_means ds bytes = at (is_null bytes) refl (is_empty ds bytes) refl
 
 -- no other state says that of them
 pub one_state : (ds bytes : List ℕ) (s t : State) → Means ds bytes s → Means ds bytes t → s ≡ t
-one_state ds bytes Null Null (null p) (null q) = refl
-one_state ds bytes Null Empty (null p) (empty q r) = absurd (q p)
-one_state ds bytes Null Present (null p) (present q r) = absurd (q p)
-one_state ds bytes Empty Null (empty q r) (null p) = absurd (q p)
-one_state ds bytes Empty Empty (empty p q) (empty r s) = refl
-one_state ds bytes Empty Present (empty p q) (present r s) = absurd (s q)
-one_state ds bytes Present Null (present q r) (null p) = absurd (q p)
-one_state ds bytes Present Empty (present r s) (empty p q) = absurd (s q)
-one_state ds bytes Present Present (present p q) (present r s) = refl
+one_state ds bytes _ _ (null p) (null q) = refl
+one_state ds bytes _ _ (null p) (empty q r) = absurd (q p)
+one_state ds bytes _ _ (null p) (present q r) = absurd (q p)
+one_state ds bytes _ _ (empty q r) (null p) = absurd (q p)
+one_state ds bytes _ _ (empty p q) (empty r s) = refl
+one_state ds bytes _ _ (empty p q) (present r s) = absurd (s q)
+one_state ds bytes _ _ (present q r) (null p) = absurd (q p)
+one_state ds bytes _ _ (present r s) (empty p q) = absurd (s q)
+one_state ds bytes _ _ (present p q) (present r s) = refl
 
 -- ---- absent means past the last part
 

@@ -3,7 +3,7 @@
 use mathlib.Core.Path.{◌≡◌, refl, sym, subst}
 use mathlib.Core.Logic.{◌⊎◌, inl, inr}
 use mathlib.Core.Bool.{Bool, true, false, cond, not, ◌&&◌}
-use mathlib.Core.List.{List, ◌∷◌, ◌++◌}
+use mathlib.Core.List.{List, [], ◌∷◌, ◌++◌}
 use Prim.Native.Nat.{ℕ}
 use native.Mathlib.Omega.{arith}
 use lib.IntN.{ℤ, pos}
@@ -169,6 +169,7 @@ verdict_numbers m (by-fields j a n) = at (fields_number m rows)
     fault n = let n1 = n.1 in in_range_lem 31 7 (number_of kind) n.0 (omega arith)
 
     later : (l : List ℕ) → In (number_of kind) l → In (number_of kind) (l ++ of_structure)
+    later [] i = elim i [ ]
     later (k ∷ ks) here = here
     later (k ∷ ks) (there i) = there (later ks i)
 

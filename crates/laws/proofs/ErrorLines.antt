@@ -254,7 +254,7 @@ module _ (h : List ℕ) (o : Opened h) (one : find carriage_return h + 1 ≡ len
       record {
         told = inr (ap (λ (n : ℕ). n ∷ []) line_name);
         printed = (subst (Each Printable) (sym l) (joined_printable sep (delimiter_printable h o one 0 (omega arith)) (ascii "ERR" ∷ told ∷ []) both_clean), tt);
-        named-well = (ap (named sep) l ∙ rw (eq-eqb sep sep refl) (or_true (eqb (length (join sep (ascii "ERR" ∷ told ∷ []))) 3)), tt);
+        named_well = (ap (named sep) l ∙ rw (eq-eqb sep sep refl) (or_true (eqb (length (join sep (ascii "ERR" ∷ told ∷ []))) 3)), tt);
         no_other = (ap is_header l, tt);
       }
 
@@ -263,7 +263,7 @@ module _ (h : List ℕ) (o : Opened h) (one : find carriage_return h + 1 ≡ len
   lines_behind = at (eqb (number_of r.kind) 0)
     where
       at : (t : Bool) → Behind sep (cond t [] (error_line m r ∷ []))
-      at true = record { told = inl refl; printed = tt; named-well = tt; no_other = tt }
+      at true = record { told = inl refl; printed = tt; named_well = tt; no_other = tt }
       at false = line_behind
 
   -- ---- component c of ERR-1, from what is looked up in the line

@@ -38,6 +38,7 @@ use Rattle.laws.specs.Told.{TellsCode, misplaced, ended_early, missing, null, wi
 
 each_in : (P : ℕ → Type 0) (l : List ℕ) {n : ℕ} → Each P l → In n l → P n
 unfolding Each
+each_in P [] p i = elim i [ ]
 each_in P (k ∷ ks) p here = p.0
 each_in P (k ∷ ks) p (there i) = each_in P ks p.1 i
 

@@ -37,6 +37,7 @@ use Rattle.element.proofs.RawLaws.{part_in_bytes, segment_part_bytes}
 -- ---- one of several
 
 in_front : {l : Leaf} (ks ls : List Leaf) → In l ks → In l (ks ++ ls)
+in_front [] ls i = elim i [ ]
 in_front (k ∷ ks) ls here = here
 in_front (k ∷ ks) ls (there i) = there (in_front ks ls i)
 

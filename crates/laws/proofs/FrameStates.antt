@@ -48,7 +48,7 @@ whole_ends limit s d (b ∷ l) =
 
 ends_known : (limit : ℕ) {s : FrameState} (l : List ℕ) → Known limit s → Known limit (ends limit s l)
 ends_known limit [] k = k
-ends_known limit (b ∷ l) k = ends_known limit l (known_step limit b k)
+ends_known limit {s = s} (b ∷ l) k = ends_known limit {s = (stepped limit s b).after} l (known_step limit b k)
 
 start_known : (room : ℕ) → known room start ≡ true
 start_known room = known_test room (is_outside 0 (omega arith))

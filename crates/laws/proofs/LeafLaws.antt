@@ -41,6 +41,7 @@ All P (l ∷ ls) = P l × All P ls
 
 all_in : (P : Leaf → Type 0) (ls : List Leaf) {l : Leaf} → All P ls → In l ls → P l
 unfolding All
+all_in P [] h i = elim i [ ]
 all_in P (k ∷ ls) h here = h.0
 all_in P (k ∷ ls) h (there i) = all_in P ls h.1 i
 

@@ -180,9 +180,11 @@ in_cases here = inl refl
 in_cases (there i) = inr i
 
 in_none : {x : Leaf} (ls : List Leaf) → In x ls → ls ≡ [] → ⊥
+in_none [] i e = elim i [ ]
 in_none (k ∷ ks) i e = let z : ◌≡◌ {A = ℕ} 0 1 = cc in omega arith
 
 in_later : {x : Leaf} (from : ℕ) (ls : List Leaf) → Rising from ls → In x ls → from ≤ x.element.start
+in_later from [] h i = elim i [ ]
 in_later from (l ∷ ls) h here = h.0
 in_later from (l ∷ ls) h (there i) =
     let n = in_later (l.element.start + 1) ls h.1 i in

@@ -48,9 +48,9 @@ own five i n h = let k = find_own five i (omega arith) in lt-ltb (find (get_or f
 free_clear : (m p : List ℕ) → first (among (ends_of m)) p ≡ length p → Clear (delimiters_of m) p
 free_clear m p e =
     record {
-      of-sub = one_of_lem (ends_of m) (get_or m 7 0) p (own (ends_of m) 4 refl (omega arith)) e;
+      of_sub = one_of_lem (ends_of m) (get_or m 7 0) p (own (ends_of m) 4 refl (omega arith)) e;
       of_comp = one_of_lem (ends_of m) (get_or m 4 0) p (own (ends_of m) 2 refl (omega arith)) e;
-      of-rep = one_of_lem (ends_of m) (get_or m 5 0) p (own (ends_of m) 3 refl (omega arith)) e;
+      of_rep = one_of_lem (ends_of m) (get_or m 5 0) p (own (ends_of m) 3 refl (omega arith)) e;
       of_field = one_of_lem (ends_of m) (get_or m 3 0) p (own (ends_of m) 1 refl (omega arith)) e;
       of_end = one_of_lem (ends_of m) carriage_return p (own (ends_of m) 0 refl (omega arith)) e;
     }
@@ -78,16 +78,16 @@ module _ (m : List ℕ) (ok : reading m ≡ Passes) where
   pub apart : Apart (delimiters_of m)
   apart =
       record {
-        comp-sub = differ 1 4 (omega arith) (omega arith) (λ e. omega arith);
-        rep-sub = differ 2 4 (omega arith) (omega arith) (λ e. omega arith);
-        rep-comp = differ 2 1 (omega arith) (omega arith) (λ e. omega arith);
-        field-sub = differ 0 4 (omega arith) (omega arith) (λ e. omega arith);
-        field-comp = differ 0 1 (omega arith) (omega arith) (λ e. omega arith);
-        field-rep = differ 0 2 (omega arith) (omega arith) (λ e. omega arith);
-        end-sub = no_end 4 (omega arith);
-        end-comp = no_end 1 (omega arith);
-        end-rep = no_end 2 (omega arith);
-        end-field = no_end 0 (omega arith);
+        comp_sub = differ 1 4 (omega arith) (omega arith) (λ e. omega arith);
+        rep_sub = differ 2 4 (omega arith) (omega arith) (λ e. omega arith);
+        rep_comp = differ 2 1 (omega arith) (omega arith) (λ e. omega arith);
+        field_sub = differ 0 4 (omega arith) (omega arith) (λ e. omega arith);
+        field_comp = differ 0 1 (omega arith) (omega arith) (λ e. omega arith);
+        field_rep = differ 0 2 (omega arith) (omega arith) (λ e. omega arith);
+        end_sub = no_end 4 (omega arith);
+        end_comp = no_end 1 (omega arith);
+        end_rep = no_end 2 (omega arith);
+        end_field = no_end 0 (omega arith);
       }
 
   pub message_most : length m ≤ 1048576

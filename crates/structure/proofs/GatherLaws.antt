@@ -22,20 +22,20 @@ module _ (tab : ℕ → Entry) where
   -- the same places
   pub gather_same : (H K : ℕ → Type 0) (e : Entry) → ((p : ℕ) → H p → K p) → ((p : ℕ) → K p → H p) → Gathered tab H e → Gathered tab K e
   gather_same H K e f g r = record {
-    next-from = λ q h. let k = r.next_from q h in (k.0, f k.0 k.1, k.2);
-    next-to = λ p q h n. r.next_to p q (g p h) n;
-    ends-from = λ t. let k = r.ends_from t in (k.0, f k.0 k.1, k.2);
-    ends-to = λ p h t. r.ends_to p (g p h) t;
+    next_from = λ q h. let k = r.next_from q h in (k.0, f k.0 k.1, k.2);
+    next_to = λ p q h n. r.next_to p q (g p h) n;
+    ends_from = λ t. let k = r.ends_from t in (k.0, f k.0 k.1, k.2);
+    ends_to = λ p h t. r.ends_to p (g p h) t;
   }
 
   -- one place more
   gather_more : (H : ℕ → Type 0) (e : Entry) (k : ℕ) → Gathered tab H e → Gathered tab (λ (p : ℕ). H p ⊎ (p ≡ k)) (join e (tab k))
   gather_more H e k r = record {
-    next-from = λ q h. ⊎_elim (λ l. let j = r.next_from q l in (j.0, inl j.1, j.2)) (λ m. (k, inr refl, m)) (or_cases e.next (tab k).next q h);
-    next-to = λ p q h n. ⊎_elim (λ l. or_left e.next (tab k).next q (r.next_to p q l n))
+    next_from = λ q h. ⊎_elim (λ l. let j = r.next_from q l in (j.0, inl j.1, j.2)) (λ m. (k, inr refl, m)) (or_cases e.next (tab k).next q h);
+    next_to = λ p q h n. ⊎_elim (λ l. or_left e.next (tab k).next q (r.next_to p q l n))
         (λ m. or_right e.next (tab k).next q (subst (λ (x : ℕ). has (tab x).next q) m n)) h;
-    ends-from = λ t. ⊎_elim (λ l. let j = r.ends_from l in (j.0, inl j.1, j.2)) (λ m. (k, inr refl, m)) (T_cases e.ends (tab k).ends t);
-    ends-to = λ p h n. ⊎_elim (λ l. T_left e.ends (tab k).ends (r.ends_to p l n))
+    ends_from = λ t. ⊎_elim (λ l. let j = r.ends_from l in (j.0, inl j.1, j.2)) (λ m. (k, inr refl, m)) (T_cases e.ends (tab k).ends t);
+    ends_to = λ p h n. ⊎_elim (λ l. T_left e.ends (tab k).ends (r.ends_to p l n))
         (λ m. T_right e.ends (tab k).ends (subst (λ (x : ℕ). T (tab x).ends) m n)) h;
   }
 
@@ -46,10 +46,10 @@ module _ (tab : ℕ → Entry) where
 
     none : Gathered tab (Below 0) (into 0)
     none = record {
-      next-from = λ q h. absurd (has_zero q h);
-      next-to = λ p q h _. let l = h.0 in absurd (omega arith);
-      ends-from = λ t. absurd t;
-      ends-to = λ p h _. let l = h.0 in absurd (omega arith);
+      next_from = λ q h. absurd (has_zero q h);
+      next_to = λ p q h _. let l = h.0 in absurd (omega arith);
+      ends_from = λ t. absurd t;
+      ends_to = λ p h _. let l = h.0 in absurd (omega arith);
     }
 
     hit : (k : ℕ) (e : Entry) → H k → Gathered tab (Below k) e → Gathered tab (Below (suc k)) (join e (tab k))

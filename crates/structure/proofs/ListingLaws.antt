@@ -26,6 +26,7 @@ in_none here e = let z : ◌≡◌ {A = ℕ} 0 1 = cc in omega arith
 in_none (there i) e = let z : ◌≡◌ {A = ℕ} 0 1 = cc in omega arith
 
 in_left : {x : ℕ} (l r : List ℕ) → In x l → In x (l ++ r)
+in_left [] r i = elim i [ ]
 in_left (y ∷ l) r here = here
 in_left (y ∷ l) r (there i) = there (in_left l r i)
 
@@ -44,6 +45,7 @@ in_map f here = here
 in_map f (there i) = there (in_map f i)
 
 map_in : (f : ℕ → ℕ) (y : ℕ) (l : List ℕ) → In y (map f l) → (x : ℕ) × In x l × (f x ≡ y)
+map_in f y [] i = elim i [ ]
 map_in f y (x ∷ l) here = (x, here, refl)
 map_in f y (x ∷ l) (there i) = let k = map_in f y l i in (k.0, there k.1, k.2)
 
@@ -72,6 +74,7 @@ rising_snoc j k [] r h l = (l, tt)
 rising_snoc j k (p ∷ ps) r h l = (r.0, rising_snoc (suc p) k ps r.1 (λ q i. h q (there i)) (h p here))
 
 rising_least : (j x : ℕ) (ps : List ℕ) → Rising j ps → In x ps → j ≤ x
+rising_least j x [] r i = elim i [ ]
 rising_least j x (p ∷ ps) r here = r.0
 rising_least j x (p ∷ ps) r (there i) = let h = rising_least (suc p) x ps r.1 i in let g = r.0 in omega arith
 

@@ -89,8 +89,8 @@ returns-2 c =
     let e = c.before.before.before.before.before.before.before.before.before.before in
     let h = c.before.before.before.before.before.before.before.before.before.before.before.before.before.before.before in
     let a = c.before.before.before.before.before.before.before.before.before.before.before.before.before.before.before.before.before.before.before.before.before.args in
-    meets a.message.now a.time.now a.id.now a.buffer.now h.header_of.result.now _ k.code_of_lem.result v.verdict.result _ _ (nothing e) v.verdict.ensures
-    h.header_of.ensures k.code_of_lem.ensures (line l).0 w.write.ensures.0 w.write.ensures.1
+    meets a.message.now a.time.now a.id.now a.buffer.now h.header_of.result.now _ k.code_of.result v.verdict.result _ _ (nothing e) v.verdict.ensures
+    h.header_of.ensures k.code_of.ensures (line l).0 w.write.ensures.0 w.write.ensures.1
 
 pub acknowledge-spec : {M : Type 1} → statement M
 acknowledge-spec =

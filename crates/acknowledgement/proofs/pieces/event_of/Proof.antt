@@ -8,8 +8,8 @@ use Rattle.acknowledgement.proofs.pieces.event_of.Statement.{statement}
 use Rattle.acknowledgement.proofs.pieces.event_of.Tie as tie
 
 -- what was asked for is the event
-told : (c : tie.After-is-present) → let h = c.before.before.before.args.header.now in c.is_present_lem.result ≡ present h (type_part h 2)
-told c = c.is_present_lem.ensures ∙ ap (present c.before.before.before.args.header.now) c.before.type-part.ensures
+told : (c : tie.After-is-present) → let h = c.before.before.before.args.header.now in c.is_present.result ≡ present h (type_part h 2)
+told c = c.is_present.ensures ∙ ap (present c.before.before.before.args.header.now) c.before.type-part.ensures
 
 returns : tie.Need-returns
 returns c =

@@ -78,7 +78,7 @@ returns-3 c =
     ∙ ap (λ (x : List ℕ). sent x 10) taken in
     let type = c.before.before.before.before.before.type-part.ensures ∙ ap (λ (x : List ℕ). type_part x 1) taken in
     let known = c.before.before.same.ensures ∙ ap (λ (x : List ℕ). same x (ascii "ACK")) type in
-    let there = c.before.is_present_lem.ensures ∙ ap₂ present taken id in
+    let there = c.before.is_present.ensures ∙ ap₂ present taken id in
     let short = ap₂ (λ (x : List ℕ) (n : ℕ). leb (length x) n) id c.id-limit.ensures in
     ap₂ (λ (x y : Bool). not x && y) known (ap₂ (λ (x y : Bool). x && y) there short)
     ∙ sym (sound_is m (inside c.before.before.before.before.before.before.before.before.before) (ap opening (sym taken) ∙ sym c.before.before.before.before.before.before.before.before.check-opening.ensures ∙ t.enum_told.given.1))

@@ -11,7 +11,7 @@ returns : tie.Need-returns
 returns c =
     let s = c.before in
     let a = s.before.before.before.before.args in
-    c.is_present_lem.ensures ∙ ap is_present (s.state-of.ensures ∙ ap (λ (ds : List ℕ). state_of ds a.bytes.now) s.before.delimiters-of.ensures)
+    c.is_present.ensures ∙ ap is_present (s.state-of.ensures ∙ ap (λ (ds : List ℕ). state_of ds a.bytes.now) s.before.delimiters-of.ensures)
 
 pub is-present-spec : {M : Type 1} → statement M
 is-present-spec =

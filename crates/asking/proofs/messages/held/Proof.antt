@@ -15,10 +15,10 @@ unfolding held_of
 as-told m t e = ap (λ (s : Bool). cond s m []) (sym e)
 
 returns : tie.Need-returns
-returns c = as-told _ true (sym c.before.is_held_lem.ensures ∙ c.if1.true)
+returns c = as-told _ true (sym c.before.is_held.ensures ∙ c.if1.true)
 
 returns-2 : tie.Need-returns-2
-returns-2 c = as-told _ false (sym c.before.before.is_held_lem.ensures ∙ c.before.if1.false)
+returns-2 c = as-told _ false (sym c.before.before.is_held.ensures ∙ c.before.if1.false)
 
 pub held_spec : {M : Type 1} → statement M
 held_spec = tie.close (tie.spec (λ c κs. search rules) returns (λ c. search rules) returns-2)

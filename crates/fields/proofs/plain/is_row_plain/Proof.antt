@@ -32,7 +32,7 @@ returns-2 c = λ t p number b n.
     let f = k.before in
     let a = f.before.before.before.before.args in
     own_sound a.delimiters.bytes a.segment.now number a.row f.part.result.now (field f number b n)
-    (c.is_plain.ensures t p (own_kind a.row.kind k.said_field_lem.result k.said_field_lem.ensures c.before.if2.true))
+    (c.is_plain.ensures t p (own_kind a.row.kind k.said_field.result k.said_field.ensures c.before.if2.true))
 
 returns-3 : tie.Need-returns-3
 returns-3 c = λ t p number b n. absurd (false_true t)
@@ -45,10 +45,10 @@ returns-4 c = λ t p number b n.
     let f = k.before in
     let a = f.before.before.before.before.args in
     let v = j.index-in2.ensures g.before.if3.false in
-    let by = said_kind a.row.kind k.said_field_lem.result k.said_field_lem.ensures j.before.if2.false in
+    let by = said_kind a.row.kind k.said_field.result k.said_field.ensures j.before.if2.false in
     said_sound a.delimiters.bytes a.segment.now number a.row f.part.result.now (field f number b n) g.part2.result.now
-    (ap (field_bytes a.delimiters.bytes a.segment.now number) (sym k.said_field_lem.ensures)
-    ∙ field_part_lem a.delimiters.bytes a.segment.now number a.base k.said_field_lem.result a.most j.index-in2.result b v
+    (ap (field_bytes a.delimiters.bytes a.segment.now number) (sym k.said_field.ensures)
+    ∙ field_part_lem a.delimiters.bytes a.segment.now number a.base k.said_field.result a.most j.index-in2.result b v
     ∙ sym (g.part2.ensures (get_or a.delimiters.bytes 0 0) a.most n v.noted v.room g.before.if3.false))
     by
     (c.is-plain-said.ensures t a.delimiters.bytes p by)

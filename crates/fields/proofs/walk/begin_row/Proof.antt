@@ -16,7 +16,7 @@ begin-said-requires c κs =
     let q = c.before in
     let f = q.before in
     let a = f.before.before.args in
-    (f.field_in.ensures, rw (ne_eqb (said_field a.row.kind) 0 (λ e. c.if1.true (q.said_field_lem.ensures ∙ e))), f.before.before.requires.1)
+    (f.field_in.ensures, rw (ne_eqb (said_field a.row.kind) 0 (λ e. c.if1.true (q.said_field.ensures ∙ e))), f.before.before.requires.1)
 
 returns-2 : tie.Need-returns-2
 returns-2 c =
@@ -37,7 +37,7 @@ returns-2 c =
       counted = let one = subst (λ (n : ℕ). 1 ≤ n) (sym start) (left_least (is_any a.row.kind) (s.first + 1) s.end (omega arith)) in omega arith;
       asks =
           own_begins a.delimiters.bytes a.segment.now a.number a.row s finds o.check-own.result c.left-from.result
-          (rw (eq-eqb (said_field a.row.kind) 0 (sym q.said_field_lem.ensures ∙ b.if1.false)))
+          (rw (eq-eqb (said_field a.row.kind) 0 (sym q.said_field.ensures ∙ b.if1.false)))
           f.before.before.requires.1
           o.check-own.ensures
           start;

@@ -28,7 +28,7 @@ returns c =
       asks =
           said_begins ds a.segment.now a.number a.row a.sought finds s.said_in.result.now o.check-opening.result l.left-from.result c.component_of.result k.kind-of.result
           s.before.before.before.requires.1
-          (s.said_in.ensures ∙ ap (first_of ds a.segment.now a.number) s.before.said_field_lem.ensures)
+          (s.said_in.ensures ∙ ap (first_of ds a.segment.now a.number) s.before.said_field.ensures)
           o.check-opening.ensures
           l.left-from.ensures
           c.component_of.ensures

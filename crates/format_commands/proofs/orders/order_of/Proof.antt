@@ -24,8 +24,8 @@ returns-4 : tie.Need-returns-4
 returns-4 c =
     let s = c.before.before.before.before.before.before.before.before.before.before.args.inside.now in
     let k = c.before.before.before.before in
-    order_more s c.with_number.result k.number_of_lem.result (let h = c.before.before.before.before.before.before.if3.false in omega arith)
-    (k.number_of_lem.ensures ∙ ap (λ (l : List ℕ). held_number (number_of l)) (rest_of s 3)) c.with_number.ensures
+    order_more s c.with_number.result k.number_of.result (let h = c.before.before.before.before.before.before.if3.false in omega arith)
+    (k.number_of.ensures ∙ ap (λ (l : List ℕ). held_number (number_of l)) (rest_of s 3)) c.with_number.ensures
 
 pub order-of-spec : {M : Type 1} → statement M
 order-of-spec =

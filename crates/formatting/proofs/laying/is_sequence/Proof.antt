@@ -15,7 +15,7 @@ returns c =
 returns-2 : tie.Need-returns-2
 returns-2 c =
     let a = c.before.before.before.before in
-    c.is_Known.ensures ∙ ap (λ (b : Bool). b || known a.args.inside.now) (sym (sym (command_held a.args.inside.now a.args.asked a.requires) ∙ sym c.before.before.is-asked.ensures ∙ c.before.if1.false))
+    c.is_known.ensures ∙ ap (λ (b : Bool). b || known a.args.inside.now) (sym (sym (command_held a.args.inside.now a.args.asked a.requires) ∙ sym c.before.before.is-asked.ensures ∙ c.before.if1.false))
 
 pub is-sequence-spec : {M : Type 1} → statement M
 is-sequence-spec = tie.close (tie.spec (λ c κs. search rules) returns (λ c κs. search rules) returns-2)

@@ -10,10 +10,10 @@ use Rattle.forms.proofs.PlaceLaws.{point_within}
 use Rattle.forms.proofs.parts.front_of.Statement.{statement}
 use Rattle.forms.proofs.parts.front_of.Tie as tie
 
-place : (c : tie.After-point-place) → c.point_place_lem.result ≡ point_place (layout_of c.before.before.before.args.form).seconds c.before.before.before.args.body.now
-place c = c.point_place_lem.ensures ∙ ap (λ (n : ℕ). point_place n c.before.before.before.args.body.now) c.before.to-seconds.ensures
+place : (c : tie.After-point-place) → c.point_place.result ≡ point_place (layout_of c.before.before.before.args.form).seconds c.before.before.before.args.body.now
+place c = c.point_place.ensures ∙ ap (λ (n : ℕ). point_place n c.before.before.before.args.body.now) c.before.to-seconds.ensures
 
-within : (c : tie.After-point-place) → c.point_place_lem.result ≤ length c.before.before.before.args.body.now
+within : (c : tie.After-point-place) → c.point_place.result ≤ length c.before.before.before.args.body.now
 within c =
     let a = c.before.before.before.args in
     subst (λ (n : ℕ). n ≤ length a.body.now) (sym (place c)) (point_within (layout_of a.form).seconds a.body.now)

@@ -19,7 +19,7 @@ returns c = sym (ap (λ (k : Kind). form_check k c.before.before.before.args.byt
 returns-2 : tie.Need-returns-2
 unfolding form_check
 returns-2 c =
-    c.fails_if_lem.ensures ∙ ap (λ (n : ℕ). fails_if (ltb n (length c.before.before.before.before.before.args.bytes.now)) ValueTooLong 0) c.before.id-limit.ensures
+    c.fails_if.ensures ∙ ap (λ (n : ℕ). fails_if (ltb n (length c.before.before.before.before.before.args.bytes.now)) ValueTooLong 0) c.before.id-limit.ensures
     ∙ sym (ap (λ (k : Kind). form_check k c.before.before.before.before.before.args.bytes.now) c.before.before.enum-told2.given.1)
 
 returns-3 : tie.Need-returns-3

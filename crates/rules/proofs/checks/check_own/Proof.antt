@@ -35,7 +35,7 @@ returns-2 c =
     let a = s.before.before.before.before.args in
     goes_on (sent s) p.before.enum_told.given.1
     (sym (repetition_other a.delimiters.bytes a.row.component a.row.kind 1 a.first.now s.before.before.judged-part.result.now s.before.before.judged-part.ensures
-    (sym (p.is_present_lem.ensures ∙ ap is_present s.before.state-of.ensures) ∙ not-true _ c.if1.true)))
+    (sym (p.is_present.ensures ∙ ap is_present s.before.state-of.ensures) ∙ not-true _ c.if1.true)))
 
 -- the part is present: the form decides
 present : (c : tie.After-has-form)
@@ -51,7 +51,7 @@ present c x e =
     goes_on (sent s) p.before.enum_told.given.1
     (e
     ∙ sym (repetition_present a.delimiters.bytes a.row.component a.row.kind 1 a.first.now s.before.before.judged-part.result.now s.before.before.judged-part.ensures
-    (sym (p.is_present_lem.ensures ∙ ap is_present s.before.state-of.ensures) ∙ not-false _ c.before.if1.false)))
+    (sym (p.is_present.ensures ∙ ap is_present s.before.state-of.ensures) ∙ not-false _ c.before.if1.false)))
 
 returns-3 : tie.Need-returns-3
 returns-3 c =

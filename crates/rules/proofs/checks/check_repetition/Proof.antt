@@ -11,7 +11,7 @@ returns : tie.Need-returns
 returns c =
     let j = c.before.before in
     let a = j.before.before.args in
-    sym (repetition_other a.delimiters.bytes a.component a.kind a.number a.repetition.now j.judged-part.result.now j.judged-part.ensures (sym c.before.is_present_lem.ensures ∙ not-true _ c.if1.true))
+    sym (repetition_other a.delimiters.bytes a.component a.kind a.number a.repetition.now j.judged-part.result.now j.judged-part.ensures (sym c.before.is_present.ensures ∙ not-true _ c.if1.true))
 
 -- the part is present: the form decides
 present : (c : tie.After-has-form)
@@ -22,7 +22,7 @@ present c =
     let j = c.before.before.before in
     let a = j.before.before.args in
     repetition_present a.delimiters.bytes a.component a.kind a.number a.repetition.now j.judged-part.result.now j.judged-part.ensures
-    (sym c.before.before.is_present_lem.ensures ∙ not-false _ c.before.if1.false)
+    (sym c.before.before.is_present.ensures ∙ not-false _ c.before.if1.false)
 
 returns-2 : tie.Need-returns-2
 returns-2 c =

@@ -6,7 +6,7 @@ use Rattle.rules.proofs.checks.check_required.Statement.{statement}
 use Rattle.rules.proofs.checks.check_required.Tie as tie
 
 returns : tie.Need-returns
-returns c = c.fails_if_lem.ensures ∙ sym (ap (required_check c.before.before.before.args.required) c.before.enum_told.given.1)
+returns c = c.fails_if.ensures ∙ sym (ap (required_check c.before.before.before.args.required) c.before.enum_told.given.1)
 
 returns-2 : tie.Need-returns-2
 returns-2 c = c.fails-if2.ensures ∙ sym (ap (required_check c.before.before.before.args.required) c.before.enum-told2.given.1)

@@ -8,7 +8,7 @@ use Rattle.rules.proofs.checks.check_sent.Tie as tie
 
 returns : tie.Need-returns
 unfolding sent_check
-returns c = c.or_else.ensures ∙ ap₂ or_else c.before.before.before.check-required.ensures c.before.fails_if_lem.ensures
+returns c = c.or_else.ensures ∙ ap₂ or_else c.before.before.before.check-required.ensures c.before.fails_if.ensures
 
 pub check-sent-spec : {M : Type 1} → statement M
 check-sent-spec = tie.close (tie.spec (λ c κs. search rules) (λ c κs. search rules) (λ c κs. search rules) returns)

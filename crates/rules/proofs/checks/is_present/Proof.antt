@@ -11,4 +11,4 @@ is-present-spec =
     (tie.spec
     (λ c κs. search rules)
     (λ c κs. search rules)
-    (λ c. c.is_present_lem.ensures ∙ ap is_present c.before.state-of.ensures))
+    (λ c. c.is_present.ensures ∙ ap is_present c.before.state-of.ensures))

@@ -6,7 +6,7 @@ use Rattle.rules.proofs.checks.kind_of.Statement.{statement}
 use Rattle.rules.proofs.checks.kind_of.Tie as tie
 
 returns : tie.Need-returns
-returns c = c.kind_said_lem.ensures ∙ sym (kind_said_lem c.before.before.before.before.args.said.now c.before.before.before.before.args.kind (sym c.before.before.is_said.ensures ∙ c.before.if1.true))
+returns c = c.kind_said.ensures ∙ sym (kind_said_lem c.before.before.before.before.args.said.now c.before.before.before.before.args.kind (sym c.before.before.is_said.ensures ∙ c.before.if1.true))
 
 returns-2 : tie.Need-returns-2
 returns-2 c = sym (kind_own c.before.before.before.args.said.now c.before.before.before.args.kind (sym c.before.is_said.ensures ∙ c.if1.false))

@@ -50,12 +50,12 @@ module _ (c : tie.After-is-present invariant-loop decreases-loop) where
   last : end ≡ length field → some_present ds (split sep field) ≡ some_present ds (take (end - l.loop.start) (drop l.loop.start field) ∷ [])
   last h = l.loop.inv.1 ∙ ap (some_present ds) (walk_last sep field l.loop.start c.before.before.find.result l.loop.inv.0 c.before.before.find.ensures h)
 
-  here : c.is_present_lem.result ≡ true → some_present ds (split sep field) ≡ true
+  here : c.is_present.result ≡ true → some_present ds (split sep field) ≡ true
   here e = at (eqb end (length field)) refl
     where
       at : (t : Bool) → eqb end (length field) ≡ t → some_present ds (split sep field) ≡ true
-      at true q = last (eqb-true _ _ q) ∙ present_here ds _ _ (sym c.is_present_lem.ensures ∙ e)
-      at false q = more (eqb-false _ _ q) ∙ present_here ds _ _ (sym c.is_present_lem.ensures ∙ e)
+      at true q = last (eqb-true _ _ q) ∙ present_here ds _ _ (sym c.is_present.ensures ∙ e)
+      at false q = more (eqb-false _ _ q) ∙ present_here ds _ _ (sym c.is_present.ensures ∙ e)
 
 returns : tie.Need-returns invariant-loop decreases-loop
 returns c = sym (here c.before c.if1.true)
@@ -63,13 +63,13 @@ returns c = sym (here c.before c.if1.true)
 returns-2 : tie.Need-returns-2 invariant-loop decreases-loop
 returns-2 c =
     let s = c.before.before in
-    sym (last s c.if2.true ∙ present_past (ds s) _ [] (sym s.is_present_lem.ensures ∙ c.before.if1.false) ∙ present_none (ds s))
+    sym (last s c.if2.true ∙ present_past (ds s) _ [] (sym s.is_present.ensures ∙ c.before.if1.false) ∙ present_none (ds s))
 
 loop-again : tie.Need-loop-preserved invariant-loop decreases-loop
 loop-again c =
     let s = c.before.before in
     let i = inside s.before.before in
-    (omega arith, more s c.if2.false ∙ present_past (ds s) _ _ (sym s.is_present_lem.ensures ∙ c.before.if1.false))
+    (omega arith, more s c.if2.false ∙ present_past (ds s) _ _ (sym s.is_present.ensures ∙ c.before.if1.false))
 
 pub some-present-spec : {M : Type 1} → statement M
 some-present-spec =

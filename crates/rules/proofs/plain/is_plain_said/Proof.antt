@@ -28,7 +28,7 @@ module _ (c : tie.After-is-any) where
   typed = listed_plain ValueTypes said (sym c.before.before.before.is-listed.ensures ∙ not-false _ c.before.before.if2.false)
 
   told : (t : Bool) → c.is_any.result ≡ t → is_any (kind_said said) ≡ t
-  told t e = ap is_any (sym c.before.kind_said_lem.ensures) ∙ sym c.is_any.ensures ∙ e
+  told t e = ap is_any (sym c.before.kind_said.ensures) ∙ sym c.is_any.ensures ∙ e
 
 returns-3 : tie.Need-returns-3
 returns-3 c e ds permits is_said =
@@ -48,7 +48,7 @@ returns-5 : tie.Need-returns-5
 returns-5 c e ds permits is_said =
     let s = c.before.before.before in
     let a = s.before.before.before.before.before.before.before.before.args in
-    let p = ap (λ (k : Kind). passing (form_check k a.field.now)) (sym s.before.kind_said_lem.ensures) ∙ sym c.has-form.ensures ∙ e in
+    let p = ap (λ (k : Kind). passing (form_check k a.field.now)) (sym s.before.kind_said.ensures) ∙ sym c.has-form.ensures ∙ e in
     let h : a.row.component ≤ 1 = omega arith in
     said_whole ds permits a.row (said s) (split (get_or ds 2 0) a.field.now) (typed s)
     (said_plain ds permits a.row (said s) (typed s) is_said a.field.now (kind_plain a.field.now (said s) (told s _ c.before.before.if3.false) p) h p)

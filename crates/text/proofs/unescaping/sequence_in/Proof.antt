@@ -34,7 +34,7 @@ returns-2 c =
     let ds = a.delimiters.bytes in
     let r = a.rest.now in
     let n = f.find.result in
-    let k = sym c.before.is_Known.ensures ∙ not-true _ c.if2.true in
+    let k = sym c.before.is_known.ensures ∙ not-true _ c.if2.true in
     ap seen (sym (step_unknown plain_text ds (escape_of ds) r n refl (sym f.find.ensures) (omega arith) k) ∙ step_opens plain_text ds (escape_of ds) r refl)
 
 -- a sequence that is closed and known
@@ -48,7 +48,7 @@ is c =
     let ds = a.delimiters.bytes in
     let r = a.rest.now in
     let n = f.find.result in
-    let k = sym c.before.is_Known.ensures ∙ not-false _ c.if2.false in
+    let k = sym c.before.is_known.ensures ∙ not-false _ c.if2.false in
     (k, length-take-le n r (omega arith), step_known plain_text ds (escape_of ds) r n refl (sym f.find.ensures) (omega arith) k)
 
 returns-3 : tie.Need-returns-3

@@ -16,7 +16,7 @@ returns c =
     let a = s.args in
     let l = a.digits.now in
     let n : a.start + a.width - a.start ≡ a.width = omega arith in
-    let e = c.si_value_lem.ensures ∙ ap (λ (k : ℕ). si_value (take k (drop a.start l))) n ∙ piece_said l a.start a.width s.requires.0 s.requires.1.1 in
+    let e = c.si_value.ensures ∙ ap (λ (k : ℕ). si_value (take k (drop a.start l))) n ∙ piece_said l a.start a.width s.requires.0 s.requires.1.1 in
     ap Sent e ∙ sym (figure_sent l a.start a.width c.before.before.if1.true)
 
 returns-2 : tie.Need-returns-2

@@ -17,7 +17,7 @@ returns-2 c =
     let l = s.args.tail.now in
     let n = length-drop 1 l in
     let most = s.requires.1 in
-    let e = c.si_value_lem.ensures ∙ ap si_value (rest_of l 1) ∙ si_of_digits (drop 1 l) s.requires.0 (omega arith) in
+    let e = c.si_value.ensures ∙ ap si_value (rest_of l 1) ∙ si_of_digits (drop 1 l) s.requires.0 (omega arith) in
     ap Sent e ∙ sym (fraction_sent l c.before.before.if1.false)
 
 pub fraction-figure-spec : {M : Type 1} → statement M

@@ -21,7 +21,7 @@ returns c =
 
 -- the time that is put together
 time : (c : tie.After-no-offset) → Time
-time c = record { date = c.before.before.date-of.result; clock = c.before.no_clock_lem.result; offset = c.no-offset.result }
+time c = record { date = c.before.before.date-of.result; clock = c.before.no_clock.result; offset = c.no-offset.result }
 
 returns-2 : tie.Need-returns-2
 unfolding dt_time time
@@ -30,7 +30,7 @@ returns-2 c =
     let e = o.before.before.before in
     c.time-if2.ensures ∙ ap (λ (t : Bool). time_if t (time o)) c.before.is_time_row.ensures
     ∙ dt_read_lem e.before.before.before.args.bytes.now (time o) (form e)
-    (λ i. record { date = o.before.before.date-of.ensures i; clock = o.before.no_clock_lem.ensures i; offset = o.no-offset.ensures i })
+    (λ i. record { date = o.before.before.date-of.ensures i; clock = o.before.no_clock.ensures i; offset = o.no-offset.ensures i })
 
 pub read-dt-spec : {M : Type 1} → statement M
 read-dt-spec =

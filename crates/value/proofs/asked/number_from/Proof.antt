@@ -12,10 +12,10 @@ returns : tie.Need-returns
 returns c =
     let a = c.before.before.before.before.args in
     let f : SFits w64 a.read.value = search rules in
-    number_present a.found a.read _ (sym c.before.before.is_present_lem.ensures ∙ c.before.if1.true) (to_z-of_z f)
+    number_present a.found a.read _ (sym c.before.before.is_present.ensures ∙ c.before.if1.true) (to_z-of_z f)
 
 returns-2 : tie.Need-returns-2
-returns-2 c = let a = c.before.before.before.before.args in number_other a.found a.read (sym c.before.before.is_present_lem.ensures ∙ c.before.if1.false)
+returns-2 c = let a = c.before.before.before.before.args in number_other a.found a.read (sym c.before.before.is_present.ensures ∙ c.before.if1.false)
 
 pub number-from-spec : {M : Type 1} → statement M
 number-from-spec =

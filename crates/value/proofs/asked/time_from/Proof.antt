@@ -6,12 +6,12 @@ use Rattle.value.proofs.asked.time_from.Statement.{statement}
 use Rattle.value.proofs.asked.time_from.Tie as tie
 
 returns : tie.Need-returns
-returns c = let a = c.before.before.before.before.args in time_present a.found a.read (sym c.before.before.is_present_lem.ensures ∙ c.before.if1.true)
+returns c = let a = c.before.before.before.before.args in time_present a.found a.read (sym c.before.before.is_present.ensures ∙ c.before.if1.true)
 
 returns-2 : tie.Need-returns-2
 returns-2 c =
     let a = c.before.before.before.before.before.args in
-    time_other a.found a.read c.no_time_row.result (sym c.before.before.before.is_present_lem.ensures ∙ c.before.before.if1.false) c.no_time_row.ensures
+    time_other a.found a.read c.no_time_row.result (sym c.before.before.before.is_present.ensures ∙ c.before.before.if1.false) c.no_time_row.ensures
 
 pub time-from-spec : {M : Type 1} → statement M
 time-from-spec =

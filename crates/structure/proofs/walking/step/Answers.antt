@@ -1,0 +1,57 @@
+-- Rests on the laws of a set without its lowest place: what is gathered, with what a step gathers of the places that are left, is the whole at each turn.
+use Prim.Native.Nat.{ℕ, ◌-◌, ◌^◌, ◌<◌}
+use mathlib.Core.Path.{◌≡◌, sym, ap, ap₂, ◌∙◌}
+use mathlib.Core.Bool.{Bool}
+use mathlib.Core.Logic.{⊎_elim}
+use lib.Bits.{bit_and, and_le_r}
+use lib.Count.{count_trailing_zeros, trailing_le}
+use lib.ListN.{length}
+use native.Mathlib.Omega.{arith}
+use Rattle.structure.specs.Engine.{entry, join, gathered}
+use Rattle.structure.proofs.LowestLaws.{without_lowest, without_hit, without_other, without_past, join_none, nothing_left}
+use Rattle.structure.proofs.walking.step.Goals as goal
+
+pub overflow_cast-p : goal.overflow_cast-p
+overflow_cast-p c = let z = trailing_le 64 c.loop-rest.rest in omega arith
+
+pub loop-rest-smaller : goal.loop-rest-smaller
+loop-rest-smaller c = let l = c.loop-rest in let z = and_le_r l.rest (l.rest - 1) in omega arith
+
+pub loop-rest-preserved : goal.loop-rest-preserved
+loop-rest-preserved c =
+    let a = c.args in
+    let names = a.names.now in
+    let follow = a.follow.now in
+    let x = c.loop-rest.rest in
+    let p = count_trailing_zeros 64 x in
+    let y = bit_and x (x - 1) in
+    let n = length names in
+    let left = gathered names follow a.last y a.name n in
+    let h : x < 2 ^ 64 = omega arith in
+    let w = without_lowest 64 x (omega arith) h in
+    let z = and_le_r x (x - 1) in (
+      omega arith,
+      ⊎_elim
+          (λ v. ap₂ (λ (m : ℕ) (e : Bool). join (entry m e) left) v.4 v.5
+          ∙ without_hit names follow a.last a.name x p y n c.loop-rest.next c.loop-rest.ends w v.0.taken v.2.taken)
+          (⊎_elim
+          (λ v. ap₂ (λ (m : ℕ) (e : Bool). join (entry m e) left) v.3 v.4
+          ∙ ap (join (entry c.loop-rest.next c.loop-rest.ends)) (without_other names follow a.last a.name x p y n w v.2.left))
+          (λ v. ap₂ (λ (m : ℕ) (e : Bool). join (entry m e) left) v.1 v.2
+          ∙ ap (join (entry c.loop-rest.next c.loop-rest.ends))
+          (without_past names follow a.last a.name x p y n w (let o = v.0.left in omega arith))))
+          c.if-p-names.branch
+          ∙ c.loop-rest.invariant.1,
+    )
+
+pub returns : goal.returns
+returns c =
+    let a = c.args in
+    let n = length a.names.now in
+    let z : c.loop-rest.rest ≡ 0 = omega arith in
+    sym (nothing_left a.names.now a.follow.now a.last a.name n c.loop-rest.next c.loop-rest.ends)
+    ∙ ap (λ (x : ℕ). join (entry c.loop-rest.next c.loop-rest.ends) (gathered a.names.now a.follow.now a.last x a.name n)) (sym z)
+    ∙ c.loop-rest.invariant.1
+
+pub loop-rest-init : goal.loop-rest-init
+loop-rest-init c = (omega arith, join_none _)

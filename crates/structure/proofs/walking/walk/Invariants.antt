@@ -1,0 +1,21 @@
+use Prim.Native.Nat.{ℕ, ◌+◌, ◌-◌, ◌≤◌}
+use mathlib.Core.Path.{◌≡◌}
+use mathlib.Core.List.{List}
+use lib.ListN.{length, drop}
+use Rattle.alphabet.specs.Bytes.{carriage_return}
+use Rattle.alphabet.specs.Lists.{find}
+use Rattle.structure.specs.SegmentNames.{segment_names}
+use Rattle.structure.specs.Engine.{into, walked, resumed}
+use Rattle.structure.proofs.SegmentWalk.{names_from}
+use Rattle.structure.proofs.walking.walk.Given as goal
+
+abbrev pub message : (l : At-loop-end) → List ℕ
+message l = l.args.message.now
+
+abbrev pub invariant-loop-end : goal.invariant-loop-end
+invariant-loop-end l =
+    (l.start ≤ length l.message) × (l.number ≤ l.start) × (l.end ≡ l.start + find carriage_return (drop l.start l.message))
+    × (walked l.names l.follow l.last (into 1) 0 (segment_names l.message) ≡ resumed l.names l.follow l.last l.course l.number (names_from l.message l.start))
+
+abbrev pub decreases-loop-end : goal.decreases-loop-end
+decreases-loop-end l = length l.message - l.start
