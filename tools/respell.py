@@ -23,6 +23,9 @@ GENERATED = re.compile(r"^(in|if|then|else|loop|match|returns|bounds|slice_bound
 # where two names fall together, and neither is a lemma
 APART = {"bad-id": "by_bad_id", "is-time": "is_time_row", "no-time": "no_time_row", "of-text": "of_text_verb"}
 
+# a lemma of ours whose name would be that of a function of the library, which its file imports
+LIBRARY = {"bit-or": "bit_or_lem"}
+
 
 def texts(root, ends):
     for folder, dirs, files in os.walk(os.path.join(root, "crates")):
@@ -74,6 +77,7 @@ def main():
         new = respelt(name)
         if new != name:
             turned[name] = new
+    turned.update({o: n for o, n in LIBRARY.items() if o in declared})
     # what falls together, in one file or where one of the two is asked to stand apart
     together = collections.defaultdict(set)
     for path in list(texts(root, ".antt")) + list(texts(root, ".rt")):

@@ -13,7 +13,7 @@ use lib.ListN.{get_or}
 use lib.Pow.{shr-shr, shr_lt}
 use borrow.Author.Tests.{eq-eqb, ne_eqb}
 use Rattle.structure.specs.Engine.{bit, hasb, Entry, entry, into, join, entry_at, name_in, gathered}
-use Rattle.structure.proofs.SetLaws.{bit_or}
+use Rattle.structure.proofs.SetLaws.{bit_or_lem}
 use Rattle.structure.proofs.GatherLaws.{low_bit}
 
 -- ---- the lowest place
@@ -86,7 +86,7 @@ or_grouped_below (suc k) a b c h =
     let i = or_grouped_below k (a / 2) (b / 2) (c / 2) (omega arith) in
     let l : bit_or (bit_or a b) c / 2 ≡ bit_or (bit_or (a / 2) (b / 2)) (c / 2) = or_half (bit_or a b) c ∙ ap (λ (x : ℕ). bit_or x (c / 2)) (or_half a b) in
     let r : bit_or a (bit_or b c) / 2 ≡ bit_or (a / 2) (bit_or (b / 2) (c / 2)) = or_half a (bit_or b c) ∙ ap (bit_or (a / 2)) (or_half b c) in
-    omega (arith, i, l, r, bit_or (bit_or a b) c 0, bit_or a b 0, bit_or a (bit_or b c) 0, bit_or b c 0)
+    omega (arith, i, l, r, bit_or_lem (bit_or a b) c 0, bit_or_lem a b 0, bit_or_lem a (bit_or b c) 0, bit_or_lem b c 0)
 
 or_grouped : (a b c : ℕ) → bit_or (bit_or a b) c ≡ bit_or a (bit_or b c)
 or_grouped a b c = or_grouped_below a a b c (omega arith)

@@ -15,21 +15,21 @@ bit_lt m q = omega arith
 low_or : (a b : ℕ) → bit_or a b % 2 ≡ max (a % 2) (b % 2)
 low_or a b = rw or_step (omega arith)
 
-pub bit_or : (a b q : ℕ) → bit (bit_or a b) q ≡ max (bit a q) (bit b q)
-bit_or a b q = ap (λ (x : ℕ). x % 2) (or_shr a b q) ∙ low_or (a / 2 ^ q) (b / 2 ^ q)
+pub bit_or_lem : (a b q : ℕ) → bit (bit_or a b) q ≡ max (bit a q) (bit b q)
+bit_or_lem a b q = ap (λ (x : ℕ). x % 2) (or_shr a b q) ∙ low_or (a / 2 ^ q) (b / 2 ^ q)
 
 pub or_left : (a b q : ℕ) → has a q → has (bit_or a b) q
-or_left a b q h = omega (arith, bit_or a b q, bit_lt b q)
+or_left a b q h = omega (arith, bit_or_lem a b q, bit_lt b q)
 
 pub or_right : (a b q : ℕ) → has b q → has (bit_or a b) q
-or_right a b q h = omega (arith, bit_or a b q, bit_lt a q)
+or_right a b q h = omega (arith, bit_or_lem a b q, bit_lt a q)
 
 pub or_cases : (a b q : ℕ) → has (bit_or a b) q → has a q ⊎ has b q
 or_cases a b q h = go (ℕ_discrete (bit a q) 1)
   where
     go : Dec (has a q) → has a q ⊎ has b q
     go (yes e) = inl e
-    go (no ne) = inr (omega (arith, bit_or a b q, bit_lt a q, bit_lt b q))
+    go (no ne) = inr (omega (arith, bit_or_lem a b q, bit_lt a q, bit_lt b q))
 
 pub has_zero : (q : ℕ) → has 0 q → ⊥
 has_zero q h = omega (arith, zero-div (2 ^ q))

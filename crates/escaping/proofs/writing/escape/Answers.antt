@@ -92,7 +92,7 @@ returns-clause-value c =
     let w = c.write_escaped-n.ensures in
     let z = escape_other a.delimiters.bytes a.text.now (sym c.is_null.ensures ∙ c.if-is_null.false) in
     let e = escaping_fits a.delimiters.bytes a.text.now _ (length a.buffer.now) (omega arith) z (room (goal.at.returns-clause-value c).Else-not-is_enough) in
-    let r = ended _ _ a.buffer.now e in ap made w.0 ∙ r.0
+    let r = ended _ _ a.buffer.now e in ap made w.value ∙ r.0
 
 pub returns-clause-buffer_after : goal.returns-clause-buffer_after
 unfolding answer filled
@@ -101,4 +101,4 @@ returns-clause-buffer_after c =
     let w = c.write_escaped-n.ensures in
     let z = escape_other a.delimiters.bytes a.text.now (sym c.is_null.ensures ∙ c.if-is_null.false) in
     let e = escaping_fits a.delimiters.bytes a.text.now _ (length a.buffer.now) (omega arith) z (room (goal.at.returns-clause-buffer_after c).Else-not-is_enough) in
-    let r = ended _ _ a.buffer.now e in w.1 ∙ r.1
+    let r = ended _ _ a.buffer.now e in w.buffer_after ∙ r.1

@@ -1,8 +1,8 @@
--- Rests on the laws of the walk: what is left, for the reader and for the structure, is that of the segments from `start` on, each.before.before.before.before.before.before.before turn.
+-- Rests on the laws of the walk: what is left, for the reader and for the structure, is that of the segments from `start` on, at each turn.
 use borrow.Author.Rules.{rules}
 use Prim.Native.Nat.{ℕ, ◌+◌, ◌^◌, ◌≤◌, ◌<◌}
 use mathlib.Core.Path.{◌≡◌, sym, ap, ◌∙◌, subst}
-use mathlib.Core.List.{◌∷◌}
+use mathlib.Core.List.{List, ◌∷◌}
 use lib.Dec.{eqb}
 use lib.ListN.{length, drop, length-drop}
 use native.Mathlib.Omega.{arith}
@@ -22,9 +22,24 @@ use Rattle.structure.specs.OneWalk.{JudgedAsRead}
 use Rattle.structure.specs.OneWalk.JudgedAsRead.{faulty, judged}
 use Rattle.structure.proofs.SegmentWalk.{names_from, names_all, names_walk, names_over}
 use Rattle.structure.proofs.OneWalk.{checks_left}
-use Rattle.structure.proofs.one_walk.judge_segments.Invariants.{follow, last, message, names, separator, whole}
+use Rattle.structure.proofs.one_walk.judge_segments.Invariants.{whole}
 use Rattle.structure.proofs.one_walk.judge_segments.Goals.{After-advance-course, After-check_segment-read, At-loop-end}
 use Rattle.structure.proofs.one_walk.judge_segments.Goals as goal
+
+abbrev message : (l : At-loop-end) → List ℕ
+message l = l.args.message.now
+
+abbrev names : (l : At-loop-end) → List ℕ
+names l = l.args.names.now
+
+abbrev follow : (l : At-loop-end) → List ℕ
+follow l = l.args.follow.now
+
+abbrev last : (l : At-loop-end) → ℕ
+last l = l.args.last
+
+abbrev separator : (l : At-loop-end) → ℕ
+separator l = l.byte_at-separator.result
 
 pub loop-end-init : goal.loop-end-init
 unfolding segments_check segments
@@ -42,13 +57,13 @@ loop-end-init c =
 fits : (l : At-loop-end) → length (message l) < 2 ^ 64
 fits l = search rules
 
--- a segment ends or.before.before.before.before.before.before.before before the message's end
+-- a segment ends at or before the message's end
 inside : (l : At-loop-end) → (l.loop-end.start ≤ l.loop-end.end) × (l.loop-end.end ≤ length (message l))
 inside l =
-    let e = l.loop-end.inv.2 in
+    let e = l.loop-end.invariant.2 in
     let u = first_le (eqb carriage_return) (drop l.loop-end.start (message l)) in
     let n = length-drop l.loop-end.start (message l) in
-    let h = l.loop-end.inv.0 in
+    let h = l.loop-end.invariant.0 in
     (omega arith, omega arith)
 
 -- the checks behind this segment
@@ -69,9 +84,9 @@ before-end c = c.loop-end-test.true
 -- the names left are this segment's, by which the walk went one on, and those behind it
 walked_on : (c : After-advance-course) → whole (message (goal.at.After-advance-course c).At-loop-end) (names (goal.at.After-advance-course c).At-loop-end) (follow (goal.at.After-advance-course c).At-loop-end) (last (goal.at.After-advance-course c).At-loop-end) ≡ resumed (names (goal.at.After-advance-course c).At-loop-end) (follow (goal.at.After-advance-course c).At-loop-end) (last (goal.at.After-advance-course c).At-loop-end) c.advance-course.result (c.loop-end.number + 1) (names_from (message (goal.at.After-advance-course c).At-loop-end) (c.loop-end.end + 1))
 walked_on c =
-    c.loop-end.inv.4
+    c.loop-end.invariant.4
     ∙ ap (resumed (names (goal.at.After-advance-course c).At-loop-end) (follow (goal.at.After-advance-course c).At-loop-end) (last (goal.at.After-advance-course c).At-loop-end) c.loop-end.course c.loop-end.number)
-    (names_walk (message (goal.at.After-advance-course c).At-loop-end) c.loop-end.start c.loop-end.end c.loop-end.inv.2 (before-end c)
+    (names_walk (message (goal.at.After-advance-course c).At-loop-end) c.loop-end.start c.loop-end.end c.loop-end.invariant.2 (before-end c)
     ∙ ap (λ (n : ℕ). n ∷ names_from (message (goal.at.After-advance-course c).At-loop-end) (c.loop-end.end + 1)) (sym c.name_of-name.ensures))
     ∙ sym (c.advance-course.ensures (names_from (message (goal.at.After-advance-course c).At-loop-end) (c.loop-end.end + 1)))
 
@@ -83,7 +98,7 @@ returns-in-Fails c = λ s t.
 pub loop-end-preserved : goal.loop-end-preserved
 loop-end-preserved c =
     let i = (inside (goal.at.loop-end-preserved c).At-loop-end).0 in
-    let h = c.loop-end.inv.1 in
+    let h = c.loop-end.invariant.1 in
     let g = before-end (goal.at.loop-end-preserved c).After-advance-course in (
       omega arith,
       omega arith,

@@ -18,21 +18,6 @@ abbrev pub whole : List ℕ → List ℕ → List ℕ → ℕ → Walked
 whole message names follow last = walked names follow last (into 1) 0 (segment_names message)
 
 -- ---- the message
-abbrev pub message : (l : At-loop-end) → List ℕ
-message l = l.args.message.now
-
-abbrev pub names : (l : At-loop-end) → List ℕ
-names l = l.args.names.now
-
-abbrev pub follow : (l : At-loop-end) → List ℕ
-follow l = l.args.follow.now
-
-abbrev pub last : (l : At-loop-end) → ℕ
-last l = l.args.last
-
-abbrev pub separator : (l : At-loop-end) → ℕ
-separator l = l.byte_at-separator.result
-
 abbrev pub invariant-loop-end : goal.invariant-loop-end
 invariant-loop-end l =
     (l.start ≤ length l.message) × (l.number ≤ l.start) × (l.end ≡ l.start + find carriage_return (drop l.start l.message))

@@ -2,13 +2,13 @@
 use Prim.Native.Nat.{ℕ, ◌-◌, ◌^◌, ◌<◌}
 use mathlib.Core.Path.{◌≡◌, sym, ap, ap₂, ◌∙◌}
 use mathlib.Core.Bool.{Bool}
-use mathlib.Core.Logic.{⊎_elim}
 use lib.Bits.{bit_and, and_le_r}
 use lib.Count.{count_trailing_zeros, trailing_le}
 use lib.ListN.{length}
 use native.Mathlib.Omega.{arith}
 use Rattle.structure.specs.Engine.{entry, join, gathered}
 use Rattle.structure.proofs.LowestLaws.{without_lowest, without_hit, without_other, without_past, join_none, nothing_left}
+use Rattle.structure.proofs.walking.step.Goals.{then-p-names+then-names-p, then-p-names+else-names-p, else-p-names}
 use Rattle.structure.proofs.walking.step.Goals as goal
 
 pub overflow_cast-p : goal.overflow_cast-p
@@ -31,16 +31,15 @@ loop-rest-preserved c =
     let w = without_lowest 64 x (omega arith) h in
     let z = and_le_r x (x - 1) in (
       omega arith,
-      ⊎_elim
-          (λ v. ap₂ (λ (m : ℕ) (e : Bool). join (entry m e) left) v.4 v.5
-          ∙ without_hit names follow a.last a.name x p y n c.loop-rest.next c.loop-rest.ends w v.0.taken v.2.taken)
-          (⊎_elim
-          (λ v. ap₂ (λ (m : ℕ) (e : Bool). join (entry m e) left) v.3 v.4
-          ∙ ap (join (entry c.loop-rest.next c.loop-rest.ends)) (without_other names follow a.last a.name x p y n w v.2.left))
-          (λ v. ap₂ (λ (m : ℕ) (e : Bool). join (entry m e) left) v.1 v.2
-          ∙ ap (join (entry c.loop-rest.next c.loop-rest.ends))
-          (without_past names follow a.last a.name x p y n w (let o = v.0.left in omega arith))))
-          c.if-p-names.branch
+      elim c.if-p-names.branch [
+        | then-p-names+then-names-p v ↦ ap₂ (λ (m : ℕ) (e : Bool). join (entry m e) left) v.next-is v.ends-is
+            ∙ without_hit names follow a.last a.name x p y n c.loop-rest.next c.loop-rest.ends w v.if-p-names.true v.if-names-p.true
+        | then-p-names+else-names-p v ↦ ap₂ (λ (m : ℕ) (e : Bool). join (entry m e) left) v.next-is v.ends-is
+            ∙ ap (join (entry c.loop-rest.next c.loop-rest.ends)) (without_other names follow a.last a.name x p y n w v.if-names-p.false)
+        | else-p-names v ↦ ap₂ (λ (m : ℕ) (e : Bool). join (entry m e) left) v.next-is v.ends-is
+            ∙ ap (join (entry c.loop-rest.next c.loop-rest.ends))
+            (without_past names follow a.last a.name x p y n w (let o = v.if-p-names.false in omega arith))
+      ]
           ∙ c.loop-rest.invariant.1,
     )
 

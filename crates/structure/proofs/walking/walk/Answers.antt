@@ -1,7 +1,7 @@
 -- Rests on the laws of the walk: what is left to walk are the names of the segments from `start` on, at each turn.
 use Prim.Native.Nat.{ℕ, ◌+◌, ◌≤◌}
 use mathlib.Core.Path.{◌≡◌, sym, ap, ◌∙◌}
-use mathlib.Core.List.{[], ◌∷◌}
+use mathlib.Core.List.{List, [], ◌∷◌}
 use lib.Dec.{eqb}
 use lib.ListN.{length, drop, length-drop}
 use native.Mathlib.Omega.{arith}
@@ -12,9 +12,11 @@ use Rattle.structure.specs.SegmentNames.{segment_names}
 use Rattle.structure.specs.Engine.{into, walked, resumed}
 use Rattle.structure.specs.declared.walking.Course.{Course}
 use Rattle.structure.proofs.SegmentWalk.{names_from, names_all, names_walk, names_over, stuck_stays}
-use Rattle.structure.proofs.walking.walk.Invariants.{message}
 use Rattle.structure.proofs.walking.walk.Goals.{After-advance-course, At-loop-end, else-loop-end-test, then-loop-end-test+in_default}
 use Rattle.structure.proofs.walking.walk.Goals as goal
+
+abbrev message : (l : At-loop-end) → List ℕ
+message l = l.args.message.now
 
 pub loop-end-init : goal.loop-end-init
 loop-end-init c =
@@ -29,10 +31,10 @@ loop-end-init c =
 -- a segment ends at or before the message's end
 inside : (l : At-loop-end) → (l.loop-end.start ≤ l.loop-end.end) × (l.loop-end.end ≤ length (message l))
 inside l =
-    let e = l.loop-end.inv.2 in
+    let e = l.loop-end.invariant.2 in
     let u = first_le (eqb carriage_return) (drop l.loop-end.start (message l)) in
     let n = length-drop l.loop-end.start (message l) in
-    let h = l.loop-end.inv.0 in
+    let h = l.loop-end.invariant.0 in
     (omega arith, omega arith)
 
 -- the names that are left are this segment's, by which the walk went one on, and those behind it
@@ -65,9 +67,14 @@ returns c =
     ∙ elim c.loop-end-test.branch [
       | else-loop-end-test w ↦ ap (λ (x : Course). resumed a.names.now a.follow.now a.last x c.loop-end.number []) w.course-is
           ∙ sym (c.loop-end.invariant.3 ∙ ap (resumed a.names.now a.follow.now a.last c.loop-end.course c.loop-end.number) (names_over m c.loop-end.start (omega (arith, w.loop-end-test.false))))
-      | then-loop-end-test+in_default w ↦ let k : After-advance-course = record { before = record { before = record { before = record { before = (goal.at.returns c).At-loop-end; loop-test = w.loop-end-test }; name-of-arg = w.name_of-arg-1 }; name_of = w.name_of-name }; advance = w.advance-course } in
-          ap (λ (x : Course). resumed a.names.now a.follow.now a.last x c.loop-end.number []) w.6
-          ∙ stuck_stays a.names.now a.follow.now a.last w.course-is.given.1 c.loop-end.number (c.loop-end.number + 1) [] (names_from m (c.loop-end.end + 1)) ∙ sym (next k)
+      | then-loop-end-test+in_default w ↦
+          ap (λ (x : Course). resumed a.names.now a.follow.now a.last x c.loop-end.number []) w.course-is
+          ∙ stuck_stays a.names.now a.follow.now a.last w.in_default.is c.loop-end.number (c.loop-end.number + 1) [] (names_from m (c.loop-end.end + 1))
+          ∙ sym (c.loop-end.invariant.3
+          ∙ ap (resumed a.names.now a.follow.now a.last c.loop-end.course c.loop-end.number)
+          (names_walk m c.loop-end.start c.loop-end.end c.loop-end.invariant.2 w.loop-end-test.true
+          ∙ ap (λ (n : ℕ). n ∷ names_from m (c.loop-end.end + 1)) (sym w.name_of-name.ensures))
+          ∙ sym (w.advance-course.ensures (names_from m (c.loop-end.end + 1))))
     ]
 
 pub slice_bounds-name_of-count : goal.slice_bounds-name_of-count

@@ -9,9 +9,6 @@ use Rattle.structure.specs.Engine.{into, walked, resumed}
 use Rattle.structure.proofs.SegmentWalk.{names_from}
 use Rattle.structure.proofs.walking.walk.Given as goal
 
-abbrev pub message : (l : At-loop-end) → List ℕ
-message l = l.args.message.now
-
 abbrev pub invariant-loop-end : goal.invariant-loop-end
 invariant-loop-end l =
     (l.start ≤ length l.message) × (l.number ≤ l.start) × (l.end ≡ l.start + find carriage_return (drop l.start l.message))
