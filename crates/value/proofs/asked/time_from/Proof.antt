@@ -11,7 +11,7 @@ returns c = let a = c.before.before.before.before.args in time_present a.found a
 returns-2 : tie.Need-returns-2
 returns-2 c =
     let a = c.before.before.before.before.before.args in
-    time_other a.found a.read c.no_time_row.result (sym c.before.before.before.is_present.ensures ∙ c.before.before.if1.false) c.no_time_row.ensures
+    time_other a.found a.read c.no_time.result (sym c.before.before.before.is_present.ensures ∙ c.before.before.if1.false) c.no_time.ensures
 
 pub time-from-spec : {M : Type 1} → statement M
 time-from-spec =

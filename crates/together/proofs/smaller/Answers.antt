@@ -1,0 +1,15 @@
+-- Rests on the test as a bool.
+use mathlib.Core.Path.{sym, ap}
+use mathlib.Core.Bool.{Bool, cond}
+use borrow.Author.Tests.{lt-ltb, le-ltb}
+use Rattle.together.proofs.smaller.Goals as goal
+
+pub returns-then-a-b : goal.returns-then-a-b
+returns-then-a-b c =
+    let a = c.args in
+    ap (λ (t : Bool). cond t a.a a.b) (sym (lt-ltb a.a a.b c.if-a-b.true))
+
+pub returns : goal.returns
+returns c =
+    let a = c.args in
+    ap (λ (t : Bool). cond t a.a a.b) (sym (le-ltb a.a a.b c.if-a-b.false))
