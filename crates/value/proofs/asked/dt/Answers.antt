@@ -1,0 +1,13 @@
+-- Rests on what `find`, `bytes_at`, `read_dt` and `time_from` give.
+use mathlib.Core.Path.{ap, ap₂, ◌∙◌}
+use Rattle.element.specs.Finding.{bytes_at}
+use Rattle.element.specs.declared.Found.{Found}
+use Rattle.times.specs.Times.{dt_read}
+use Rattle.value.specs.Asked.{time_from}
+use Rattle.value.proofs.asked.dt.Goals as goal
+
+pub returns : goal.returns
+returns c =
+    let f = c.find-found.ensures in
+    let m = c.args.message.now in
+    c.time_from.ensures ∙ ap₂ time_from f (c.read_dt-read.ensures ∙ ap (dt_read) (c.bytes_at.ensures ∙ ap (λ (x : Found). bytes_at m x.element) f))
