@@ -10,7 +10,7 @@ use terminal::Output;
 
 // No reason; or the header has no end, a fault of its own, says that this is an acknowledgement, or has no control ID
 // or one that is too long.
-#[derive(Drop)]
+#[derive(Clone, Copy)]
 pub enum Reason {
     None,
     NoEnd,

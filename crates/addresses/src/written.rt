@@ -6,7 +6,7 @@ use places::piece;
 
 // What was written: whether it is an address, whether its segment is told by a name, and then its numbers. That of the
 // segment is the first, the second or another of its name, or its own number, from 0, where it is told by that.
-#[derive(Drop)]
+#[derive(Clone, Copy)]
 pub struct Written {
     pub is_right: bool,
     pub is_named: bool,
@@ -18,7 +18,7 @@ pub struct Written {
 }
 
 // A number that was read, or 0 for none, the place behind it, and whether all is right so far.
-#[derive(Drop)]
+#[derive(Clone, Copy)]
 struct Step {
     is_right: bool,
     value: usize,

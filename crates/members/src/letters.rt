@@ -7,7 +7,7 @@ ghost use Rattle.members.specs.Letters.{plain, not_plain, escaped};
 use terminal::Output;
 
 // What stands in a string for a byte that does not stand there as it is: so many bytes from the front.
-#[derive(Drop)]
+#[derive(Clone, Copy)]
 struct Letter {
     text: [u8; 6],
     length: usize,

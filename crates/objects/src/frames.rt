@@ -7,7 +7,7 @@ use terminal::Output;
 
 // How many frames a file has, of which so many messages are refused, how many are dropped, whether one is left open, and
 // how many bytes stand outside frames and in all.
-#[derive(Drop)]
+#[derive(Clone, Copy)]
 pub struct Counts {
     pub frames: usize,
     pub refused: usize,

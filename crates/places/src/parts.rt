@@ -6,7 +6,7 @@ ghost use Rattle.alphabet.specs.Bytes.{carriage_return};
 use alphabet::Part;
 
 // A segment of a message, or what stands behind the last CR: its number, from 0, and where it begins and ends.
-#[derive(Drop)]
+#[derive(Clone, Copy)]
 pub struct Segment {
     pub number: usize,
     pub start: usize,

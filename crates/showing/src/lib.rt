@@ -17,7 +17,7 @@ pub const ROW: usize = 8;
 
 // Which parts around a leaf are split: its field into repetitions, its repetition into components, and its component
 // into subcomponents.
-#[derive(Drop)]
+#[derive(Clone, Copy)]
 struct Split {
     repetitions: bool,
     components: bool,
@@ -26,7 +26,7 @@ struct Split {
 
 // A segment of the message: its number, which of its name it is, or 0 where no other has its name, and where it begins
 // and ends.
-#[derive(Drop)]
+#[derive(Clone, Copy)]
 struct Numbered {
     number: usize,
     which: usize,

@@ -6,7 +6,7 @@ use terminal::Output;
 const SCRIPT: i32 = 3;
 
 // How many files there were, and how many of them came to each status.
-#[derive(Drop)]
+#[derive(Clone, Copy)]
 pub struct Tally {
     pub files: usize,
     pub accepted: usize,
