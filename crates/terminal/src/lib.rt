@@ -8,6 +8,11 @@ ghost use Rattle.std.specs.Prelude.{◌≤◌, ◌≡◌, length};
 ghost use Rattle.alphabet.specs.Lists.{first};
 ghost use Rattle.terminal.specs.Terminal.{plain, not_plain, in_braces};
 
+// The descriptors of standard output and standard error.
+const STANDARD_OUTPUT: i32 = 1;
+
+const STANDARD_ERROR: i32 = 2;
+
 // Where is printed to, and whether all so far was written.
 #[derive(Drop)]
 pub struct Output {
@@ -18,7 +23,7 @@ pub struct Output {
 // Standard output, of which nothing is written yet.
 pub fn standard_output() -> Output {
     Output {
-        to: libc::STDOUT_FILENO,
+        to: STANDARD_OUTPUT,
         is_whole: true,
     }
 }
@@ -26,7 +31,7 @@ pub fn standard_output() -> Output {
 // Standard error, of which nothing is written yet.
 pub fn standard_error() -> Output {
     Output {
-        to: libc::STDERR_FILENO,
+        to: STANDARD_ERROR,
         is_whole: true,
     }
 }
