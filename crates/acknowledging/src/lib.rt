@@ -10,6 +10,7 @@ ghost use Rattle.std.specs.Prelude.{◌≤◌};
 use alphabet::Refusal;
 use drawing::Told;
 use element::Address;
+use std::rt::Env;
 use terminal::Output;
 
 // The outputs behind an acknowledgement, the one that has its bytes and the one on which its letters were said; whether
@@ -77,6 +78,7 @@ fn acknowledge<'a>(
 
 // Writes the acknowledgement of the message that a file holds by the two words from `first` on, a time and an ID.
 pub fn acknowledge_by(
+    rt: &impl Env,
     out: Output,
     name: &[u8],
     message: &[u8],
@@ -87,8 +89,8 @@ pub fn acknowledge_by(
 {
     let mut time = io::buffer();
     let mut id = io::buffer();
-    let time_length = os::arg(first, &mut time);
-    let id_length = os::arg(first + 1, &mut id);
+    let time_length = command_line::word(rt, first, &mut time);
+    let id_length = command_line::word(rt, first + 1, &mut id);
     acknowledge(
         out,
         name,

@@ -9,6 +9,7 @@ ghost use Rattle.std.specs.Prelude.{◌≤◌};
 use alphabet::Refusal;
 use arguments::{CHECK, FRAMES, GET, LINES, SHOW};
 use element::{Address, Element};
+use std::rt::{Env, Files};
 use terminal::Output;
 use wording::LONGEST_MESSAGE;
 
@@ -188,6 +189,7 @@ fn get_element(
 // `get` and `lines`: the element of a message at the address that the words from `first` on say. They are known to say
 // one. `room` is lent for each word, and then for the lines.
 fn get(
+    rt: &impl Env,
     command: u8,
     json: bool,
     out: Output,
@@ -196,16 +198,23 @@ fn get(
     first: usize,
     room: &mut [u8],
 ) -> Outcome {
-    let address = addresses::address_at(first, room, message);
+    let address = addresses::address_at(rt, first, room, message);
     get_element(command, json, out, name, message, address, room)
 }
 
 // `ack`: the acknowledgement of a message, by the two words from `first` on. It is made in `room`, and with which
 // letters and why is said on standard error. The status says it too: all is well where they are AA.
-fn acknowledge(out: Output, name: &[u8], message: &[u8], first: usize, room: &mut [u8]) -> Outcome
+fn acknowledge(
+    rt: &impl Env,
+    out: Output,
+    name: &[u8],
+    message: &[u8],
+    first: usize,
+    room: &mut [u8],
+) -> Outcome
     requires { first ≤ 9 }
 {
-    let done = acknowledging::acknowledge_by(out, name, message, first, room);
+    let done = acknowledging::acknowledge_by(rt, out, name, message, first, room);
     let written = done.out;
     let said = done.said;
     let kind = done.kind;
@@ -224,6 +233,7 @@ fn acknowledge(out: Output, name: &[u8], message: &[u8], first: usize, room: &mu
 
 // Does what a command asks of the message that a file holds, by the words from `first` on.
 fn answer(
+    rt: &impl Env,
     command: u8,
     json: bool,
     out: Output,
@@ -241,9 +251,9 @@ fn answer(
         return show(json, out, name, message, room);
     }
     if arguments::takes_address(command) {
-        return get(command, json, out, name, message, first, room);
+        return get(rt, command, json, out, name, message, first, room);
     }
-    acknowledge(out, name, message, first, room)
+    acknowledge(rt, out, name, message, first, room)
 }
 
 // How many bytes of a buffer are lent for a frame: no more than the command takes of a message.
@@ -259,6 +269,7 @@ fn frame_room(length: usize) -> usize
 // `frames`: each frame of a file that the argument at an index names. Its pieces and its messages are read to the front
 // of two buffers.
 fn take_frames(
+    rt: &(impl Env + Files + Input),
     json: bool,
     out: Output,
     index: usize,
@@ -267,7 +278,7 @@ fn take_frames(
     piece: &mut [u8],
 ) -> Outcome {
     let room = frame_room(message.len());
-    let told = framing::tell_file(json, out, index, name, piece, &mut message[..room]);
+    let told = framing::tell_file(rt, json, out, index, name, piece, &mut message[..room]);
     let printed = told.out;
     if !told.is_read {
         return Outcome {
@@ -284,6 +295,7 @@ fn take_frames(
 // Does what a command asks of the file that the argument at an index names. One that is longer than the command takes is
 // refused before anything else is looked at.
 pub fn answer_file(
+    rt: &(impl Env + Files + Input),
     command: u8,
     json: bool,
     out: Output,
@@ -296,9 +308,9 @@ pub fn answer_file(
     requires { first ≤ 9 }
 {
     if command == FRAMES {
-        return take_frames(json, out, index, name, message, room);
+        return take_frames(rt, json, out, index, name, message, room);
     }
-    let file = files::read(index, name, message);
+    let file = files::read(rt, index, name, message);
     let called = file.name;
     let length = file.length;
     if !file.is_read {
@@ -311,6 +323,7 @@ pub fn answer_file(
         return refuse_long(command, json, out, &name[..called]);
     }
     answer(
+        rt,
         command,
         json,
         out,

@@ -8,13 +8,15 @@ mod tally;
 
 pub use ending::Framed;
 use ending::tell_end;
+use std::io::{Error, Read};
+use std::rt::{Env, Files};
 use stops::tell_piece;
 use tally::Tally;
 use terminal::Output;
 
 // Says of a file by its name that it cannot be read. What was told of it before stands.
-fn unread(out: Output, name: &[u8]) -> Framed {
-    files::tell_unread(name);
+fn unread(out: Output, name: &[u8], error: Error) -> Framed {
+    files::tell_unread(name, error);
     Framed {
         out: out,
         is_read: false,
@@ -26,7 +28,7 @@ fn unread(out: Output, name: &[u8]) -> Framed {
 // does: so the loop counts its turns down, from a number that no run uses up.
 fn tell_pieces(
     begun: Tally,
-    file: i32,
+    file: &mut impl Read,
     name: &[u8],
     piece: &mut [u8],
     buffer: &mut [u8],
@@ -34,12 +36,13 @@ fn tell_pieces(
     let mut tally = begun;
     let mut turns = u64::MAX;
     while 0 < turns {
-        let got = libc::read(file, piece);
-        let count = io::count(got, piece);
-        if got < 0 {
-            let told = tally.out;
-            return unread(told, name);
-        }
+        let count = match file.read(piece) {
+            Ok(count) => count,
+            Err(error) => {
+                let told = tally.out;
+                return unread(told, name, error);
+            }
+        };
         if count == 0 {
             return tell_end(tally, name);
         }
@@ -53,6 +56,7 @@ fn tell_pieces(
 // file to that of another, and the message of each frame to that of the third, whose length is a frame's limit where it
 // is the smaller.
 pub fn tell_file(
+    rt: &(impl Env + Files + Input),
     json: bool,
     out: Output,
     index: usize,
@@ -60,13 +64,14 @@ pub fn tell_file(
     piece: &mut [u8],
     buffer: &mut [u8],
 ) -> Framed {
-    let opened = files::open(index, name);
-    let file = opened.file;
+    let opened = files::open(rt, index, name);
     let count = opened.name;
-    if file < 0 {
-        return unread(out, &name[..count]);
-    }
-    let told = tell_pieces(Tally::start(json, out), file, &name[..count], piece, buffer);
+    let mut file = match opened.file {
+        Ok(file) => file,
+        Err(error) => return unread(out, &name[..count], error),
+    };
+    let begun = Tally::start(json, out);
+    let told = tell_pieces(begun, &mut file, &name[..count], piece, buffer);
     files::close(file);
     told
 }

@@ -9,6 +9,7 @@ ghost use Rattle.std.specs.Prelude.{◌≤◌, ◌<◌};
 
 use arguments::{CHECK, HELP, NOTHING, VERSION, question_at};
 use commands::answer_file;
+use std::rt::{Env, Files};
 
 // One byte more than the command takes of a message (`wording::LONGEST_MESSAGE`): a file that fills it is longer.
 const ROOM: usize = 65_537;
@@ -21,6 +22,7 @@ const LARGE_ROOM: usize = 524_288;
 // Does what a command asks of each file that the arguments from `file` up to and without `until` name: that is one
 // where words stand behind it. Returns the worst status.
 fn answer_files(
+    rt: &(impl Env + Files + Input),
     command: u8,
     json: bool,
     file: usize,
@@ -35,7 +37,7 @@ fn answer_files(
     let mut tally = status::none();
     let mut index = file;
     while index < until {
-        let answered = answer_file(command, json, out, index, name, message, file + 1, room);
+        let answered = answer_file(rt, command, json, out, index, name, message, file + 1, room);
         out = answered.out;
         tally = status::with(tally, answered.status);
         index += 1;
@@ -63,24 +65,30 @@ fn tell_itself(command: u8) -> u8 {
 }
 
 // Does what the arguments from an index on ask.
-fn run(index: usize, name: &mut [u8], message: &mut [u8], room: &mut [u8]) -> u8 {
-    let question = question_at(index, name);
+fn run(
+    rt: &(impl Env + Files + Input),
+    index: usize,
+    name: &mut [u8],
+    message: &mut [u8],
+    room: &mut [u8],
+) -> u8 {
+    let question = question_at(rt, index, name);
     let command = question.command;
     let file = question.file;
     if (command == NOTHING) | (HELP <= command) {
         return tell_itself(command);
     }
     let until = if arguments::takes_files(command) {
-        os::arg_count()
+        command_line::word_count(rt)
     } else {
         file + 1
     };
-    answer_files(command, question.json, file, until, name, message, room)
+    answer_files(rt, command, question.json, file, until, name, message, room)
 }
 
 // Whether the script asks to be told the status: that is the first argument, and all others stand behind it.
-fn is_script(word: &mut [u8]) -> bool {
-    let length = os::arg(1, word);
+fn is_script(rt: &impl Env, word: &mut [u8]) -> bool {
+    let length = command_line::word(rt, 1, word);
     alphabet::same(&word[..length], b"--status-on-3")
 }
 
@@ -94,13 +102,13 @@ fn large_room() -> [u8; LARGE_ROOM] {
     [0; LARGE_ROOM]
 }
 
-fn main() {
+fn main(rt: HostRuntime) {
     let mut name = io::buffer();
     let mut message = room_for_message();
     let mut room = large_room();
-    if is_script(&mut name) {
-        status::tell(run(2, &mut name, &mut message, &mut room));
+    if is_script(&rt, &mut name) {
+        status::tell(run(&rt, 2, &mut name, &mut message, &mut room));
     } else {
-        run(1, &mut name, &mut message, &mut room);
+        run(&rt, 1, &mut name, &mut message, &mut room);
     }
 }
