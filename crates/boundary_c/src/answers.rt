@@ -1,0 +1,15 @@
+// What every answer has in common: the number of the refusal, and its place.
+ghost use Rattle.std.specs.Prelude.{◌≡◌};
+ghost use Rattle.alphabet.specs.Answers.{answered};
+ghost use Rattle.reading.specs.Reading.{reading};
+ghost use Rattle.boundary.specs.Seen.{seen};
+
+use boundary::CAnswer;
+
+// Reads a message: 0, or 1 to 8 and the byte.
+#[unsafe(no_mangle)]
+pub extern "C" fn turrethog_read(message: &[u8]) -> CAnswer
+    ensures { result ≡ seen (answered (reading message.now)) }
+{
+    boundary::turrethog_read(message)
+}

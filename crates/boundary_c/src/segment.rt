@@ -1,0 +1,24 @@
+// The segments of a message: how many there are, and of each its name and where it stands.
+ghost use Rattle.std.specs.Prelude.{◌≡◌};
+ghost use Rattle.segments.specs.Asked.{counting, segment_found};
+ghost use Rattle.seen.specs.Seen.{segment_seen};
+ghost use Rattle.boundary.specs.Seen.{seen};
+
+use boundary::CAnswer;
+use seen::CSegment;
+
+// How many segments a message has, as the length.
+#[unsafe(no_mangle)]
+pub extern "C" fn turrethog_segments(message: &[u8]) -> CAnswer
+    ensures { result ≡ seen (counting message.now) }
+{
+    boundary::turrethog_segments(message)
+}
+
+// A segment by its number, from 0.
+#[unsafe(no_mangle)]
+pub extern "C" fn turrethog_segment(message: &[u8], index: usize) -> CSegment
+    ensures { result ≡ segment_seen (segment_found message.now index) }
+{
+    boundary::turrethog_segment(message, index)
+}
