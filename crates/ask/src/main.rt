@@ -8,7 +8,7 @@ ghost use Rattle.io.specs.Counts.{IsPrefixLen};
 ghost use Rattle.answering.specs.Answers.{Roomy};
 
 use asking::lines::Line;
-use libc::STDIN_FILENO;
+use std::io::Read;
 
 // A longer line is answered as no question. It has room for two words of 64 KiB, at two digits a byte.
 const LONGEST_LINE: usize = 300_000;
@@ -21,22 +21,28 @@ const LONGEST_SAID: usize = 150_000;
 const LONGEST_ANSWER: usize = 600_000;
 
 // Reads a piece of the input, and returns how many bytes came: none where the input has ended or cannot be read.
-fn read_piece(piece: &mut [u8]) -> usize
+// It takes what is there, and does not wait for more: whoever asks may wait for an answer before he asks on.
+fn read_piece<R: Read>(input: &mut R, piece: &mut [u8]) -> usize
     ensures { IsPrefixLen result piece.new }
 {
-    let got = libc::read(STDIN_FILENO, piece);
-    io::count(got, piece)
+    input.read(piece).unwrap_or(0)
 }
 
 // Answers the whole input. A proved loop has to end, and nothing says that an input does: so the loop counts its turns
 // down, from a number that no run uses up.
-fn answer_input(piece: &mut [u8], buffer: &mut [u8], said: &mut [u8], answer: &mut [u8])
+fn answer_input<R: Read>(
+    input: &mut R,
+    piece: &mut [u8],
+    buffer: &mut [u8],
+    said: &mut [u8],
+    answer: &mut [u8],
+)
     requires { Roomy answer.old }
 {
     let mut line = Line::Holds(0);
     let mut turns = u64::MAX;
     while 0 < turns {
-        let count = read_piece(piece);
+        let count = read_piece(input, piece);
         if count == 0 {
             conversation::answer_last(line, buffer, said, answer);
             return;
@@ -68,10 +74,11 @@ fn answer_buffer() -> [u8; LONGEST_ANSWER]
     [0; LONGEST_ANSWER]
 }
 
-fn main() {
+fn main(rt: HostRuntime) {
+    let mut input = rt.stdin();
     let mut piece = io::large_buffer();
     let mut buffer = line_buffer();
     let mut said = said_buffer();
     let mut answer = answer_buffer();
-    answer_input(&mut piece, &mut buffer, &mut said, &mut answer);
+    answer_input(&mut input, &mut piece, &mut buffer, &mut said, &mut answer);
 }

@@ -10,7 +10,9 @@ ghost use Rattle.asking.specs.Lines.{Within};
 use answering::answers;
 use asking::lines;
 use asking::lines::Line;
-use libc::STDOUT_FILENO;
+
+// Standard output, by its number.
+const STDOUT_FILENO: i32 = 1;
 
 // Puts the answer to a line into `answer`, and returns its length.
 fn reply(line: Line, buffer: &[u8], said: &mut [u8], answer: &mut [u8]) -> usize
