@@ -26,5 +26,5 @@ move_word-requires c =
 pub returns : goal.returns
 returns c =
     wraps_some c.args.page c.end_lines-next.result c.args.line.now c.args.buffer.now c.move_word.new.line _ c.requires.0 c.requires.1
-    c.end_lines-next.ensures.value c.end_lines-next.ensures.wrote (c.move_word.auto.0 ∙ c.requires.0.broad) _
+    c.end_lines-next.ensures.value c.end_lines-next.ensures.wrote (c.move_word.auto.line ∙ c.requires.0.broad) _
     (ap (λ (n : ℕ). c.args.page.line + n) c.lead-lead.ensures) c.move_word.ensures
