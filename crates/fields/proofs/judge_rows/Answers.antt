@@ -1,0 +1,70 @@
+-- Rests on the laws of the rows: what is left, at each turn, is the fault of the segment.
+use Prim.Native.Nat.{ℕ, ◌<◌, ◌+◌}
+use mathlib.Core.Path.{◌≡◌, sym, ap, subst, ◌∙◌}
+use lib.ListN.{length, get_or}
+use native.Mathlib.Omega.{arith}
+use Rattle.alphabet.specs.declared.answers.Check.{Check}
+use Rattle.field_table.specs.Table.{rows}
+use Rattle.field_table.proofs.TableLaws.{rows_count}
+use Rattle.fields.specs.Judging.{located, or_fault}
+use Rattle.fields.specs.Walk.{judged_in, NoneBefore, NoneFrom}
+use Rattle.fields.proofs.CursorLaws.{stands_start}
+use Rattle.fields.proofs.JudgeLaws.{rows_left, row_other, row_own, rows_before, rows_from, own_passes, own_stops}
+use Rattle.fields.proofs.judge_rows.Goals.{After-judge_row-judged, In-loop-index}
+use Rattle.fields.proofs.judge_rows.Goals as goal
+
+pub loop-index-init : goal.loop-index-init
+loop-index-init c =
+    let a = c.args in
+    (stands_start (get_or a.delimiters.bytes 0 0) _, rows_before rows a.delimiters.bytes a.number a.segment.now (subst (λ (name : ℕ). NoneBefore rows name a.from) c.requires.2 c.requires.0))
+
+-- a row that the loop comes to is one of the table
+among : (c : In-loop-index) → c.loop-index.index < length rows
+among c = let i = c.requires.1.inside in omega (arith, c.loop-index-test.true)
+
+few : (c : In-loop-index) → c.loop-index.index < 16
+few c = let h = among c in let e = rows_count in omega arith
+
+pub loop-index-preserved-then-row-name : goal.loop-index-preserved-then-row-name
+loop-index-preserved-then-row-name c =
+    let a = c.args in
+    (c.loop-index.invariant.0, c.loop-index.invariant.1 ∙ row_other rows a.delimiters.bytes a.number a.segment.now c.loop-index.index (among (goal.at.loop-index-preserved-then-row-name c).In-loop-index) c.row_at-row.result c.row_at-row.ensures (λ q. c.if-row-name.true (q ∙ sym c.requires.2)))
+
+-- what is left: this row, and the rows behind it
+begun : (c : After-judge_row-judged)
+    → let a = c.args in
+    judged_in rows a.delimiters.bytes a.number a.segment.now
+    ≡ or_fault (located a.number c.row_at-row.result.field c.judge_row-judged.result.found) (rows_left rows a.delimiters.bytes a.number a.segment.now (c.loop-index.index + 1))
+begun c =
+    let a = c.args in
+    c.loop-index.invariant.1
+    ∙ row_own rows a.delimiters.bytes a.number a.segment.now c.loop-index.index (among (goal.at.After-judge_row-judged c).In-loop-index) c.row_at-row.result c.row_at-row.ensures (c.if-row-name.false ∙ c.requires.2)
+    ∙ ap (λ (k : Check). or_fault (located a.number c.row_at-row.result.field k) (rows_left rows a.delimiters.bytes a.number a.segment.now (c.loop-index.index + 1))) (sym c.judge_row-judged.ensures.1)
+
+pub returns-in_default : goal.returns-in_default
+returns-in_default c =
+    sym (begun (goal.at.returns-in_default c).After-judge_row-judged ∙ own_stops _ _ _ c.in_default.is)
+
+pub loop-index-preserved : goal.loop-index-preserved
+loop-index-preserved c =
+    (c.judge_row-judged.ensures.0, begun (goal.at.loop-index-preserved c).After-judge_row-judged ∙ own_passes _ _ _ c.in-Passes.is)
+
+pub returns : goal.returns
+returns c =
+    let a = c.args in
+    sym (c.loop-index.invariant.1 ∙ rows_from rows a.delimiters.bytes a.number a.segment.now (subst (λ (name : ℕ). NoneFrom rows name a.to) c.requires.2 c.requires.1) c.loop-index.index c.loop-index-test.false)
+
+pub row_at-row-requires : goal.row_at-row-requires
+row_at-row-requires c = few c
+
+pub overflow_add-index : goal.overflow_add-index
+overflow_add-index c = let h = few (goal.at.overflow_add-index c).In-loop-index in omega arith
+
+pub loop-index-smaller-then-row-name : goal.loop-index-smaller-then-row-name
+loop-index-smaller-then-row-name c = let h = c.loop-index-test.true in omega arith
+
+pub judge_row-judged-requires : goal.judge_row-judged-requires
+judge_row-judged-requires c = (c.loop-index.invariant.0, c.requires.3)
+
+pub loop-index-smaller : goal.loop-index-smaller
+loop-index-smaller c = let h = c.loop-index-test.true in omega arith

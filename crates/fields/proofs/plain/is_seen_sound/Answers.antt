@@ -1,0 +1,13 @@
+-- Rests on the law of delimiters that are right: each is permitted.
+use Prim.Native.Nat.{ℕ}
+use mathlib.Core.Path.{◌≡◌, sym, ◌∙◌}
+use lib.ListN.{length}
+use borrow.Author.Rules.{rules}
+use Rattle.alphabet.proofs.DelimiterLaws.{delimiter_permitted}
+use Rattle.fields.proofs.plain.is_seen_sound.Goals as goal
+
+pub returns : goal.returns
+returns c = λ t n.
+    let ds = c.args.delimiters.bytes in
+    let five : length ds ≡ 5 = search rules in
+    c.is_plain.ensures t (λ i h. delimiter_permitted ds five (sym c.first_wrong_delimiter.ensures ∙ c.if-first_wrong_delimiter-ne5.false) i h) n
