@@ -1,0 +1,42 @@
+-- Rests on the law of an ID that is plain, and on the law that an ID written as text has room.
+use mathlib.Core.Path.{◌≡◌, sym, ap, ◌∙◌}
+use mathlib.Core.List.{List, ◌++◌}
+use Prim.Native.Nat.{ℕ, ◌+◌}
+use lib.ListN.{length, drop}
+use native.Mathlib.Omega.{arith}
+use Rattle.alphabet.specs.Filling.{over}
+use Rattle.alphabet.specs.declared.answers.Answer.{Answer}
+use Rattle.alphabet.proofs.FillingLaws.{put_fits}
+use Rattle.alphabet.proofs.LimitLaws.{id_limit_small}
+use Rattle.escaping.specs.Outcomes.{Outcome}
+use Rattle.escaping.specs.Outcomes.{answer, filled}
+use Rattle.acknowledgement.proofs.PieceLaws.{id_fits}
+use Rattle.acknowledgement.proofs.pieces.put_id.Goals as goal
+
+pub returns-then-is_plain-clause-value : goal.returns-then-is_plain-clause-value
+returns-then-is_plain-clause-value c =
+    let id = c.args.id.now in
+    let d = c.args.buffer.now in
+    let plain = c.is_plain.ensures c.if-is_plain.true in
+    let fits = put_fits d id 0 (omega (arith, c.requires.1, c.requires.2, id_limit_small)) in
+    let n : 0 + length id ≡ length id = omega arith in c.put.ensures.value ∙ fits.0 ∙ n ∙ sym (ap length plain)
+
+pub returns-then-is_plain-clause-buffer_after : goal.returns-then-is_plain-clause-buffer_after
+returns-then-is_plain-clause-buffer_after c =
+    let id = c.args.id.now in
+    let d = c.args.buffer.now in
+    let plain = c.is_plain.ensures c.if-is_plain.true in
+    let fits = put_fits d id 0 (omega (arith, c.requires.1, c.requires.2, id_limit_small)) in
+    let n : 0 + length id ≡ length id = omega arith in c.put.ensures.buffer_after ∙ fits.1 ∙ ap (λ (k : ℕ). id ++ drop k d) n ∙ sym (ap (λ (x : List ℕ). over x d) plain)
+
+pub returns-clause-value : goal.returns-clause-value
+unfolding answer filled
+returns-clause-value c =
+    let d = c.args.buffer.now in
+    let f = id_fits c.args.delimiters.bytes c.args.id.now (length d) c.requires.0 c.requires.1 c.requires.2 in ap (λ (r : Answer). r.length) c.escape-written.ensures.value ∙ ap (λ (x : Outcome ℕ). (answer x).length) f.0
+
+pub returns-clause-buffer_after : goal.returns-clause-buffer_after
+unfolding answer filled
+returns-clause-buffer_after c =
+    let d = c.args.buffer.now in
+    let f = id_fits c.args.delimiters.bytes c.args.id.now (length d) c.requires.0 c.requires.1 c.requires.2 in c.escape-written.ensures.buffer_after ∙ ap (λ (x : Outcome ℕ). filled x d) f.0

@@ -1,0 +1,10 @@
+-- Rests on what `dt` ensures of the same address.
+use mathlib.Core.Path.{ap, ◌∙◌}
+use Rattle.value.specs.Asked.{dt_found}
+use Rattle.seen.specs.Seen.{time_seen}
+use Rattle.boundary.proofs.elements.turrethog_dt.Goals as goal
+
+pub returns : goal.returns
+returns c =
+    let m = c.args.message.now in
+    c.time_shown.ensures ∙ ap time_seen (c.dt.ensures ∙ ap (dt_found m) c.address_of-address.ensures)

@@ -1,0 +1,12 @@
+-- Rests on what `unescape` ensures.
+use mathlib.Core.Path.{ap, ◌∙◌}
+use Rattle.boundary.specs.Seen.{seen}
+use Rattle.boundary.proofs.texts.turrethog_unescape.Goals as goal
+
+pub returns-clause-value : goal.returns-clause-value
+returns-clause-value c =
+    let e = c.unescape in c.shown.ensures ∙ ap seen e.ensures.value
+
+pub returns-clause-buffer_after : goal.returns-clause-buffer_after
+returns-clause-buffer_after c =
+    let e = c.unescape in e.ensures.buffer_after
