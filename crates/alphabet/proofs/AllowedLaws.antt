@@ -1,12 +1,12 @@
 -- Laws of the two numbers by which a byte is told to be allowed, and of the least and the most of many. Assumes nothing.
-use mathlib.Core.Path.{◌≡◌, refl, sym, ap, ◌∙◌}
-use mathlib.Core.Bool.{Bool, true, false, ◌&&◌, ◌||◌}
+use mathlib.Core.Path.{◌≡◌, refl}
+use mathlib.Core.Bool.{Bool, true, false, ◌&&◌}
 use Prim.Native.Nat.{ℕ, ◌+◌, ◌-◌, ◌≤◌, ◌<◌}
 use native.Mathlib.Omega.{arith}
 use native.Mathlib.Decide.{dec_lt}
-use lib.Dec.{eqb, leb, ltb}
-use borrow.Author.Tests.{eq-eqb, ne_eqb, eqb-true, eqb-false, le-leb, lt-leb, lt-ltb, le-ltb, leb-true, leb-false}
-use Rattle.alphabet.specs.Bytes.{carriage_return, from_to, allowed}
+use lib.Dec.{eqb, leb}
+use borrow.Author.Tests.{eqb-true, le-leb, lt-leb, lt-ltb, le-ltb, leb-true}
+use Rattle.alphabet.specs.Bytes.{carriage_return, allowed}
 use Rattle.alphabet.specs.Allowed.{height_of, turned_of}
 
 and_false : (x : Bool) → false ≡ (x && false)

@@ -4,11 +4,10 @@ use mathlib.Core.Path.{◌≡◌, refl, sym, ap, ◌∙◌}
 use mathlib.Core.List.{List, [], ◌∷◌, ◌++◌, append_assoc, append-nil}
 use Prim.Native.Nat.{ℕ, suc, ◌+◌, ◌-◌, ◌≤◌, ◌<◌}
 use native.Mathlib.Omega.{arith}
-use lib.ListN.{length, get_or, take, drop, set, take-append-drop, drop_of_length-le, length-append, length-drop, length-set}
+use lib.ListN.{length, get_or, take, drop, set, take-append-drop, length-append, length-drop, length-set}
 use lib.Seq.{take_at, drop_at, drop-drop, take-take, take-add, take_all, take-suc, take-suc-set, take-append-add, get_or-drop, length-take-le, set_split}
 use lib.Seq.{append_snoc, paste, paste-suc, take-paste, drop-paste, take-length}
 use native.Mathlib.Numerals.{add-one}
-use lib.Dec.{leb}
 use borrow.Author.Tests.{le-leb, lt-leb}
 use Rattle.alphabet.specs.Filling.{over, pasted, put_at, behind}
 

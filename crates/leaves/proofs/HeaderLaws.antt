@@ -1,11 +1,11 @@
 -- The leaves of a message begin with MSH-1 and MSH-2, and go on behind byte 8; and where a walk ends none is left. Assumes nothing.
 use mathlib.Core.Path.{◌≡◌, refl, sym, ap, ap₂, ◌∙◌, subst}
 use mathlib.Core.List.{List, [], ◌∷◌, ◌++◌}
-use mathlib.Core.Bool.{Bool, true, false, cond, ◌||◌, ◌&&◌}
-use Prim.Native.Nat.{ℕ, zero, suc, ◌+◌, ◌-◌, ◌*◌, ◌≤◌, ◌<◌}
+use mathlib.Core.Bool.{Bool, true, false, ◌||◌}
+use Prim.Native.Nat.{ℕ, ◌+◌, ◌-◌, ◌*◌, ◌≤◌}
 use native.Mathlib.Omega.{arith}
 use lib.Dec.{eqb, ltb}
-use lib.ListN.{length, get_or, take, drop, length-drop, length-append, drop_of_length-le}
+use lib.ListN.{length, get_or, drop, length-drop, length-append, drop_of_length-le}
 use lib.Seq.{get_or-drop}
 use borrow.Author.Tests.{eq-eqb, ne_eqb, eqb-true, eqb-false, ltb-true, ltb-false}
 use Rattle.alphabet.specs.Bytes.{carriage_return}
@@ -15,22 +15,21 @@ use Rattle.alphabet.specs.Delimiters.{permitted}
 use Rattle.alphabet.specs.Parts.{split}
 use Rattle.alphabet.specs.declared.answers.Check.TheVariants.{Passes}
 use Rattle.alphabet.proofs.BoolLaws.{false_true, and_both}
-use Rattle.alphabet.proofs.DelimiterLaws.{delimiters_differ, delimiter_permitted}
-use Rattle.alphabet.proofs.ListLaws.{drop_next, first_least, first_le}
+use Rattle.alphabet.proofs.DelimiterLaws.{delimiter_permitted}
+use Rattle.alphabet.proofs.ListLaws.{drop_next, first_least}
 use Rattle.reading.specs.Segments.{all_but_last, segments, delimiters_of}
 use Rattle.reading.specs.Reading.{reading}
-use Rattle.reading.specs.Message.{Message}
 use Rattle.reading.proofs.Accepted.{accepted, message_last}
 use Rattle.reading.proofs.SegmentLaws.{ended_last}
 use Rattle.element.specs.States.{state_of}
 use Rattle.element.specs.declared.address.Address.{Address}
 use Rattle.element.specs.declared.states.State.{State}
-use Rattle.leaves.specs.Leaves.{Leaf, addressed, leaf_at, each, in_part, in_segment, leaves_of, state_number, row, rows}
+use Rattle.leaves.specs.Leaves.{Leaf, addressed, leaf_at, in_part, in_segment, leaves_of, state_number, rows}
 use Rattle.leaves.specs.Walks.{ends_of, resume, rest_part, rest_segment, rest_from, passed, AtMost, Reached, Written, rest_rows}
-use Rattle.leaves.proofs.LevelLaws.{each_resume, level_alone, level_own, Apart}
+use Rattle.leaves.proofs.LevelLaws.{each_resume, level_alone, level_own}
 use Rattle.leaves.proofs.RowLaws.{written_more}
 use Rattle.leaves.proofs.RestLaws.{part_begins, segment_begins, message_own, message_past}
-use Rattle.leaves.proofs.TurnLaws.{apart, differ, no_end, more_to_come}
+use Rattle.leaves.proofs.TurnLaws.{differ, no_end, more_to_come}
 
 -- ---- where a walk ends
 

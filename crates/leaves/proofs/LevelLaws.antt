@@ -2,20 +2,16 @@
 use mathlib.Core.Path.{◌≡◌, refl, sym, ap, ap₂, ◌∙◌}
 use mathlib.Core.List.{List, [], ◌∷◌, ◌++◌, append_assoc, append-nil}
 use mathlib.Core.Bool.{Bool, true, false, cond}
-use Prim.Native.Nat.{ℕ, zero, suc, ◌+◌, ◌-◌, ◌*◌, ◌≤◌, ◌<◌}
+use Prim.Native.Nat.{ℕ, suc, ◌+◌, ◌≤◌}
 use native.Mathlib.Omega.{arith}
-use lib.Dec.{eqb, leb, ltb}
-use lib.ListN.{length, get_or, take, drop, length-append}
-use borrow.Author.Tests.{eq-eqb, ne_eqb, le-leb, lt-leb}
+use lib.Dec.{eqb}
+use lib.ListN.{length, get_or, length-append}
 use Rattle.alphabet.specs.Bytes.{carriage_return}
 use Rattle.alphabet.specs.Lists.{first, find}
 use Rattle.alphabet.specs.Parts.{grown, split}
-use Rattle.alphabet.proofs.PartLaws.{split_cons, split_last, split_some, more_parts}
-use Rattle.reading.specs.Segments.{all_but_last}
-use Rattle.reading.proofs.SegmentLaws.{but_last_cons}
-use Rattle.element.specs.declared.address.Address.{Address}
-use Rattle.leaves.specs.Leaves.{Leaf, addressed, leaf_at, each, subcomponent_leaf, in_component, in_repetition, in_field, header_part, in_part, in_segment}
-use Rattle.leaves.specs.Walks.{resume, rest_component, rest_repetition, rest_field, whole, rest_part, rest_segment, rest_from, here_of}
+use Rattle.alphabet.proofs.PartLaws.{split_cons, split_last, split_some}
+use Rattle.leaves.specs.Leaves.{Leaf, each, subcomponent_leaf, in_component, in_repetition, in_field}
+use Rattle.leaves.specs.Walks.{resume, rest_component, rest_repetition, rest_field}
 
 -- the parts with bytes more in front of the first
 abbrev pub onto : List ℕ → List (List ℕ) → List (List ℕ)

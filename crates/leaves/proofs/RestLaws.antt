@@ -1,13 +1,12 @@
 -- Laws of what is still to come of a message's leaves, from a byte that ends one to the next: `advance`. Assumes nothing.
 use mathlib.Core.Path.{◌≡◌, refl, sym, ap, ap₂, ◌∙◌, subst}
-use mathlib.Core.List.{List, [], ◌∷◌, ◌++◌, append_assoc, append-nil}
+use mathlib.Core.List.{List, [], ◌∷◌, ◌++◌, append_assoc}
 use mathlib.Core.Bool.{Bool, true, false, cond}
-use mathlib.Core.Logic.{◌⊎◌, inl, inr}
-use Prim.Native.Nat.{ℕ, zero, suc, ◌+◌, ◌-◌, ◌*◌, ◌≤◌, ◌<◌}
+use Prim.Native.Nat.{ℕ, zero, suc, ◌+◌, ◌*◌, ◌≤◌, ◌<◌}
 use native.Mathlib.Omega.{arith}
 use lib.Dec.{eqb, leb, ltb}
-use lib.ListN.{length, get_or, take, drop, length-append}
-use borrow.Author.Tests.{eq-eqb, ne_eqb, eqb-true, eqb-false, le-leb, lt-leb, leb-true, leb-false, ltb-true, lt-ltb}
+use lib.ListN.{length, get_or}
+use borrow.Author.Tests.{eq-eqb, ne_eqb, eqb-true, eqb-false, lt-leb, leb-false, ltb-true, lt-ltb}
 use Rattle.alphabet.specs.Bytes.{carriage_return}
 use Rattle.alphabet.specs.Lists.{first, find, among}
 use Rattle.alphabet.specs.Parts.{split}
@@ -16,7 +15,7 @@ use Rattle.alphabet.proofs.PartLaws.{split_cons, split_some, more_parts}
 use Rattle.reading.specs.Segments.{all_but_last}
 use Rattle.reading.proofs.SegmentLaws.{but_last_cons}
 use Rattle.element.specs.declared.address.Address.{Address}
-use Rattle.leaves.specs.Leaves.{Leaf, addressed, leaf_at, each, subcomponent_leaf, in_field, in_part, in_segment}
+use Rattle.leaves.specs.Leaves.{Leaf, addressed, subcomponent_leaf, in_field, in_part, in_segment}
 use Rattle.leaves.specs.Walks.{resume, rest_field, whole, rest_part, rest_segment, rest_from, here_of, passed}
 use Rattle.leaves.proofs.LevelLaws.{onto, split_onto, each_resume, find_behind, level_alone, level_own, level_past, resume_past, Apart, Clear, field_begins, field_alone, field_rep_on, field_comp_on, field_sub_on}
 

@@ -2,20 +2,20 @@
 -- tells a name. Assumes nothing.
 use mathlib.Core.Path.{◌≡◌, refl, sym, ap, ap₂, ◌∙◌}
 use mathlib.Core.List.{List, [], ◌∷◌, ◌++◌, append_assoc, append-nil}
-use mathlib.Core.Bool.{Bool, true, false, cond, not, ◌&&◌, ◌||◌}
-use Prim.Native.Nat.{ℕ, zero, suc, ◌+◌, ◌-◌, ◌*◌, ◌≤◌, ◌<◌}
+use mathlib.Core.Bool.{Bool, true, false, cond, ◌&&◌}
+use Prim.Native.Nat.{ℕ, suc, ◌+◌, ◌-◌, ◌*◌, ◌≤◌, ◌<◌}
 use native.Mathlib.Omega.{arith}
-use lib.Dec.{eqb, ltb}
+use lib.Dec.{eqb}
 use lib.ListN.{length, get_or, take, drop, set, length-append, length-set, length-drop, take-append-drop}
 use lib.Seq.{length-take-le, get_or-take, get_or-drop}
 use borrow.Author.Tests.{eq-eqb, ne_eqb, eqb-true, eqb-false, le-ltb, lt-ltb}
 use Rattle.alphabet.specs.Bytes.{is_null}
 use Rattle.alphabet.specs.Filling.{over, pasted}
-use Rattle.alphabet.specs.Lists.{first, find}
+use Rattle.alphabet.specs.Lists.{first}
 use Rattle.alphabet.proofs.FillingLaws.{Filling, fill_from, fill_more, fill_from_end, fill_end, fill_room, set_pasted}
 use Rattle.element.specs.Levels.{between}
 use Rattle.element.proofs.LevelLaws.{between_length}
-use Rattle.element.specs.States.{blank, is_empty, state_of}
+use Rattle.element.specs.States.{is_empty, state_of}
 use Rattle.element.specs.declared.address.Address.{Address}
 use Rattle.element.specs.declared.states.State.{State}
 use Rattle.leaves.specs.Leaves.{Leaf, leaf_at, state_number, row, rows}

@@ -1,33 +1,32 @@
 -- What one byte that ends a leaf does to a walk, from what reading says of the message: its delimiters are apart, and a CR is still to come. Assumes nothing.
-use mathlib.Core.Path.{◌≡◌, refl, sym, ap, ap₂, ◌∙◌, subst}
-use mathlib.Core.List.{List, [], ◌∷◌, ◌++◌}
-use mathlib.Core.Bool.{Bool, true, false, cond, ◌||◌}
-use Prim.Native.Nat.{ℕ, zero, suc, ◌+◌, ◌-◌, ◌*◌, ◌/◌, ◌^◌, ◌≤◌, ◌<◌}
+use mathlib.Core.Path.{◌≡◌, refl, sym, ap, ◌∙◌, subst}
+use mathlib.Core.List.{List, ◌∷◌, ◌++◌}
+use mathlib.Core.Bool.{Bool, true, false, cond}
+use Prim.Native.Nat.{ℕ, ◌+◌, ◌-◌, ◌*◌, ◌≤◌, ◌<◌}
 use native.Mathlib.Omega.{arith}
-use lib.Dec.{eqb, leb, ltb}
+use lib.Dec.{eqb}
 use lib.ListN.{length, get_or, take, drop, length-drop, take-append-drop}
 use lib.Seq.{length-take-le, get_or-drop, get_or-take, drop-drop}
 use lib.Bits.{bit_and}
 use lib.Count.{count_trailing_zeros}
-use borrow.Author.Tests.{eq-eqb, ne_eqb, eqb-true, eqb-false, lt-ltb, le-ltb, ltb-true}
+use borrow.Author.Tests.{ne_eqb, eqb-true, eqb-false, lt-ltb, ltb-true}
 use Rattle.alphabet.specs.Bytes.{carriage_return}
 use Rattle.alphabet.specs.Lists.{first, find, among}
 use Rattle.alphabet.specs.Limits.{message_limit}
-use Rattle.alphabet.specs.Delimiters.{first_wrong_delimiter, permitted}
+use Rattle.alphabet.specs.Delimiters.{permitted}
 use Rattle.alphabet.specs.declared.answers.Check.TheVariants.{Passes}
 use Rattle.alphabet.proofs.BoolLaws.{false_true}
 use Rattle.alphabet.proofs.DelimiterLaws.{delimiters_differ, delimiter_permitted}
 use Rattle.alphabet.proofs.ListLaws.{drop_next, first_before, first_none, first_block, first_passes, find_own}
 use Rattle.reading.specs.Segments.{delimiters_of}
 use Rattle.reading.specs.Reading.{reading}
-use Rattle.reading.specs.Message.{Message}
 use Rattle.reading.proofs.Accepted.{accepted, message_last}
 use Rattle.reading.proofs.SegmentLaws.{ended_last}
 use Rattle.element.specs.Levels.{between}
 use Rattle.element.specs.declared.address.Address.{Address}
 use Rattle.element.proofs.LevelLaws.{between_length}
 use Rattle.leaves.specs.Leaves.{addressed, rows}
-use Rattle.leaves.specs.Walks.{ends_of, here_in, Plain, passed, AtMost, Reached, Marks, Ends, marked, marked_from, rest_from, rest_rows}
+use Rattle.leaves.specs.Walks.{ends_of, here_in, Plain, passed, AtMost, Reached, Marks, Ends, marked_from, rest_from, rest_rows}
 use Rattle.leaves.proofs.LevelLaws.{Apart, Clear}
 use Rattle.leaves.proofs.RestLaws.{advance}
 use Rattle.leaves.proofs.RowLaws.{rows_append}

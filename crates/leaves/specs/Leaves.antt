@@ -1,14 +1,13 @@
 -- Every leaf of a message: each subcomponent of each component of each repetition of each field of each segment, with
 -- its address, its state and where it stands; and these as rows of numbers. "Each level splits the part above it at its
 -- own separator", here all of them.
-use Rattle.std.specs.Prelude.{ℕ, ◌+◌, ◌/◌, List, [], ◌∷◌, ◌++◌, Bool, cond, length, get_or, eqb, leb, ltb}
+use Rattle.std.specs.Prelude.{ℕ, ◌+◌, ◌/◌, List, [], ◌∷◌, ◌++◌, cond, length, get_or, eqb, ltb}
 use Rattle.alphabet.specs.Answers.{fails_if, in_order}
 use Rattle.alphabet.specs.Filling.{over}
 use Rattle.alphabet.specs.Parts.{split}
 use Rattle.alphabet.specs.declared.answers.Answer.{Answer}
 use Rattle.alphabet.specs.declared.answers.Check.{Check}
 use Rattle.alphabet.specs.declared.answers.Check.TheVariants.{Passes, Fails}
-use Rattle.alphabet.specs.declared.answers.Refusal.{Refusal}
 use Rattle.alphabet.specs.declared.answers.Refusal.TheVariants.{None, NoRoom}
 use Rattle.reading.specs.Segments.{segments, delimiters_of}
 use Rattle.reading.specs.Reading.{reading}

@@ -1,6 +1,6 @@
 -- For private functions alone: what is still to come of a message's leaves, from inside a leaf on, and the marks of the
 -- bytes that end leaves.
-use Rattle.std.specs.Prelude.{ℕ, zero, suc, ◌+◌, ◌-◌, ◌*◌, ◌%◌, ◌^◌, ◌≤◌, ◌<◌, ◌≡◌, List, [], ◌∷◌, ◌++◌, Bool, true, cond, length, get_or, take, drop, eqb, leb, ltb}
+use Rattle.std.specs.Prelude.{ℕ, zero, suc, ◌+◌, ◌-◌, ◌*◌, ◌%◌, ◌^◌, ◌≤◌, ◌<◌, ◌≡◌, List, [], ◌∷◌, ◌++◌, Bool, true, cond, length, get_or, drop, eqb, leb, ltb}
 use Rattle.alphabet.specs.Bytes.{carriage_return, is_null}
 use Rattle.alphabet.specs.Lists.{first, among}
 use Rattle.alphabet.specs.Parts.{split}

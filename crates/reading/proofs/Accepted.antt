@@ -16,7 +16,7 @@ use Rattle.alphabet.specs.Delimiters.{first_wrong_delimiter}
 use Rattle.alphabet.specs.Limits.{message_limit, segment_limit}
 use Rattle.alphabet.specs.Lists.{first}
 use Rattle.alphabet.specs.Parts.{grown, split}
-use Rattle.alphabet.specs.declared.answers.Check.TheVariants.{Passes, Fails}
+use Rattle.alphabet.specs.declared.answers.Check.TheVariants.{Passes}
 use Rattle.alphabet.specs.declared.answers.Refusal.TheVariants.{Length, Header, Delimiter, NotAllowed, NotEnded, SegmentName, SecondHeader, TooManySegments}
 use Rattle.alphabet.proofs.BoolLaws.{and_both, both_and, or_neither, neither_or}
 use Rattle.alphabet.proofs.CheckLaws.{both_pass, passes_if, passes_not, passes_or}

@@ -1,7 +1,7 @@
 -- Rests on the weights so far: each turn sets one more.
 use Prim.Native.Nat.{ℕ, ◌<◌, ◌*◌, ◌%◌, ◌^◌}
 use mathlib.Core.Path.{◌≡◌, refl, sym, ap, ◌∙◌}
-use mathlib.Core.Bool.{Bool, true, false, cond}
+use mathlib.Core.Bool.{Bool, cond}
 use lib.ListN.{get_or, length-set}
 use lib.Pow.{shl_exact}
 use native.Mathlib.Nat.{one-mul}

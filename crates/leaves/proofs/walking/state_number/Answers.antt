@@ -1,6 +1,6 @@
 -- Rests on what the branches say of the bytes: a name, none, no quote in front, two quotes, or others.
 use mathlib.Core.Path.{◌≡◌, sym, ap, ◌∙◌}
-use mathlib.Core.Bool.{true, false, ◌&&◌}
+use mathlib.Core.Bool.{◌&&◌}
 use Prim.Native.Nat.{ℕ, ◌<◌, ◌+◌}
 use lib.Dec.{eqb}
 use lib.ListN.{get_or}

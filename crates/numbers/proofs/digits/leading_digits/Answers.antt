@@ -1,6 +1,5 @@
 -- Rests on the loop: each byte that it has passed is a digit.
 use mathlib.Core.Path.{sym, ◌∙◌}
-use mathlib.Core.Bool.{true}
 use native.Mathlib.Omega.{arith}
 use Rattle.numbers.proofs.NumberLaws.{leads_next}
 use Rattle.numbers.proofs.digits.leading_digits.Goals as goal
