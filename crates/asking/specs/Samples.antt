@@ -1,5 +1,5 @@
 -- The definitions at samples, each computed: what is a word, and what a word says. Assumes nothing.
-use Rattle.std.specs.Prelude.{ℕ, ◌≡◌, refl, List, [], ◌∷◌}
+use Rattle.std.specs.Prelude.{◌≡◌, refl, [], ◌∷◌}
 use Rattle.alphabet.specs.Bytes.{ascii}
 use Rattle.alphabet.specs.Parts.{split}
 use Rattle.alphabet.specs.Hex.{all_hex, pairs_of}

@@ -1,7 +1,7 @@
 -- Laws of the order of judging, by any rows: one row on, one segment on; and what a fault that is found makes of the whole. Assumes nothing.
 use mathlib.Core.Path.{◌≡◌, refl, sym, ap, ap₂, ◌∙◌}
 use mathlib.Core.List.{List, [], ◌∷◌, map}
-use mathlib.Core.Bool.{Bool, false, cond}
+use mathlib.Core.Bool.{Bool, cond}
 use Prim.Native.Nat.{ℕ, zero, suc, ◌+◌, ◌-◌, ◌≤◌, ◌<◌}
 use native.Mathlib.Numerals.{add-one}
 use native.Mathlib.Decide.{dec_lt}
@@ -10,8 +10,7 @@ use lib.Dec.{eqb}
 use lib.ListN.{length, get_or, take, drop, length-drop, drop_of_length-le}
 use lib.Seq.{drop-cons, length-take-le}
 use borrow.Author.Tests.{eq-eqb, ne_eqb}
-use Rattle.alphabet.specs.Answers.{or_else}
-use Rattle.alphabet.specs.Bytes.{carriage_return, ascii}
+use Rattle.alphabet.specs.Bytes.{carriage_return}
 use Rattle.alphabet.specs.Lists.{find}
 use Rattle.alphabet.specs.Parts.{split}
 use Rattle.alphabet.specs.declared.answers.Check.{Check}
@@ -22,7 +21,7 @@ use Rattle.reading.specs.Segments.{all_but_last, segments, delimiters_of}
 use Rattle.reading.proofs.SegmentLaws.{segments_walk, segments_over}
 use Rattle.field_table.specs.Table.{no_row}
 use Rattle.rules.specs.Rules.{row_check}
-use Rattle.fields.specs.Judging.{Fault, Sound, Faulty, name_at, said_in, repetitions_of, located, or_fault, first_fault, row_fault, segment_fault, segment_faults, judging}
+use Rattle.fields.specs.Judging.{Fault, Sound, name_at, said_in, repetitions_of, located, or_fault, first_fault, row_fault, segment_fault, segment_faults, judging}
 use Rattle.fields.specs.Walk.{row_in, row_fault_in, judged_in, NoneBefore, NoneFrom}
 use Rattle.field_table.specs.declared.Row.{Row}
 use Rattle.fields.proofs.FieldLaws.{row_agrees}

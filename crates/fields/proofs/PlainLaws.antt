@@ -8,7 +8,6 @@ use lib.Dec.{eqb}
 use lib.ListN.{get_or}
 use borrow.Author.Tests.{eq-eqb, ne_eqb, eqb-true, eqb-false}
 use Rattle.alphabet.specs.Parts.{split}
-use Rattle.alphabet.specs.declared.answers.Check.{Check}
 use Rattle.alphabet.specs.declared.answers.Check.TheVariants.{Passes}
 use Rattle.rules.specs.Rules.{is_said, said_field, row_check}
 use Rattle.field_table.specs.declared.Kind.{Kind}

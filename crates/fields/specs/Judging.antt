@@ -2,7 +2,6 @@
 -- found in this order ends the judging." Any bytes are judged, and no fault of reading is looked for: whoever asks has
 -- read the message.
 use Rattle.std.specs.Prelude.{ℕ, ◌+◌, List, [], ◌∷◌, map, cond, length, get_or, eqb}
-use Rattle.alphabet.specs.Bytes.{ascii}
 use Rattle.alphabet.specs.Parts.{split}
 use Rattle.alphabet.specs.declared.answers.Check.{Check}
 use Rattle.alphabet.specs.declared.answers.Check.TheVariants.{Passes, Fails}

@@ -2,7 +2,7 @@
 use mathlib.Core.Path.{◌≡◌, refl, sym, ap, subst, ◌∙◌}
 use mathlib.Core.List.{List, [], ◌∷◌, ◌++◌, map, append_assoc}
 use mathlib.Core.Bool.{Bool, true, false, not, ◌||◌}
-use Prim.Native.Nat.{ℕ, suc, ◌+◌, ◌-◌, ◌≤◌, ◌<◌}
+use Prim.Native.Nat.{ℕ, suc, ◌+◌, ◌≤◌, ◌<◌}
 use native.Mathlib.Omega.{arith}
 use lib.Dec.{eqb}
 use lib.ListN.{length, take, length-append, length-replicate}
@@ -11,7 +11,7 @@ use Rattle.alphabet.proofs.BoolLaws.{and_both}
 use Rattle.format_commands.specs.Commands.{held_size}
 use Rattle.format_commands.specs.Items.{Item, byte}
 use Rattle.formatting.specs.declared.page.Page.{Page}
-use Rattle.formatting.specs.Sheet.{Sheet, Laid, laid, unfit, then_laid, blanks, is_empty, lead, end_word, note_cr, of_word, space, move, moves, written, lines_from}
+use Rattle.formatting.specs.Sheet.{Sheet, Laid, laid, then_laid, blanks, is_empty, lead, end_word, note_cr, of_word, space, move, moves, written, lines_from}
 use Rattle.formatting.specs.Going.{Goes}
 use Rattle.formatting.specs.Runs.{clear}
 use Rattle.formatting.specs.Pages.{lead_of, reach_of, Slight, line_with, noted, Settled, word, blank, words, ahead, Matches, Sound, Reaches, at, Follows}

@@ -10,7 +10,7 @@ use borrow.Author.Tests.{ltb-false, lt-leb}
 use Rattle.alphabet.proofs.BoolLaws.{false_true}
 use Rattle.format_commands.specs.Items.{Item, byte}
 use Rattle.formatting.specs.declared.page.Page.{Page}
-use Rattle.formatting.specs.Sheet.{Sheet, unfit, lead, end_line, add_byte, of_word}
+use Rattle.formatting.specs.Sheet.{Sheet, lead, end_line, add_byte, of_word}
 use Rattle.formatting.specs.Runs.{clear}
 use Rattle.formatting.specs.Pages.{lead_of, reach_of, Slight, Matches, Sound, Reaches, at, nowhere, Follows, Wraps}
 use Rattle.formatting.proofs.SheetLaws.{ahead_length, Passes, Stuck, goes_early, goes_stuck, snoc_some}

@@ -15,7 +15,7 @@ use Rattle.alphabet.specs.declared.answers.Check.{Check}
 use Rattle.alphabet.proofs.BoolLaws.{from_to_lem}
 use Rattle.alphabet.proofs.ListLaws.{rest_of, first_past}
 use Rattle.escaping.specs.Escape.{escape_of}
-use Rattle.escaping.specs.Outcomes.{text, fault}
+use Rattle.escaping.specs.Outcomes.{fault}
 use Rattle.plain.specs.Plain.{special}
 use Rattle.plain.proofs.PlainLaws.{plain_is, run_from}
 use Rattle.text.specs.Unescape.{known, meaning, before, stop, scan}

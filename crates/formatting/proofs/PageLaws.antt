@@ -1,6 +1,6 @@
 -- The page in numbers beside the sheet in lists: what each function does to the one is what an item does to the
 -- other. Assumes nothing.
-use mathlib.Core.Logic.{◌⊎◌, ⊎_elim}
+use mathlib.Core.Logic.{⊎_elim}
 use mathlib.Core.Path.{◌≡◌, refl, sym, ap, subst, ◌∙◌}
 use mathlib.Core.List.{List, [], ◌∷◌, ◌++◌, map, map-append}
 use mathlib.Core.Bool.{Bool, true, false, cond, not, ◌&&◌}
@@ -14,7 +14,7 @@ use Rattle.format_commands.specs.Commands.{held_size}
 use Rattle.format_commands.specs.Items.{Item, byte}
 use Rattle.format_commands.proofs.CommandLaws.{held_cases}
 use Rattle.formatting.specs.declared.page.Page.{Page}
-use Rattle.formatting.specs.Sheet.{Sheet, laid, unfit, blanks, is_empty, lead}
+use Rattle.formatting.specs.Sheet.{Sheet, laid, unfit, is_empty, lead}
 use Rattle.formatting.specs.Going.{Goes}
 use Rattle.formatting.specs.Pages.{lead_of, reach_of, Slight, line_with, word_ended, indent_of, ahead, Matches, Sound, Reaches, at, nowhere, Follows}
 use Rattle.formatting.proofs.SheetLaws.{goes_then, goes_none, goes_unfit, ahead_length}

@@ -3,7 +3,7 @@
 use mathlib.Core.Path.{◌≡◌, refl, sym, ap, ap₂, subst, ◌∙◌}
 use mathlib.Core.List.{List, [], ◌∷◌, ◌++◌, map, append_assoc, append-nil, map-append}
 use mathlib.Core.Bool.{Bool, true, false, cond, not, ◌&&◌, ◌||◌}
-use Prim.Native.Nat.{ℕ, zero, suc, ◌+◌, ◌-◌, ◌≤◌, ◌<◌}
+use Prim.Native.Nat.{ℕ, zero, suc, ◌+◌, ◌≤◌, ◌<◌}
 use native.Mathlib.Omega.{arith}
 use lib.Dec.{leb, eqb}
 use lib.ListN.{length, length-append, length-replicate, replicate-append-replicate}
@@ -12,7 +12,7 @@ use native.Mathlib.Nat.{add-zero}
 use Rattle.alphabet.proofs.BoolLaws.{false_true, and_both}
 use Rattle.format_commands.specs.Commands.{order_of}
 use Rattle.format_commands.specs.Items.{Item, byte, order}
-use Rattle.formatting.specs.Sheet.{Sheet, Laid, laid, unfit, then_laid, blanks, is_empty, shown, end_line, lead, put, end_word, note_cr, add_byte, obey, quiet, obeyed, of_word, space, move, moves, Lines, lines, none, written, lines_from}
+use Rattle.formatting.specs.Sheet.{Sheet, Laid, laid, unfit, then_laid, blanks, is_empty, shown, end_line, lead, put, end_word, note_cr, add_byte, obey, quiet, obeyed, of_word, space, move, moves, Lines, none, written, lines_from}
 use Rattle.formatting.specs.Runs.{clear, firm, inked}
 use Rattle.formatting.specs.Going.{lines_after, Goes}
 use Rattle.formatting.specs.Pages.{ahead}

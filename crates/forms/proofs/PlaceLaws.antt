@@ -4,7 +4,7 @@ use mathlib.Core.Path.{◌≡◌, refl, sym, ap, ap₂, subst, ◌∙◌}
 use mathlib.Core.List.{List}
 use mathlib.Core.Bool.{Bool, true, false, cond, ◌&&◌, ◌||◌}
 use mathlib.Core.Logic.{◌⊎◌, inl, inr}
-use Prim.Native.Nat.{ℕ, ◌+◌, ◌-◌, ◌≤◌, ◌<◌, min}
+use Prim.Native.Nat.{ℕ, ◌+◌, ◌-◌, ◌≤◌, ◌<◌}
 use native.Mathlib.Decide.{dec_lt}
 use native.Mathlib.Omega.{arith}
 use lib.Dec.{leb, ltb, eqb}
@@ -18,7 +18,7 @@ use Rattle.alphabet.proofs.DigitLaws.{digits_drop, digits_here}
 use Rattle.alphabet.proofs.ListLaws.{first_le, first_passes, first_before, first_least, find_is}
 use Rattle.numbers.specs.Numbers.{is_sign}
 use Rattle.forms.specs.declared.layouts.Form.{Form}
-use Rattle.forms.specs.Forms.{layout_of, first_sign, body_of, front_of, tail_of, zone_of, fraction_form, zone_form, parts_form, time_form}
+use Rattle.forms.specs.Forms.{layout_of, first_sign, body_of, front_of, tail_of, zone_of, parts_form, time_form}
 use Rattle.forms.specs.Places.{sign_place, point_place, body_at, zone_at, front_at, tail_at}
 use Rattle.forms.proofs.FormLaws.{Formed, formed, fraction_some, fraction_holds, zone_holds}
 

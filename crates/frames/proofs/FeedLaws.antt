@@ -1,21 +1,21 @@
 -- Laws of feeding, for the loop that feeds: what one byte more does, and the end. Assumes nothing.
-use mathlib.Core.Path.{◌≡◌, refl, sym, ap, ◌∙◌}
+use mathlib.Core.Path.{◌≡◌, refl, sym, ◌∙◌}
 use mathlib.Core.Bool.{Bool, true, false, cond}
-use mathlib.Core.List.{List, [], ◌∷◌}
-use Prim.Native.Nat.{ℕ, suc, ◌+◌, ◌≤◌, ◌<◌}
+use mathlib.Core.List.{List}
+use Prim.Native.Nat.{ℕ, ◌+◌, ◌≤◌, ◌<◌}
 use native.Mathlib.Omega.{arith}
-use lib.Dec.{eqb, leb, ltb}
+use lib.Dec.{eqb, leb}
 use lib.ListN.{length, get_or, drop, set, drop_of_length-le, length-set}
 use borrow.Author.Tests.{leb-true, leb-false}
 use Rattle.alphabet.proofs.BoolLaws.{false_true}
 use Rattle.alphabet.proofs.ListLaws.{drop_next}
 use Rattle.alphabet.specs.Limits.{message_limit}
 use Rattle.frames.specs.declared.state.FrameState.{FrameState}
-use Rattle.frames.specs.declared.steps.Event.TheVariants.{Quiet, Frame, Broken, Long}
+use Rattle.frames.specs.declared.steps.Event.TheVariants.{Quiet, Broken, Long}
 use Rattle.frames.specs.declared.steps.Step.{Step}
 use Rattle.frames.specs.Wire.{frame_limit}
-use Rattle.frames.specs.Steps.{stop, quiet, gather, frame_state, inside, outside, ending, skipping, skipping_end, step_outside, step_inside, step_ending, step_skipping, step_skipping_end, stepped, counted}
-use Rattle.frames.specs.Feeding.{Feeding, feeding, told, known, foreign, fed, stored, stopping}
+use Rattle.frames.specs.Steps.{stop, quiet, gather, inside, ending, skipping, step_outside, step_inside, step_ending, step_skipping, step_skipping_end, stepped}
+use Rattle.frames.specs.Feeding.{feeding, told, known, foreign, fed, stored, stopping}
 
 -- the limit is at most the room
 pub frame_limit_le : (room : ℕ) → frame_limit room ≤ room

@@ -1,20 +1,20 @@
 -- The states that are known, as cases, and that a run stays among them. Assumes nothing.
-use mathlib.Core.Path.{◌≡◌, refl, sym, ap, subst, ◌∙◌}
+use mathlib.Core.Path.{◌≡◌, refl, sym, subst, ◌∙◌}
 use mathlib.Core.Bool.{Bool, true, false, cond, ◌&&◌, ◌||◌}
 use mathlib.Core.List.{List, [], ◌∷◌}
-use Prim.Native.Nat.{ℕ, zero, suc, ◌+◌, ◌≤◌, ◌<◌}
+use Prim.Native.Nat.{ℕ, ◌+◌, ◌≤◌}
 use native.Mathlib.Omega.{arith}
-use lib.Dec.{eqb, leb, ltb, lit<}
+use lib.Dec.{eqb, leb, ltb}
 use lib.ListN.{length}
-use borrow.Author.Tests.{eqb-true, leb-true, leb-false, le-leb, ltb-true, ltb-false}
+use borrow.Author.Tests.{eqb-true, leb-true, leb-false, le-leb, ltb-true}
 use Rattle.alphabet.proofs.BoolLaws.{false_true, and_both, both_and}
 use Rattle.frames.specs.declared.state.FrameState.{FrameState}
 use Rattle.frames.specs.declared.steps.Event.{Event}
 use Rattle.frames.specs.declared.steps.Event.TheVariants.{Quiet, Frame, Broken, Long}
 use Rattle.frames.specs.declared.steps.Step.{Step}
 use Rattle.frames.specs.Wire.{most_dropped, frame_limit}
-use Rattle.frames.specs.Steps.{frame_state, outside, inside, ending, skipping, skipping_end, quiet, gather, stop, counted, step_outside, step_inside, step_ending, step_skipping, step_skipping_end, stepped}
-use Rattle.frames.specs.Feeding.{Feeding, feeding, told, stored, stopping, gathering, waiting, known}
+use Rattle.frames.specs.Steps.{frame_state, outside, inside, ending, skipping, skipping_end, gather, stop, counted, step_outside, step_inside, step_ending, step_skipping, step_skipping_end, stepped}
+use Rattle.frames.specs.Feeding.{feeding, told, stored, stopping, gathering, waiting, known}
 use Rattle.frames.proofs.FeedLaws.{length_stored}
 
 pub data Known (limit : ℕ) : FrameState → Type 0 where

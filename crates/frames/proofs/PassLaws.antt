@@ -1,20 +1,19 @@
 -- Each way through `pass`: what a run passes over, for a state that is known. Assumes nothing.
 use mathlib.Core.Path.{◌≡◌, refl, sym, ap, subst, ◌∙◌}
-use mathlib.Core.Bool.{Bool, true, false}
-use mathlib.Core.List.{List, [], ◌∷◌}
-use Prim.Native.Nat.{ℕ, ◌+◌, ◌-◌, ◌≤◌, ◌<◌}
+use mathlib.Core.Bool.{true}
+use mathlib.Core.List.{List}
+use Prim.Native.Nat.{ℕ, ◌+◌, ◌≤◌}
 use native.Mathlib.Omega.{arith}
 use lib.ListN.{length, take, drop}
 use lib.Seq.{sets, sets-eq, length-sets, length-take-le}
 use Rattle.alphabet.specs.Lists.{first, find}
-use Rattle.alphabet.specs.Filling.{pasted, put_at}
+use Rattle.alphabet.specs.Filling.{put_at}
 use Rattle.alphabet.proofs.ListLaws.{first_le}
 use Rattle.alphabet.proofs.FillingLaws.{put_fits}
 use lib.Dec.{eqb}
 use Rattle.frames.specs.declared.state.FrameState.{FrameState}
-use Rattle.frames.specs.declared.runs.Passed.{Passed}
 use Rattle.frames.specs.Wire.{most_dropped, frame_limit}
-use Rattle.frames.specs.Steps.{frame_state, inside, outside, skipping}
+use Rattle.frames.specs.Steps.{frame_state, inside, outside}
 use Rattle.frames.specs.Feeding.{feeding, known}
 use Rattle.frames.specs.Passing.{framing, counted_on, PassesOver}
 use Rattle.frames.proofs.FeedLaws.{frame_limit_le}

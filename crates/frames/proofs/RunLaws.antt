@@ -1,24 +1,21 @@
 -- Bytes that do the same, one behind another: a run of them is fed as single bytes are. Assumes nothing.
-use mathlib.Core.Path.{◌≡◌, refl, sym, ap, subst, ◌∙◌}
-use mathlib.Core.Bool.{Bool, true, false, cond, ◌||◌}
-use mathlib.Core.List.{List, [], ◌∷◌, ◌++◌}
+use mathlib.Core.Path.{◌≡◌, refl, sym, ap, ◌∙◌}
+use mathlib.Core.Bool.{Bool, true, false, cond}
+use mathlib.Core.List.{List, [], ◌∷◌}
 use Prim.Native.Nat.{ℕ, zero, suc, ◌+◌, ◌-◌, ◌≤◌, ◌<◌}
 use native.Mathlib.Omega.{arith}
 use native.Mathlib.Decide.{dec_lt}
 use native.Mathlib.Numerals.{add-one}
-use lib.Dec.{eqb, leb, ltb}
-use lib.ListN.{length, get_or, take, drop, set}
-use lib.Seq.{sets, sets-eq, length-sets}
-use borrow.Author.Tests.{le-leb, lt-leb, eqb-false, eq-eqb}
+use lib.Dec.{eqb}
+use lib.ListN.{take, drop, set}
+use lib.Seq.{sets}
+use borrow.Author.Tests.{le-leb, lt-leb, eqb-false}
 use Rattle.alphabet.specs.Lists.{first, find}
-use Rattle.alphabet.specs.Filling.{pasted, put_at}
-use Rattle.alphabet.proofs.BoolLaws.{false_true, or_neither}
+use Rattle.alphabet.proofs.BoolLaws.{or_neither}
 use Rattle.frames.specs.declared.state.FrameState.{FrameState}
-use Rattle.frames.specs.declared.steps.Event.TheVariants.{Quiet, Frame, Broken, Long}
-use Rattle.frames.specs.declared.steps.Step.{Step}
-use Rattle.frames.specs.Wire.{most_dropped, frame_limit}
-use Rattle.frames.specs.Steps.{stop, quiet, gather, inside, outside, skipping, stepped, counted}
-use Rattle.frames.specs.Feeding.{Feeding, feeding, told, stored, stopping}
+use Rattle.frames.specs.Wire.{most_dropped}
+use Rattle.frames.specs.Steps.{quiet, gather, inside, outside, skipping, stepped, counted}
+use Rattle.frames.specs.Feeding.{feeding, stored, stopping}
 use Rattle.frames.specs.Passing.{framing, counted_on}
 use Rattle.frames.proofs.StepLaws.{counted_more, counted_most, outside_drops, inside_gathers, skipping_on, step_outside_lem, step_inside_lem, step_skipping_lem}
 use Rattle.frames.proofs.KnownLaws.{counted_within}

@@ -1,13 +1,11 @@
 -- The arms of one step, each from what was tested on the way to it. Assumes nothing.
-use mathlib.Core.Path.{◌≡◌, refl, sym, ap, ◌∙◌}
-use mathlib.Core.Bool.{Bool, true, false, cond}
-use Prim.Native.Nat.{ℕ, suc, ◌+◌, ◌≤◌, ◌<◌}
-use lib.Dec.{eqb, leb, ltb}
+use mathlib.Core.Path.{◌≡◌}
+use Prim.Native.Nat.{ℕ, ◌+◌, ◌≤◌, ◌<◌}
 use borrow.Author.Tests.{eq-eqb, ne_eqb, le-leb, lt-leb, lt-ltb, le-ltb}
 use Rattle.frames.specs.declared.state.FrameState.{FrameState}
-use Rattle.frames.specs.declared.steps.Event.TheVariants.{Quiet, Frame, Broken, Long}
-use Rattle.frames.specs.Wire.{opens, closes, most_dropped, frame_limit}
-use Rattle.frames.specs.Steps.{frame_state, outside, inside, ending, skipping, skipping_end, quiet, gather, stop, counted, step_outside, step_inside, step_ending, step_skipping, step_skipping_end, stepped}
+use Rattle.frames.specs.declared.steps.Event.TheVariants.{Frame, Broken, Long}
+use Rattle.frames.specs.Wire.{most_dropped}
+use Rattle.frames.specs.Steps.{outside, inside, ending, skipping, skipping_end, quiet, gather, stop, counted, step_outside, step_inside, step_ending, step_skipping, step_skipping_end, stepped}
 
 pub counted_more : {n : ℕ} → n < most_dropped → counted n ≡ n + 1
 unfolding counted

@@ -4,7 +4,6 @@ use Rattle.std.specs.Prelude.{ℕ, ◌+◌, List, [], ◌∷◌, Bool, true, fal
 use Rattle.frames.specs.declared.state.FrameState.{FrameState}
 use Rattle.frames.specs.declared.steps.Event.{Event}
 use Rattle.frames.specs.declared.steps.Event.TheVariants.{Quiet, Frame, Broken, Long}
-use Rattle.frames.specs.declared.steps.Step.{Step}
 use Rattle.frames.specs.declared.feeding.Fed.{Fed}
 use Rattle.alphabet.specs.declared.answers.Refusal.{Refusal}
 use Rattle.alphabet.specs.declared.answers.Refusal.TheVariants.{None, NoRoom, BrokenFrame, FrameTooLong}

@@ -2,11 +2,11 @@
 use mathlib.Core.Path.{◌≡◌, refl, sym, ap, ◌∙◌}
 use mathlib.Core.List.{List, [], ◌∷◌}
 use mathlib.Core.Bool.{Bool, true, false, not, ◌&&◌}
-use Prim.Native.Nat.{ℕ, zero, suc, ◌-◌, ◌≤◌}
+use Prim.Native.Nat.{ℕ, zero, suc, ◌-◌}
 use native.Mathlib.Omega.{arith}
 use borrow.Author.Tests.{not-true, not-false, ltb-true, ltb-false, le-leb, lt-leb}
 use lib.Dec.{leb, ltb}
-use lib.ListN.{length, get_or, take}
+use lib.ListN.{get_or, take}
 use Rattle.alphabet.specs.Bytes.{ascii}
 use Rattle.alphabet.specs.Lists.{find, same}
 use Rattle.alphabet.specs.Answers.{fails_if}
@@ -16,8 +16,6 @@ use Rattle.alphabet.specs.declared.answers.Check.TheVariants.{Passes, Fails}
 use Rattle.alphabet.specs.declared.answers.Refusal.{Refusal}
 use Rattle.alphabet.specs.declared.answers.Refusal.TheVariants.{ValueWithoutType}
 use Rattle.element.specs.States.{state_of, is_present}
-use Rattle.element.specs.declared.states.State.{State}
-use Rattle.element.specs.declared.states.State.TheVariants.{Absent, Empty, Null, Present}
 use Rattle.rules.specs.Rules.{form_check, passing, judged_part, placed, repetition_check, some_present, is_said, said_check, kind_said, kind_of, component_of, is_any}
 use Rattle.field_table.specs.declared.Kind.{Kind}
 use Rattle.field_table.specs.declared.Kind.TheVariants.{Any, Identifier, Ts, Si, Nm, Dt, Tm, OneOf, AsField}

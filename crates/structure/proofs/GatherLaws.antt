@@ -1,15 +1,17 @@
 -- What a step gathers: what comes next behind one or another of the places that are in a set and have a name, counted place by place. Assumes nothing.
-use mathlib.Core.Path.{◌≡◌, refl, sym, subst}
+use mathlib.Core.Path.{◌≡◌, refl, sym, ap, ◌∙◌, subst}
 use mathlib.Core.Logic.{◌⊎◌, inl, inr, ⊎_elim}
-use mathlib.Core.Bool.{Bool, true, false, cond, ◌&&◌}
+use mathlib.Core.Bool.{Bool, true, false, cond, ◌&&◌, ◌||◌}
 use mathlib.Core.List.{List}
-use Prim.Native.Nat.{ℕ, zero, suc, ◌%◌, ◌<◌}
-use lib.Bits.{bit_and, and_mask}
+use Prim.Native.Nat.{ℕ, zero, suc, ◌+◌, ◌/◌, ◌%◌, ◌^◌, ◌<◌}
+use native.Mathlib.Numerals.{add-one}
+use lib.Bits.{bit_and, bit_or, and_mask}
+use lib.ListN.{get_or}
 use native.Mathlib.Decide.{dec_lt}
 use native.Mathlib.Omega.{arith}
 use lib.Dec.{T, eqb}
-use borrow.Author.Tests.{eqb-true, eqb-false}
-use Rattle.structure.specs.Engine.{bit, has, hasb, Entry, into, join, entry_at, name_in, gathered}
+use borrow.Author.Tests.{eqb-true, eqb-false, eq-eqb, ne_eqb}
+use Rattle.structure.specs.Engine.{bit, has, hasb, Entry, entry, into, join, entry_at, name_in, gathered}
 use Rattle.structure.proofs.SetLaws.{has_zero, or_left, or_right, or_cases}
 use Rattle.structure.proofs.FollowLaws.{T_left, T_right, T_cases}
 use Rattle.structure.proofs.RunLaws.{Gathered}
@@ -95,3 +97,35 @@ module _ (ns follow : List ℕ) (last set n : ℕ) where
       at true e true f r = hit (entry_at follow last) Hit k now_at (eqb-true (bit set k) 1 e, eqb-true (name_in ns k) n f) r
       at true e false f r = miss (entry_at follow last) Hit k now_at (λ h. eqb-false (name_in ns k) n f h.1) r
       at false e u f r = miss (entry_at follow last) Hit k now_at (λ h. eqb-false (bit set k) 1 e h.0) r
+
+  -- ---- one turn of a step: `test` and `ends` as the code has them
+
+  pub gathered_hit : (k next : ℕ) (ends : Bool) → entry next ends ≡ gathered ns follow last set n k → bit_and (set / 2 ^ k) 1 ≡ 1 → get_or ns k 0 ≡ n
+      → entry (bit_or next (get_or follow k 0)) (ends || eqb (bit_and (last / 2 ^ k) 1) 1) ≡ gathered ns follow last set n (k + 1)
+  unfolding gathered
+  gathered_hit k next ends e i f =
+      let t : hasb set k ≡ true = eq-eqb (bit set k) 1 (sym (low_bit (set / 2 ^ k)) ∙ i) in
+      rw add-one (rw (low_bit (last / 2 ^ k), ← e) (rw (t, eq-eqb (get_or ns k 0) n f)))
+
+  missed : (k next : ℕ) (ends : Bool) → entry next ends ≡ gathered ns follow last set n k → (eqb (bit_and (set / 2 ^ k) 1) 1 && eqb (get_or ns k 0) n) ≡ false
+      → entry next ends ≡ gathered ns follow last set n (k + 1)
+  unfolding gathered
+  missed k next ends e t = rw add-one (rw (rw (low_bit (set / 2 ^ k)) at t) e)
+
+  -- a place that is not in the set
+  pub gathered_out : (k next : ℕ) (ends : Bool) → entry next ends ≡ gathered ns follow last set n k → (bit_and (set / 2 ^ k) 1 ≡ 1 → ⊥)
+      → entry next ends ≡ gathered ns follow last set n (k + 1)
+  gathered_out k next ends e t = missed k next ends e (ap (λ (x : Bool). x && eqb (get_or ns k 0) n) (ne_eqb (bit_and (set / 2 ^ k) 1) 1 t))
+
+  -- a place of another name
+  pub gathered_other : (k next : ℕ) (ends : Bool) → entry next ends ≡ gathered ns follow last set n k → (get_or ns k 0 ≡ n → ⊥)
+      → entry next ends ≡ gathered ns follow last set n (k + 1)
+  gathered_other k next ends e t = missed k next ends e (at (eqb (bit_and (set / 2 ^ k) 1) 1))
+    where
+      at : (x : Bool) → (x && eqb (get_or ns k 0) n) ≡ false
+      at true = ne_eqb (get_or ns k 0) n t
+      at false = refl
+
+  pub gathered_none : gathered ns follow last set n 0 ≡ into 0
+  unfolding gathered
+  gathered_none = refl

@@ -1,9 +1,9 @@
 -- What is known after some names, for every structure that the tables fit: what can come next is exactly what the grammar says. Assumes nothing.
 use mathlib.Core.Path.{◌≡◌, refl, sym, ap, ◌∙◌, subst}
 use mathlib.Core.Logic.{◌⊎◌, inl, inr, ⊎_elim, ◌↔◌}
-use mathlib.Core.Bool.{Bool, true, false}
+use mathlib.Core.Bool.{false}
 use mathlib.Core.List.{List, [], ◌∷◌, ◌++◌, map}
-use Prim.Native.Nat.{ℕ, suc, ◌+◌, ◌/◌, ◌%◌, ◌^◌, ◌≤◌, ◌<◌}
+use Prim.Native.Nat.{ℕ, suc, ◌+◌, ◌/◌, ◌%◌, ◌<◌}
 use native.Mathlib.Nat.{div-one}
 use native.Mathlib.Decide.{ℕ_discrete}
 use native.Mathlib.Omega.{arith}
@@ -13,10 +13,10 @@ use lib.Dec.{T}
 use lib.ListN.{length}
 use Rattle.structure.specs.Shapes.{Shape, Yields, Viable, Fills, Possible, names, size, name_at, numbered}
 use Rattle.structure.specs.Shapes.Shape.{end, seg, opt, rep}
-use Rattle.structure.specs.Engine.{has, Entry, entry, stop, enter, Fits, entry_at, name_in, stepped}
+use Rattle.structure.specs.Engine.{has, Entry, stop, enter, Fits, entry_at, name_in, stepped}
 use Rattle.structure.proofs.SetLaws.{has_zero}
 use Rattle.structure.proofs.FollowLaws.{Acc, live, some, Label}
-use Rattle.structure.proofs.PlaceLaws.{CouldEnd, yields_is, size_is}
+use Rattle.structure.proofs.PlaceLaws.{yields_is, size_is}
 use Rattle.structure.proofs.RunLaws.{Stepped, Holds, start, step, Inside, start_inside, step_inside_lem, ends_is, next_is}
 use Rattle.structure.proofs.GatherLaws.{Hit, Below, gather_same, gathered_below}
 

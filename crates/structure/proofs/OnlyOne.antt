@@ -1,24 +1,21 @@
 -- No second judgement meets the contract, and what a judgement says of the grammar: accepted exactly where the structure yields the names, a list of
 -- exactly the names with which what stands before can go on, and no prefix before a refusal that cannot be completed. Assumes nothing.
 use mathlib.Core.Path.{◌≡◌, refl, sym, ap, ◌∙◌, subst}
-use mathlib.Core.Logic.{◌⊎◌, inl, inr, ⊎_elim, ◌↔◌}
+use mathlib.Core.Logic.{◌↔◌}
 use mathlib.Core.Bool.{Bool, true, false, cond}
 use mathlib.Core.List.{List, [], ◌∷◌, ◌++◌, map, append_assoc}
-use Prim.Native.Nat.{ℕ, suc, ◌+◌, ◌≤◌, ◌<◌}
+use Prim.Native.Nat.{ℕ, ◌+◌, ◌≤◌, ◌<◌}
 use native.Mathlib.Decide.{dec_lt}
 use native.Mathlib.Omega.{arith}
 use lib.Dec.{T, ltb}
 use lib.ListN.{length, take, drop, take-append-drop}
 use lib.Seq.{take-take, append_snoc}
 use Rattle.alphabet.specs.declared.answers.Refusal.TheVariants.{None, SegmentMisplaced, EndedEarly}
-use Rattle.alphabet.specs.declared.answers.Check.TheVariants.{Passes, Fails}
-use Rattle.alphabet.specs.declared.answers.Check.{Check}
 use Rattle.alphabet.specs.declared.answers.Refusal.{Refusal}
-use Rattle.reading.specs.Reading.{reading}
 use Rattle.structure.specs.Shapes.{Shape, Yields, Viable, Fills, Possible, names, name_at}
 use Rattle.structure.specs.SegmentNames.{kept, segment_names}
-use Rattle.structure.specs.Listed.{In, Listed}
-use Rattle.structure.specs.Structures.{ListedStructure, chosen, unlisted, structure_for, built_in}
+use Rattle.structure.specs.Listed.{In}
+use Rattle.structure.specs.Structures.{ListedStructure, built_in}
 use Rattle.structure.specs.Judged.{front, Refused, refused_as, Judged, accepted, refused, StructuredBy, no_structure, by, AnswersBy, unread, read, Structured, Answers}
 use Rattle.fault.specs.Faults.{plain}
 use Rattle.fault.specs.declared.FaultRecord.{FaultRecord}

@@ -1,8 +1,8 @@
 -- What a walk comes to, told as a judgement: each case of the walk is a case of `Judged`. Assumes nothing.
-use mathlib.Core.Path.{◌≡◌, refl, sym, ap, ◌∙◌, subst}
+use mathlib.Core.Path.{◌≡◌, sym, ap, subst}
 use mathlib.Core.Bool.{Bool, false}
 use mathlib.Core.List.{List}
-use Prim.Native.Nat.{ℕ, ◌<◌}
+use Prim.Native.Nat.{ℕ}
 use native.Mathlib.Omega.{arith}
 use lib.ListN.{length}
 use borrow.Author.Tests.{lt-ltb, le-ltb}
@@ -15,7 +15,6 @@ use Rattle.structure.specs.declared.walking.Walked.{Walked}
 use Rattle.structure.specs.declared.walking.Walked.TheVariants.{Accepted, Misplaced, Early}
 use Rattle.fault.specs.Faults.{name_list, plain}
 use Rattle.fault.specs.declared.Names.{Names}
-use Rattle.fault.specs.declared.FaultRecord.{FaultRecord}
 use Rattle.structure.proofs.WalkLaws.{Walks, walk_is}
 
 -- what the walk does not accept is of another kind than `None`

@@ -1,11 +1,10 @@
 -- The walk over the names of a message is the grammar: what it comes to is what `Refused` and `Yields` ask, for every structure that the tables fit.
 -- Assumes nothing.
 use mathlib.Core.Path.{◌≡◌, refl, sym, ap, ◌∙◌, subst}
-use mathlib.Core.Logic.{◌⊎◌, inl, inr, ⊎_elim, ◌↔◌}
+use mathlib.Core.Logic.{◌⊎◌, inl, inr, ◌↔◌}
 use mathlib.Core.Bool.{Bool, true, false, cond, not, ◌&&◌}
-use mathlib.Core.List.{List, [], ◌∷◌, ◌++◌, append-nil, append_assoc}
-use Prim.Native.Nat.{ℕ, zero, suc, ◌+◌, ◌≤◌, ◌<◌}
-use native.Mathlib.Numerals.{add-one}
+use mathlib.Core.List.{List, [], ◌∷◌, ◌++◌, append-nil}
+use Prim.Native.Nat.{ℕ, ◌+◌, ◌<◌}
 use native.Mathlib.Omega.{arith}
 use lib.Dec.{T, eqb}
 use lib.ListN.{length, take, length-append}
@@ -15,7 +14,7 @@ use Rattle.alphabet.proofs.BoolLaws.{false_true}
 use Rattle.structure.specs.Shapes.{Shape, Yields, Viable, Possible, names, name_at, numbered}
 use Rattle.structure.specs.SegmentNames.{passed_over, kept}
 use Rattle.structure.specs.Judged.{front, Refused}
-use Rattle.structure.specs.Engine.{has, Entry, entry_at, stepped, stuck_at, ended_with, walked, listing, stop, enter, Fits, Tables}
+use Rattle.structure.specs.Engine.{has, Entry, entry_at, stepped, stuck_at, ended_with, walked, listing, stop, Fits, Tables}
 use Rattle.structure.specs.declared.walking.Walked.{Walked}
 use Rattle.structure.specs.declared.walking.Walked.TheVariants.{Accepted, Misplaced, Early}
 use Rattle.structure.proofs.Going.{Going, begun, onward, halted, yielded, standing, placed}

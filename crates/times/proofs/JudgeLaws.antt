@@ -1,6 +1,6 @@
 -- Laws of judging a time with no time made of it: two digits and their number, digits looked at together, and what is judged part by part. Assumes nothing.
 use mathlib.Core.Path.{◌≡◌, refl, sym, ap, ap₂, subst, ◌∙◌}
-use mathlib.Core.List.{List, [], ◌∷◌, ◌++◌}
+use mathlib.Core.List.{List, [], ◌∷◌}
 use mathlib.Core.Bool.{Bool, true, false, cond, ◌&&◌}
 use Prim.Native.Nat.{ℕ, zero, suc, ◌+◌, ◌-◌, ◌*◌, ◌≤◌, ◌<◌}
 use native.Mathlib.Omega.{arith}
@@ -10,7 +10,7 @@ use native.Mathlib.Numerals.{add-one}
 use Rattle.alphabet.specs.Bytes.{digit}
 use Rattle.alphabet.specs.Digits.{all_digits, counted, decimal}
 use Rattle.alphabet.proofs.BoolLaws.{false_true, and_both, both_and, from_to_lem}
-use Rattle.alphabet.proofs.DigitLaws.{digits_append, digits_take, digits_drop}
+use Rattle.alphabet.proofs.DigitLaws.{digits_take, digits_drop}
 use Rattle.alphabet.proofs.ListLaws.{drop_next}
 use mathlib.Core.Logic.{◌⊎◌, inl, inr, ⊎_elim}
 use lib.Dec.{leb, ltb, eqb}

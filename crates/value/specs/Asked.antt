@@ -1,6 +1,6 @@
 -- A number or a time asked of an element: "Asked for its number (NM, SI) or time (DT, TM, TS), an element not present
 -- gives its state alone." "Lookup: a reading fault, 19, then 32 or 37."
-use Rattle.std.specs.Prelude.{ℕ, List, Bool, true, false, cond, pos}
+use Rattle.std.specs.Prelude.{ℕ, List, cond, pos}
 use Rattle.element.specs.Finding.{found, element_bytes}
 use Rattle.element.specs.declared.Found.{Found}
 use Rattle.element.specs.declared.address.Address.{Address}

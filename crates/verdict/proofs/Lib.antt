@@ -1,2 +1,3 @@
 pub mod VerdictLaws
 pub mod OneWalk
+pub mod FromOpening

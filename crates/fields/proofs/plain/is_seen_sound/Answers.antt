@@ -1,5 +1,4 @@
 -- Rests on the law of delimiters that are right: each is permitted.
-use Prim.Native.Nat.{ℕ}
 use mathlib.Core.Path.{◌≡◌, sym, ◌∙◌}
 use lib.ListN.{length}
 use borrow.Author.Rules.{rules}

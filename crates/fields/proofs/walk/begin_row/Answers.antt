@@ -1,7 +1,6 @@
 -- Rests on the law of a row begun that says its own type, and on what the callees ensure.
 use borrow.Author.Rules.{rules}
 use mathlib.Core.Path.{subst, sym, ◌∙◌}
-use mathlib.Core.Bool.{true, false}
 use Prim.Native.Nat.{ℕ, ◌≤◌, ◌+◌}
 use borrow.Author.Tests.{eq-eqb, ne_eqb}
 use native.Mathlib.Omega.{arith}

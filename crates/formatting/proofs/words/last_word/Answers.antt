@@ -1,5 +1,4 @@
 -- Rests on the bytes behind a place: none of them is a blank.
-use mathlib.Core.Bool.{true}
 use mathlib.Core.Path.{ap}
 use native.Mathlib.Omega.{arith}
 use lib.ListN.{length, drop_of_length-le}

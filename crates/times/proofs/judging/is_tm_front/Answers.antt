@@ -1,6 +1,5 @@
 -- Rests on what its tests give.
 use mathlib.Core.Path.{sym, ◌∙◌}
-use mathlib.Core.Bool.{true}
 use native.Mathlib.Omega.{arith}
 use Rattle.forms.specs.declared.layouts.Form.TheVariants.{Tm}
 use Rattle.times.proofs.JudgeLaws.{length_not, digits_not, tm_front}

@@ -1,7 +1,7 @@
 -- Rests on the laws of feeding, and on a run being fed as single bytes are: what is left of the piece decides, at each turn.
 use Prim.Native.Nat.{ℕ, ◌≤◌, ◌<◌, ◌+◌, ◌-◌}
 use mathlib.Core.Path.{◌≡◌, refl, sym, ap, subst, ◌∙◌}
-use mathlib.Core.Bool.{true, false}
+use mathlib.Core.Bool.{true}
 use mathlib.Core.List.{List}
 use lib.ListN.{length, get_or, drop, length-drop}
 use lib.Seq.{drop-drop}
@@ -11,7 +11,7 @@ use mir.Syntax.{w64}
 use Rattle.alphabet.proofs.ListLaws.{rest_of}
 use Rattle.frames.specs.declared.steps.Step.{Step}
 use Rattle.frames.specs.Wire.{frame_limit}
-use Rattle.frames.specs.Feeding.{Feeding, feeding, told, known, foreign, fed, stored, stopping}
+use Rattle.frames.specs.Feeding.{Feeding, feeding, known, foreign, fed, stored}
 use Rattle.frames.proofs.FeedLaws.{frame_limit_le, gathers_below, length_stored, stored_set, stored_not, feed_end, feed_stop, feed_on, fed_known, fed_foreign}
 use Rattle.frames.proofs.KnownLaws.{known_after}
 use Rattle.frames.proofs.state.FrameState.feed.Goals.{After-limit_of-limit, After-pass-passed, At-loop-i, Else-i-piece, Joined-step, else-step, then-step}
