@@ -11,7 +11,6 @@ use Rattle.reading.specs.Segments.{segments, segment_at, name_of}
 use Rattle.reading.specs.Reading.{reading}
 use Rattle.reading.proofs.SegmentLaws.{segment_bytes}
 use Rattle.segments.specs.Asked.{counting, segment_asked, refused_with, segment_found}
-use Rattle.segments.specs.declared.SegmentFound.{SegmentFound}
 
 pub counting_unread : (m : List ℕ) (kind : Refusal) (place : ℕ) → reading m ≡ Fails kind place → answered (Fails kind place) ≡ counting m
 unfolding counting

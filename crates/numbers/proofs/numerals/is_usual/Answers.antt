@@ -19,13 +19,10 @@ returns c e =
     let m = c.if-before-body.false in
     let i = c.leading_digits-before.ensures.inside in
     let l = c.args.body.now in
-    record { short = omega (arith, c.if-body-gt-MOST_DIGITS.false); before = c.leading_digits-before.result; some = omega arith; leads = c.leading_digits-before.ensures; behind = inr (omega arith, c.if-body-before-ne46.false, ap some_digits (sym (rest_of l (c.leading_digits-before.result + 1))) ∙ sym c.is_some_digits.ensures ∙ e) }
+    record { short = omega (arith, c.if-body-gt-MOST_DIGITS.false); before = c.leading_digits-before.result; some = omega arith; leads = c.leading_digits-before.ensures; behind = inr (omega arith, omega arith, ap some_digits (sym (rest_of l (c.leading_digits-before.result + 1))) ∙ sym c.is_some_digits.ensures ∙ e) }
 
 pub returns-then-body-gt-MOST_DIGITS : goal.returns-then-body-gt-MOST_DIGITS
 returns-then-body-gt-MOST_DIGITS c e = false_true e
 
 pub returns-then-before-eq0 : goal.returns-then-before-eq0
 returns-then-before-eq0 c e = false_true e
-
-pub returns-then-body-before-ne46 : goal.returns-then-body-before-ne46
-returns-then-body-before-ne46 c e = false_true e
