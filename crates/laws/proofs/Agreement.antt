@@ -10,7 +10,7 @@ use lib.Dec.{leb, eqb}
 use lib.ListN.{length, get_or, drop}
 use lib.Seq.{get_or-take}
 use borrow.Author.Tests.{eqb-true, eqb-false, eq-eqb, leb-true, not-true}
-use Rattle.alphabet.specs.Bytes.{carriage_return, ascii}
+use Rattle.alphabet.specs.Bytes.{carriage_return}
 use Rattle.alphabet.specs.Lists.{find}
 use Rattle.alphabet.specs.Parts.{split, standing}
 use Rattle.alphabet.specs.declared.answers.Check.TheVariants.{Passes}

@@ -5,7 +5,7 @@ use lib.IntN.{pos}
 use Rattle.calendar.specs.Calendar.{no_time}
 use Rattle.element.specs.declared.Found.{Found}
 use Rattle.element.specs.declared.states.State.{State}
-use Rattle.element.specs.declared.states.State.TheVariants.{Absent, Empty, Null, Present}
+use Rattle.element.specs.declared.states.State.TheVariants.{Present}
 use Rattle.numbers.specs.declared.numerals.ReadNumber.{ReadNumber}
 use Rattle.times.specs.declared.moments.ReadTime.{ReadTime}
 use Rattle.value.specs.Asked.{number_from, time_from}

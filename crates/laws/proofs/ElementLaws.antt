@@ -22,7 +22,6 @@ use Rattle.element.specs.States.{blank, is_empty, state_of}
 use Rattle.element.specs.Levels.{between, part_in, field_in, field_at, below, repetition_at, component_at, subcomponent_at, fixed, unsplit, element_at}
 use Rattle.element.specs.declared.address.Address.{Address}
 use Rattle.element.specs.declared.states.State.{State}
-use Rattle.element.specs.declared.states.State.TheVariants.{Empty, Null, Present}
 use Rattle.reading.specs.Message.{Message}
 use Rattle.laws.specs.Means.{Separator, component, subcomponent, repetition, OnlySeparators, Means, null, empty, present}
 use Rattle.laws.proofs.HeaderLaws.{first_segment}

@@ -1,12 +1,12 @@
 -- The grammar and the machine agree, both ways. Assumes nothing.
 use mathlib.Core.Path.{◌≡◌, refl, sym, ap, subst, ◌∙◌}
-use mathlib.Core.Bool.{Bool, true, false, cond}
-use mathlib.Core.List.{List, [], ◌∷◌, ◌++◌, append-nil, append_assoc}
+use mathlib.Core.Bool.{Bool, true, false}
+use mathlib.Core.List.{List, [], ◌∷◌, ◌++◌, append-nil}
 use Prim.Native.Nat.{ℕ, zero, suc, ◌+◌, ◌-◌, ◌≤◌, ◌<◌}
 use native.Mathlib.Omega.{arith}
 use native.Mathlib.Decide.{dec_lt}
 use native.Mathlib.Numerals.{add-one}
-use lib.Dec.{eqb, leb}
+use lib.Dec.{eqb}
 use lib.ListN.{length, take, drop, set, length-set, length-append}
 use Rattle.alphabet.specs.Filling.{over}
 use Rattle.frames.specs.Gathered.{laid}
@@ -14,16 +14,14 @@ use Rattle.laws.specs.Framed.{Said}
 use lib.Seq.{sets, sets-eq, length-sets, take_at, take_all, length-take-le}
 use borrow.Author.Tests.{eqb-true, eqb-false, le-leb, lt-leb}
 use Rattle.frames.specs.declared.state.FrameState.{FrameState}
-use Rattle.frames.specs.declared.steps.Event.{Event}
-use Rattle.frames.specs.declared.steps.Event.TheVariants.{Quiet, Frame, Broken, Long}
-use Rattle.frames.specs.declared.steps.Step.{Step}
+use Rattle.frames.specs.declared.steps.Event.TheVariants.{Frame, Broken, Long}
 use Rattle.alphabet.specs.declared.answers.Refusal.TheVariants as N
-use Rattle.frames.specs.Wire.{opens, closes, frame_limit, most_dropped}
+use Rattle.frames.specs.Wire.{frame_limit, most_dropped}
 use Rattle.frames.specs.Steps.{outside, inside, ending, skipping, skipping_end, stepped, step_outside, step_inside, step_ending, step_skipping, step_skipping_end, counted, quiet, gather, stop}
-use Rattle.frames.specs.Feeding.{stored, known}
+use Rattle.frames.specs.Feeding.{stored}
 use Rattle.frames.specs.Runs.{Happening, frame, dropped, Runs, line}
 use Rattle.frames.specs.Wired.{Plain, none, some, or_long, broken, Place, out, opened, Wired, ended, stray, begins, whole_frame, breaks, breaks_open, again, open_body, open_end, open_long, open_long_end}
-use Rattle.frames.proofs.FeedLaws.{frame_limit_le, length_stored}
+use Rattle.frames.proofs.FeedLaws.{frame_limit_le}
 use Rattle.frames.proofs.StepLaws.{outside_opens, outside_drops, ending_frame, ending_opens, ending_breaks, skipping_opens, skipping_closes, skipping_on, skipped_opens, skipped_on, inside_opens, inside_closes, inside_long, inside_gathers}
 use Rattle.frames.proofs.KnownLaws.{known_test, is_outside}
 use Rattle.laws.proofs.FrameLines.{Whole, also, noted, whole}

@@ -2,20 +2,17 @@
 use mathlib.Core.Path.{◌≡◌, refl, sym, ap, ◌∙◌}
 use mathlib.Core.Bool.{Bool, true, false, cond}
 use mathlib.Core.List.{List, [], ◌∷◌, ◌++◌}
-use Prim.Native.Nat.{ℕ, zero, suc, ◌+◌, ◌≤◌, ◌<◌}
+use Prim.Native.Nat.{ℕ, suc, ◌+◌, ◌≤◌}
 use native.Mathlib.Omega.{arith}
-use native.Mathlib.Numerals.{add-one}
 use lib.ListN.{length, take, drop}
 use Rattle.alphabet.proofs.BoolLaws.{false_true}
 use Rattle.frames.specs.declared.state.FrameState.{FrameState}
 use Rattle.frames.specs.declared.steps.Event.{Event}
 use Rattle.frames.specs.declared.steps.Event.TheVariants.{Quiet, Frame, Broken, Long}
-use Rattle.frames.specs.declared.steps.Step.{Step}
 use Rattle.alphabet.specs.declared.answers.Refusal.TheVariants as N
 use Rattle.frames.specs.Steps.{stepped}
 use Rattle.frames.specs.Feeding.{Feeding, feeding, told, stored, stopping}
 use Rattle.frames.specs.Runs.{Happening, frame, dropped}
-use Rattle.frames.proofs.FeedLaws.{length_stored}
 
 -- what a line gives, taken whole
 pub record Whole : Type 0 where

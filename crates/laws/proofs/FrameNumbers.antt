@@ -1,5 +1,5 @@
 -- What the frame reader gives back is of one of five forms, so are its numbers, and no frame is longer than its limit. Assumes nothing.
-use mathlib.Core.Path.{◌≡◌, refl, sym, subst}
+use mathlib.Core.Path.{◌≡◌, refl}
 use mathlib.Core.Bool.{Bool, true, false, cond}
 use mathlib.Core.List.{List, [], ◌∷◌}
 use Prim.Native.Nat.{ℕ, ◌+◌, ◌≤◌}
@@ -13,7 +13,7 @@ use Rattle.frames.specs.declared.steps.Event.TheVariants.{Quiet, Frame, Broken, 
 use Rattle.frames.specs.declared.feeding.Fed.{Fed}
 use Rattle.frames.specs.Wire.{frame_limit}
 use Rattle.frames.specs.Steps.{stepped}
-use Rattle.frames.specs.Feeding.{Feeding, stored, stopping, told, feeding, foreign, known, fed}
+use Rattle.frames.specs.Feeding.{stored, stopping, told, feeding, foreign, known, fed}
 use Rattle.frames.proofs.FeedLaws.{frame_limit_le}
 use Rattle.frames.proofs.KnownLaws.{Known, known_case, known_step}
 use Rattle.frames.proofs.PassLaws.{known_held}

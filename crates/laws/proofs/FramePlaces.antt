@@ -1,7 +1,7 @@
 -- What each place of the buffer holds: behind a call, behind a run, and under the bodies of a line. Assumes nothing.
-use mathlib.Core.Path.{◌≡◌, refl, sym, ap, subst, ◌∙◌}
+use mathlib.Core.Path.{◌≡◌, refl, sym, ap, ◌∙◌}
 use mathlib.Core.Bool.{Bool, true, false, cond}
-use mathlib.Core.List.{List, [], ◌∷◌, ◌++◌}
+use mathlib.Core.List.{List, [], ◌∷◌}
 use Prim.Native.Nat.{ℕ, zero, suc, ◌+◌, ◌-◌, ◌≤◌, ◌<◌}
 use native.Mathlib.Omega.{arith}
 use lib.Dec.{eqb, ltb}
@@ -16,11 +16,11 @@ use Rattle.frames.specs.Wire.{frame_limit}
 use Rattle.frames.specs.Steps.{stepped}
 use Rattle.frames.specs.Feeding.{Feeding, stored, stopping, told, feeding, known, foreign, fed}
 use Rattle.frames.specs.Runs.{Happening, Runs, line}
-use Rattle.frames.specs.Gathered.{Gathered, gathered, last_at, laid, last_of}
+use Rattle.frames.specs.Gathered.{gathered, last_at, laid, last_of}
 use Rattle.frames.proofs.FeedLaws.{frame_limit_le, gathers_below, length_stored}
 use Rattle.frames.proofs.KnownLaws.{feeding_length}
 use Rattle.laws.proofs.FrameLines.{Whole, noted, whole}
-use Rattle.laws.proofs.FrameCuts.{Fit, runs_whole, gave, told_used}
+use Rattle.laws.proofs.FrameCuts.{runs_whole, told_used}
 
 noted_left : (e : Event) (h : ℕ) (d : List ℕ) (w : Whole) → (noted e h d w).left ≡ w.left
 unfolding noted

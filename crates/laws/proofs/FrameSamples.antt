@@ -9,7 +9,7 @@ use Rattle.frames.specs.declared.state.FrameState.{FrameState}
 use Rattle.frames.specs.declared.feeding.Stop.{Stop}
 use Rattle.frames.specs.declared.feeding.Stop.TheVariants as S
 use Rattle.frames.specs.Wire.{most_dropped, frame_limit}
-use Rattle.frames.specs.Steps.{frame_state, outside, inside, skipping, counted, step_outside, step_inside, step_ending, step_skipping, step_skipping_end, stepped}
+use Rattle.frames.specs.Steps.{outside, inside, skipping, counted, step_outside, step_inside, step_ending, step_skipping, step_skipping_end, stepped}
 use Rattle.frames.specs.Feeding.{Feeding, known, stored, stopping, told, feeding, foreign, fed}
 use Rattle.frames.specs.Runs.{start}
 

@@ -1,22 +1,21 @@
 -- The states that are taken are those that a run reaches: both directions. The bytes that reach a state are found by induction and never computed.
 -- Assumes nothing.
 use mathlib.Core.Path.{◌≡◌, refl, sym, ap, subst, ◌∙◌}
-use mathlib.Core.Bool.{Bool, true, false, cond}
+use mathlib.Core.Bool.{Bool, true, false}
 use mathlib.Core.List.{List, [], ◌∷◌, ◌++◌, append-nil}
-use Prim.Native.Nat.{ℕ, zero, suc, ◌+◌, ◌≤◌, ◌<◌}
+use Prim.Native.Nat.{ℕ, zero, suc, ◌+◌, ◌≤◌}
 use native.Mathlib.Omega.{arith}
-use lib.Dec.{eqb}
 use lib.ListN.{length, replicate, length-replicate}
 use Rattle.frames.specs.declared.state.FrameState.{FrameState}
 use Rattle.frames.specs.declared.steps.Event.{Event}
 use Rattle.frames.specs.declared.steps.Event.TheVariants.{Quiet, Frame, Broken, Long}
 use Rattle.frames.specs.declared.steps.Step.{Step}
 use Rattle.frames.specs.Wire.{most_dropped, frame_limit}
-use Rattle.frames.specs.Steps.{outside, inside, ending, skipping, skipping_end, stepped, step_outside, step_inside, step_skipping, counted, quiet, gather, stop}
+use Rattle.frames.specs.Steps.{outside, inside, ending, skipping, skipping_end, stepped, step_outside, step_inside, step_skipping}
 use Rattle.alphabet.specs.declared.answers.Refusal.TheVariants as N
 use Rattle.frames.specs.Feeding.{stored, known, foreign, fed}
 use Rattle.frames.proofs.FeedLaws.{fed_foreign}
-use Rattle.frames.specs.Runs.{Happening, Runs, line, start, Reached, Run}
+use Rattle.frames.specs.Runs.{Runs, line, start, Reached}
 use Rattle.frames.proofs.StepLaws.{counted_more, inside_long, inside_gathers}
 use Rattle.frames.proofs.KnownLaws.{Known, is_outside, is_inside, is_ending, is_skipping, is_skipping_end, known_case, known_test, known_step}
 use Rattle.laws.proofs.FrameLines.{Whole, noted, whole}

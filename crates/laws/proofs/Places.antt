@@ -1,9 +1,8 @@
 -- "A structure has at most 64 places where a segment name stands": each that is listed has, which is computed. Assumes nothing.
-use mathlib.Core.Path.{◌≡◌, ap}
 use mathlib.Core.List.{List, [], ◌∷◌}
-use Prim.Native.Nat.{ℕ, ◌≤◌}
+use Prim.Native.Nat.{◌≤◌}
 use native.Mathlib.Omega.{arith}
-use Rattle.structure.specs.Shapes.{Shape, size}
+use Rattle.structure.specs.Shapes.{size}
 use Rattle.structure.specs.Structures.{ListedStructure, built_in}
 
 -- what holds of each structure of a book

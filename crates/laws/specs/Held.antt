@@ -1,7 +1,7 @@
 -- What the field judge looks at, by document 01, 'Fields judged', said by the elements that a lookup finds, so that the
 -- judge's own walk along a message is not its meaning.
 use Rattle.std.specs.Prelude.{◌≡◌, true, List, [], ◌∷◌, map, ◌↔◌, ℕ, zero, suc, ◌+◌, ◌<◌, length, get_or}
-use Rattle.reading.specs.Segments.{delimiters_of, segments, name_of, name}
+use Rattle.reading.specs.Segments.{delimiters_of, segments, name_of}
 use Rattle.element.specs.Finding.{found, element_bytes}
 use Rattle.element.specs.declared.states.State.TheVariants.{Absent}
 use Rattle.field_table.specs.Table.{rows, no_row}

@@ -1,0 +1,12 @@
+-- Rests on `c_acknowledgement_carries` and `c_acknowledge_leaves`; that the ID's elements are bytes is what owning the slice tells.
+use native.Mathlib.Omega.{arith}
+use Rattle.promises.proofs.ForC.{c_acknowledge_leaves, c_acknowledgement_carries}
+use Rattle.promises.proofs.acknowledge_for_c.Goals as goal
+
+pub returns : goal.returns
+returns c =
+    let m = c.args.message.now in
+    let time = c.args.time.now in
+    let id = c.args.id.now in
+    let lent = c.args.buffer.now in
+    let a = c.turrethog_acknowledge.ensures in let whole = (a, (c_acknowledgement_carries m time id lent a (λ i. let f = c.shared_slice_known-3-1.given i in omega arith), c_acknowledge_leaves m time id lent a)) in record { acknowledge_seen = whole.0; carries = whole.1; buffer_unchanged = whole.2 }
