@@ -9,4 +9,9 @@ returns c =
     let time = c.args.time.now in
     let id = c.args.id.now in
     let lent = c.args.buffer.now in
-    let a = c.turrethog_acknowledge.ensures in let whole = (a, (c_acknowledgement_carries m time id lent a (λ i. let f = c.shared_slice_known-3-1.given i in omega arith), c_acknowledge_leaves m time id lent a)) in record { acknowledge_seen = whole.0; carries = whole.1; buffer_unchanged = whole.2 }
+    let a = c.turrethog_acknowledge.ensures in
+    record {
+      acknowledge_seen = a;
+      carries = c_acknowledgement_carries m time id lent a (λ i. let f = c.type_inv.id i in omega arith);
+      buffer_unchanged = c_acknowledge_leaves m time id lent a;
+    }

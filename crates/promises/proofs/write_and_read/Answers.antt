@@ -36,18 +36,15 @@ returns c =
     let said = ap₂ (λ (n : ℕ) (l : List ℕ). take n l) (ap (λ (r : Answer). r.length) c.escape-there.ensures.value) c.escape-there.ensures.buffer_after in
     let answered = u.ensures.value ∙ ap (λ (l : List ℕ). answer (unescaping ds l (length e))) said in
     let back = u.ensures.buffer_after ∙ ap (λ (l : List ℕ). filled (unescaping ds l (length e)) e) said in
-    let five : length ds ≡ 5 = search rules in let whole = (
-      answered,
-      (
-        c.escape-there.ensures.buffer_after,
-        (
-          back,
-          λ fine first second.
-              let b = text_comes_back ds five fine t d e (λ i. let f = c.shared_slice_known-1.given i in omega arith) first second in
-              (answered ∙ b.0, back ∙ b.1),
-        ),
-      ),
-    ) in record { value = whole.0; written_after = whole.1; back_after = whole.2; comes_back = whole.3 }
+    let five : length ds ≡ 5 = search rules in
+    record {
+      value = answered;
+      written_after = c.escape-there.ensures.buffer_after;
+      back_after = back;
+      comes_back = λ fine first second.
+          let b = text_comes_back ds five fine t d e (λ i. let f = c.type_inv.text i in omega arith) first second in
+          (answered ∙ b.0, back ∙ b.1);
+    }
 
 pub slice_bounds-unescape-end : goal.slice_bounds-unescape-end
 slice_bounds-unescape-end c = within (goal.at.slice_bounds-unescape-end c).After-escape-there
