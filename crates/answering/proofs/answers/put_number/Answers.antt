@@ -26,7 +26,7 @@ pub put_word-requires : goal.put_word-requires
 put_word-requires c =
     let d = c.decimal-count in
     let a = c.args in
-    omega (arith, d.ensures.in_bounds.1, few a.number d.result (omega arith) d.ensures.len.0)
+    omega (arith, d.ensures.in_bounds.1, few a.number d.result (omega arith) d.ensures.len)
 
 pub returns : goal.returns
 returns c =
@@ -35,8 +35,8 @@ returns c =
     let a = c.args in
     record {
       count = d.result;
-      few = few a.number d.result (omega arith) d.ensures.len.0;
-      fewest = d.ensures.len.0;
+      few = few a.number d.result (omega arith) d.ensures.len;
+      fewest = d.ensures.len;
       behind = omega (arith, d.ensures.in_bounds.1, p.ensures.0);
-      front = p.ensures.1 ∙ ap (λ (l : List ℕ). take a.at a.answer.now ++ (l ++ (a.end ∷ []))) d.ensures.len.1;
+      front = p.ensures.1 ∙ ap (λ (l : List ℕ). take a.at a.answer.now ++ (l ++ (a.end ∷ []))) d.ensures.digits;
     }
