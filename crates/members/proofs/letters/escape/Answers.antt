@@ -1,0 +1,10 @@
+-- Rests on which of the two forms the test chooses.
+use native.Mathlib.Omega.{arith}
+use Rattle.members.proofs.LetterLaws.{chosen_first, by_code}
+use Rattle.members.proofs.letters.escape.Goals as goal
+
+pub returns-then-byte : goal.returns-then-byte
+returns-then-byte c = (omega arith, chosen_first _ _ _ c.if-byte.true)
+
+pub returns : goal.returns
+returns c = (omega arith, by_code c.args.byte _ _ c.if-byte.false c.hex_digit-high.ensures c.hex_digit-low.ensures)
