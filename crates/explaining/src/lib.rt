@@ -3,16 +3,16 @@
 // table of fields itself.
 #![tactic(auto)]
 
-mod forms;
 mod judged;
 mod lists;
 mod names;
+mod type_forms;
 mod types;
 
 use fault::FaultRecord;
-pub use forms::print_time_form;
 pub use names::print_field_name;
 use terminal::Output;
+pub use type_forms::print_time_form;
 pub use types::print_type;
 
 // Says what a field could have held, by the number of its fault: 32, 33 or 37.
@@ -21,13 +21,13 @@ fn explain_field(out: Output, message: &[u8], fault: FaultRecord) -> Output {
     let number = alphabet::number(kind);
     let asked = judged::judged_by(message, fault.place, fault.field);
     if number == 32 {
-        return forms::print_form(out, asked);
+        return type_forms::print_form(out, asked);
     }
     if number == 33 {
         return lists::print_list_of(out, asked);
     }
     let value = judged::repetition_at(message, fault.place, fault.field, fault.repetition);
-    forms::print_limit(out, asked, value.len())
+    type_forms::print_limit(out, asked, value.len())
 }
 
 // Says below a refusal what would have been right, for 20, 32, 33 and 37.
