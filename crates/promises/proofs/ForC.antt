@@ -26,7 +26,6 @@ use Rattle.structure.proofs.OnlyOne.{only_one}
 use Rattle.verdict.specs.Verdicts.{Accepts}
 use Rattle.alphabet.proofs.CheckLaws.{number_none}
 use Rattle.verdict.proofs.VerdictLaws.{accepts_exactly as verdict-accepts}
-use Rattle.frames.specs.declared.state.FrameState.{FrameState}
 use Rattle.frames.specs.declared.feeding.Fed.{Fed}
 use Rattle.frames.specs.Feeding.{fed}
 use Rattle.boundary.specs.Framing.{handed_in, handed_back, fed_seen}

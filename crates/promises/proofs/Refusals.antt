@@ -20,8 +20,6 @@ use Rattle.alphabet.proofs.BoolLaws.{false_true, and_both, or_neither, neither_o
 use Rattle.alphabet.proofs.ListLaws.{first_least, find_is, same_is, same_own}
 use Rattle.reading.specs.Reading.{opening}
 use Rattle.reading.proofs.Accepted.{opening_if}
-use Rattle.element.specs.declared.states.State.{State}
-use Rattle.element.specs.declared.states.State.TheVariants.{Present}
 use Rattle.laws.proofs.PresentLaws.{is_present_lem}
 use Rattle.element.specs.States.{is_present}
 use Rattle.times.specs.Times.{is_ts}

@@ -1,6 +1,6 @@
 -- What the demands say of what C gets. Demand 1: "After a refusal every buffer lent holds the bytes it held before.";
 -- demand 3: "lists exactly the structure's names that could have stood there", of which C asks one by one.
-use Rattle.std.specs.Prelude.{ℕ, ◌+◌, ◌≤◌, ◌<◌, ◌≡◌, List, [], ◌∷◌, ◌++◌, get_or}
+use Rattle.std.specs.Prelude.{ℕ, ◌≤◌, ◌<◌, ◌≡◌, List, [], ◌∷◌, ◌++◌, get_or}
 use Rattle.structure.specs.Listed.{Listed}
 use Rattle.structure.specs.Shapes.{Shape, Viable, Possible, name_at}
 use Rattle.structure.specs.SegmentNames.{segment_names}
