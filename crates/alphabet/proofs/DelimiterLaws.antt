@@ -37,6 +37,10 @@ module _ (ds : List ℕ) (i : ℕ) (h : i < 5) where
   pub wrong_here : wrong ds i ≡ true → first (wrong ds) (drop i places) ≡ 0
   wrong_here e = first_here (wrong ds) places i h (ap (wrong ds) (place_own i h) ∙ e)
 
+  -- that it equals an earlier one makes it the first that is wrong
+  pub again_here : permitted (get_or ds i 0) ≡ true → find (get_or ds i 0) ds < i → first (wrong ds) (drop i places) ≡ 0
+  again_here e g = wrong_here (wrong_again ds i e g)
+
   pub wrong_past : wrong ds i ≡ false → first (wrong ds) (drop i places) ≡ suc (first (wrong ds) (drop (i + 1) places))
   wrong_past e = first_past (wrong ds) places i h (ap (wrong ds) (place_own i h) ∙ e)
 

@@ -24,6 +24,7 @@ pub fn is_permitted(b: u8) -> bool
 
 // The place, from 0 to 4, of the first delimiter that is not permitted or equal to an earlier one; 5 where all are
 // right.
+#[tactic(auto, using(crate::proofs::DelimiterLaws::again_here))]
 pub fn first_wrong_delimiter(delimiters: Delimiters) -> usize
     ensures { result ≡ first_wrong_delimiter delimiters.bytes }
 {

@@ -3,7 +3,7 @@ use mathlib.Core.Path.{sym, ◌∙◌}
 use native.Mathlib.Omega.{arith}
 use native.Mathlib.Nat.{zero-add}
 use Rattle.alphabet.specs.Delimiters.{first_wrong_delimiter}
-use Rattle.alphabet.proofs.DelimiterLaws.{wrong_not_permitted, wrong_again, right, wrong_here, wrong_past, wrong_end}
+use Rattle.alphabet.proofs.DelimiterLaws.{wrong_not_permitted, right, wrong_here, wrong_past, wrong_end}
 use Rattle.alphabet.proofs.delimiters.first_wrong_delimiter.Goals as goal
 
 pub loop-i-init : goal.loop-i-init
@@ -15,13 +15,6 @@ returns-then-not-is_permitted c =
     let ds = c.args.delimiters.bytes in
     let p = sym c.is_permitted.ensures ∙ c.if-not-is_permitted.true in
     let z = wrong_here ds c.loop-i.i (omega arith) (wrong_not_permitted ds c.loop-i.i p) in
-    omega arith
-
-pub returns-then-find-i : goal.returns-then-find-i
-returns-then-find-i c =
-    let ds = c.args.delimiters.bytes in
-    let p = sym c.is_permitted.ensures ∙ c.if-not-is_permitted.false in
-    let z = wrong_here ds c.loop-i.i (omega arith) (wrong_again ds c.loop-i.i p (omega arith)) in
     omega arith
 
 pub loop-i-preserved : goal.loop-i-preserved
