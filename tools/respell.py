@@ -16,7 +16,6 @@ import sys
 DRY = "--dry" in sys.argv
 TOKEN = re.compile(r"[^\s(){}\[\]:;,.\"«»⌜⌝λ∷=|`]+")
 DECLARED = re.compile(r"^\s*(?:(?:abbrev|unfoldable|pub|data|record|private)\s+)*([^\s(){}:;,.\"]+)((?:\s*[({][^(){}]*(?:[({][^(){}]*[)}][^(){}]*)*[)}])*)\s*:\s")
-LOCAL = re.compile(r"^\s*(?:let|where|at|in|λ)\b")
 IMPORT = re.compile(r"^\s*(?:pub )?(?:ghost )?use ([^\s{;]+)\.\{([^}]*)\}")
 GENERATED = re.compile(r"^(in|if|then|else|loop|match|returns|bounds|slice_bounds|overflow\w*|invariant|decreases|Need)-")
 
@@ -44,7 +43,7 @@ def snake(word):
 
 
 def is_camel(word):
-    return bool(re.match(r"^[a-z][A-Za-z0-9']*$", word)) and bool(re.search(r"[A-Z]", word)) and word not in ()
+    return bool(re.match(r"^[a-z][A-Za-z0-9']*$", word)) and bool(re.search(r"[A-Z]", word))
 
 
 def part_of(word):
@@ -59,7 +58,6 @@ def respelt(name):
 
 def main():
     root = "."
-    own = {}  # name -> places that declare it
     crates = sorted(os.listdir(os.path.join(root, "crates")))
     declared = collections.defaultdict(set)
     for path in texts(root, ".antt"):
@@ -133,27 +131,16 @@ def main():
                 return turned[word]
             return word
 
-        new = []
-        at = 0
-        for m in re.finditer(r"\"(?:[^\"\\\n]|\\.)*\"", text):
-            piece = (at, m.start())
-            new.append(piece)
-            at = m.end()
-        new.append((at, len(text)))
+        # strings stay as they are
+        strings = [m.span() for m in re.finditer(r"\"(?:[^\"\\\n]|\\.)*\"", text)]
         out = []
-        last = 0
-        for a, b in new:
-            out.append(text[last:a])
-            chunk = []
-            pos = a
-            for m in TOKEN.finditer(text, a, b):
-                chunk.append(text[pos:m.start()])
-                chunk.append(swap(m))
-                pos = m.end()
-            chunk.append(text[pos:b])
-            out.append("".join(chunk))
-            last = b
-        out.append(text[last:])
+        at = 0
+        for start, end in strings + [(len(text), len(text))]:
+            for m in TOKEN.finditer(text, at, start):
+                out += [text[at:m.start()], swap(m)]
+                at = m.end()
+            out.append(text[at:end])
+            at = end
         done = "".join(out)
         if done != text:
             # a new name that stood in the file before may be caught
