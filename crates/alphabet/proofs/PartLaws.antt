@@ -12,8 +12,9 @@ use lib.ListN.{length, get_or, take, drop, length-append, length-drop}
 use lib.Seq.{drop-drop, drop-append-add, take-append_seam, take_all, length-take-le}
 use borrow.Author.Tests.{ltb-true, ltb-false, lt-ltb, eqb-true, eq-eqb}
 use Rattle.alphabet.specs.Lists.{first, find}
-use Rattle.alphabet.specs.Parts.{grown, split, join, standing, part_at}
-use Rattle.alphabet.specs.declared.parts.Part.TheVariants.{At, Absent}
+use Rattle.std.specs.Prelude.{Option, Some, None}
+use Rattle.alphabet.specs.declared.parts.Part.{Part}
+use Rattle.alphabet.specs.Parts.{grown, split, join, from_to, standing, part_at}
 use Rattle.alphabet.proofs.ListLaws.{rest_of, first_le}
 
 -- ---- a piece of a list that is put together of two
@@ -31,8 +32,18 @@ piece_behind p r b at s e h =
     ap (λ (i : ℕ). take (e - s) (drop i (p ++ b ∷ r))) n
     ∙ ap (take (e - s)) (drop-append-add p (b ∷ r) (suc (s - (at + length p + 1))))
 
-at_same : {a b s e : ℕ} → At a b ≡ At s e → (a ≡ s) × (b ≡ e)
-at_same q = (cc, cc)
+-- two parts that are the same stand at the same places
+start_or_0 : Option Part → ℕ
+start_or_0 (Some part) = part.start
+start_or_0 None = 0
+
+end_or_0 : Option Part → ℕ
+end_or_0 (Some part) = part.end
+end_or_0 None = 0
+
+pub part_same : {a b s e : ℕ} → from_to a b ≡ from_to s e → (a ≡ s) × (b ≡ e)
+unfolding start_or_0 end_or_0
+part_same q = (ap start_or_0 q, ap end_or_0 q)
 
 module _ (sep : ℕ) where
   -- ---- one step: up to the first separator, and from behind it
@@ -128,21 +139,21 @@ module _ (sep : ℕ) where
 
   -- ---- where parts stand: the first, one past it, and none behind the last
 
-  pub standing_first : (at : ℕ) (l : List ℕ) → standing at (split sep l) 0 ≡ At at (at + find sep l)
+  pub standing_first : (at : ℕ) (l : List ℕ) → standing at (split sep l) 0 ≡ from_to at (at + find sep l)
   unfolding standing
   standing_first at l = by (ltb (find sep l) (length l)) refl
     where
-      by : (t : Bool) → ltb (find sep l) (length l) ≡ t → standing at (split sep l) 0 ≡ At at (at + find sep l)
+      by : (t : Bool) → ltb (find sep l) (length l) ≡ t → standing at (split sep l) 0 ≡ from_to at (at + find sep l)
       by true e =
           let h = ltb-true (find sep l) (length l) e in
-          rw (split_step l h) (ap (λ (n : ℕ). At at (at + n)) (length-take-le (find sep l) l (first_le (eqb sep) l)))
+          rw (split_step l h) (ap (λ (n : ℕ). from_to at (at + n)) (length-take-le (find sep l) l (first_le (eqb sep) l)))
       by false e =
           let h = ltb-false (find sep l) (length l) e in
           let u = first_le (eqb sep) l in
           let n : length l ≡ find sep l = omega arith in
-          rw (split_last l h) (ap (λ (n : ℕ). At at (at + n)) n)
+          rw (split_last l h) (ap (λ (n : ℕ). from_to at (at + n)) n)
 
-  pub standing_none : (at : ℕ) (l : List ℕ) (k : ℕ) → length l ≤ find sep l → standing at (split sep l) (k + 1) ≡ Absent
+  pub standing_none : (at : ℕ) (l : List ℕ) (k : ℕ) → length l ≤ find sep l → standing at (split sep l) (k + 1) ≡ None
   unfolding standing
   standing_none at l k h = rw (split_last l h, add-one k)
 
@@ -164,21 +175,21 @@ module _ (sep : ℕ) where
       (ap (λ (m : ℕ). standing (start + m + 1) (split sep (drop (start + n + 1) l)) k) (length-take-le n (drop start l) (omega arith)))
 
   -- a part ends at the first separator from its start on, or where the whole does
-  pub standing_end : (l : List ℕ) (start k s e : ℕ) → standing start (split sep (drop start l)) k ≡ At s e → e ≡ s + find sep (drop s l)
+  pub standing_end : (l : List ℕ) (start k s e : ℕ) → standing start (split sep (drop start l)) k ≡ from_to s e → e ≡ s + find sep (drop s l)
   standing_end l start zero s e q =
-      let p = at_same (sym (standing_first start (drop start l)) ∙ q) in
+      let p = part_same (sym (standing_first start (drop start l)) ∙ q) in
       sym p.1 ∙ ap (λ (x : ℕ). x + find sep (drop x l)) p.0
   standing_end l start (suc k) s e q = at (ltb (find sep (drop start l)) (length (drop start l))) refl (standing_end l (start + find sep (drop start l) + 1) k s e)
     where
-      next : standing start (split sep (drop start l)) (k + 1) ≡ At s e
+      next : standing start (split sep (drop start l)) (k + 1) ≡ from_to s e
       next = let n : k + 1 ≡ suc k = omega arith in ap (standing start (split sep (drop start l))) n ∙ q
 
       at : (t : Bool) → ltb (find sep (drop start l)) (length (drop start l)) ≡ t
-          → (standing (start + find sep (drop start l) + 1) (split sep (drop (start + find sep (drop start l) + 1) l)) k ≡ At s e → e ≡ s + find sep (drop s l)) → e ≡ s + find sep (drop s l)
+          → (standing (start + find sep (drop start l) + 1) (split sep (drop (start + find sep (drop start l) + 1) l)) k ≡ from_to s e → e ≡ s + find sep (drop s l)) → e ≡ s + find sep (drop s l)
       at true t ih = ih (sym (standing_walk l start (find sep (drop start l)) k refl (ltb-true _ _ t)) ∙ next)
-      at false t ih = let z : Absent ≡ At s e = sym (standing_none start (drop start l) k (ltb-false _ _ t)) ∙ next in absurd (let y : ◌≡◌ {A = ℕ} 0 1 = cc in omega arith)
+      at false t ih = let z : None ≡ from_to s e = sym (standing_none start (drop start l) k (ltb-false _ _ t)) ∙ next in absurd (let y : ◌≡◌ {A = ℕ} 0 1 = cc in omega arith)
 
-  pub part_end : (l : List ℕ) (k s e : ℕ) → part_at sep l k ≡ At s e → e ≡ s + find sep (drop s l)
+  pub part_end : (l : List ℕ) (k s e : ℕ) → part_at sep l k ≡ from_to s e → e ≡ s + find sep (drop s l)
   unfolding part_at
   part_end l = standing_end l 0
 
@@ -193,19 +204,19 @@ module _ (sep : ℕ) where
   join_more p q ps = refl
 
   -- of any parts that are joined: part k, where there is one, lies within the whole and is what the whole has there
-  pub joined_part : (at : ℕ) (ps : List (List ℕ)) (k s e : ℕ) → standing at ps k ≡ At s e
+  pub joined_part : (at : ℕ) (ps : List (List ℕ)) (k s e : ℕ) → standing at ps k ≡ from_to s e
       → (k < length ps) × (at ≤ s) × (s ≤ e) × (e ≤ at + length (join sep ps)) × (take (e - s) (drop (s - at) (join sep ps)) ≡ get_or ps k [])
   unfolding standing
   joined_part at [] k s e q = absurd (let z : ◌≡◌ {A = ℕ} 0 1 = cc in omega arith)
   joined_part at (p ∷ []) zero s e q =
-      let a = (at_same q).0 in
-      let b = (at_same q).1 in
+      let a = (part_same q).0 in
+      let b = (part_same q).1 in
       rw join_one
       (omega arith, omega arith, omega arith, omega arith, ap (λ (l : List ℕ). take (e - s) (drop (s - at) l)) (sym (append-nil p)) ∙ piece_front p [] at s e a b)
   joined_part at (p ∷ []) (suc k) s e q = absurd (let z : ◌≡◌ {A = ℕ} 0 1 = cc in omega arith)
   joined_part at (p ∷ p' ∷ ps) zero s e q =
-      let a = (at_same q).0 in
-      let b = (at_same q).1 in
+      let a = (part_same q).0 in
+      let b = (part_same q).1 in
       let n = length-append p (sep ∷ join sep (p' ∷ ps)) in
       rw join_more (omega arith, omega arith, omega arith, omega arith, piece_front p (sep ∷ join sep (p' ∷ ps)) at s e a b)
   joined_part at (p ∷ p' ∷ ps) (suc k) s e q =
@@ -218,14 +229,14 @@ module _ (sep : ℕ) where
       rw join_more (omega arith, omega arith, omega arith, omega arith, piece_behind p (join sep (p' ∷ ps)) sep at s e (omega arith) ∙ i.4)
 
   -- the last part, and it alone, ends where the whole does
-  pub joined_end : (at : ℕ) (ps : List (List ℕ)) (k s e : ℕ) → standing at ps k ≡ At s e
+  pub joined_end : (at : ℕ) (ps : List (List ℕ)) (k s e : ℕ) → standing at ps k ≡ from_to s e
       → ((k + 1 ≡ length ps) × (e ≡ at + length (join sep ps))) ⊎ ((k + 1 < length ps) × (e < at + length (join sep ps)))
   unfolding standing
   joined_end at [] k s e q = absurd (let z : ◌≡◌ {A = ℕ} 0 1 = cc in omega arith)
-  joined_end at (p ∷ []) zero s e q = let b = (at_same q).1 in rw join_one (inl (omega arith, omega arith))
+  joined_end at (p ∷ []) zero s e q = let b = (part_same q).1 in rw join_one (inl (omega arith, omega arith))
   joined_end at (p ∷ []) (suc k) s e q = absurd (let z : ◌≡◌ {A = ℕ} 0 1 = cc in omega arith)
   joined_end at (p ∷ p' ∷ ps) zero s e q =
-      let b = (at_same q).1 in
+      let b = (part_same q).1 in
       let n = length-append p (sep ∷ join sep (p' ∷ ps)) in
       rw join_more (inr (omega arith, omega arith))
   joined_end at (p ∷ p' ∷ ps) (suc k) s e q =
@@ -237,7 +248,7 @@ module _ (sep : ℕ) where
       (joined_end (at + length p + 1) (p' ∷ ps) k s e q))
 
   -- a part lies within the bytes, and its bytes are exactly those
-  pub part_bytes_lem : (l : List ℕ) (k s e : ℕ) → part_at sep l k ≡ At s e → (k < length (split sep l)) × (s ≤ e) × (e ≤ length l) × (take (e - s) (drop s l) ≡ get_or (split sep l) k [])
+  pub part_bytes_lem : (l : List ℕ) (k s e : ℕ) → part_at sep l k ≡ from_to s e → (k < length (split sep l)) × (s ≤ e) × (e ≤ length l) × (take (e - s) (drop s l) ≡ get_or (split sep l) k [])
   unfolding part_at
   part_bytes_lem l k s e q =
       let i = joined_part 0 (split sep l) k s e q in
@@ -247,13 +258,13 @@ module _ (sep : ℕ) where
       (i.0, i.2, omega arith, ap (λ (n : ℕ). take (e - s) (drop n l)) n ∙ i4)
 
 -- absent exactly past the last part
-pub standing_absent : (at : ℕ) (ps : List (List ℕ)) (k : ℕ) → length ps ≤ k → standing at ps k ≡ Absent
+pub standing_absent : (at : ℕ) (ps : List (List ℕ)) (k : ℕ) → length ps ≤ k → standing at ps k ≡ None
 unfolding standing
 standing_absent at [] k h = refl
 standing_absent at (p ∷ ps) zero h = absurd (omega arith)
 standing_absent at (p ∷ ps) (suc k) h = standing_absent (at + length p + 1) ps k (omega arith)
 
-pub absent_past : (at : ℕ) (ps : List (List ℕ)) (k : ℕ) → standing at ps k ≡ Absent → length ps ≤ k
+pub absent_past : (at : ℕ) (ps : List (List ℕ)) (k : ℕ) → standing at ps k ≡ None → length ps ≤ k
 unfolding standing
 absent_past at [] k q = omega arith
 absent_past at (p ∷ ps) zero q = absurd (let z : ◌≡◌ {A = ℕ} 0 1 = cc in omega arith)
@@ -319,7 +330,7 @@ past_none [] k h = refl
 past_none (p ∷ ps) zero h = absurd (omega arith)
 past_none (p ∷ ps) (suc k) h = past_none ps k (omega arith)
 
-pub none_past : (sep : ℕ) (l : List ℕ) (k : ℕ) → part_at sep l k ≡ Absent → length (split sep l) ≤ k
+pub none_past : (sep : ℕ) (l : List ℕ) (k : ℕ) → part_at sep l k ≡ None → length (split sep l) ≤ k
 unfolding part_at
 none_past sep l k q = absent_past 0 (split sep l) k q
 

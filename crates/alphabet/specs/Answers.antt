@@ -1,14 +1,11 @@
--- The paper's number of each refusal, checks made one after another, and the answer that goes back.
-use Rattle.std.specs.Prelude.{ℕ, List, [], ◌∷◌, Bool, cond}
+-- The paper's number of each refusal, and checks made one after another.
+use Rattle.std.specs.Prelude.{ℕ, List, [], ◌∷◌, Bool, cond, Result, Ok, Err}
 use Rattle.alphabet.specs.declared.answers.Refusal.{Refusal}
-use Rattle.alphabet.specs.declared.answers.Refusal.TheVariants.{None, Length, Header, Delimiter, NotAllowed, NotEnded, SegmentName, SecondHeader, TooManySegments, NotAcknowledgeable, AcknowledgementTooLong, Separator, UnknownEscape, UnclosedEscape, NoRoom, NullText, CallersTime, CallersId, Address, NoStructure, SegmentMisplaced, EndedEarly, RequiredMissing, BreaksForm, NotListed, RequiredNull, ValueWithoutType, Repeated, ValueTooLong, StructureName, BrokenFrame, FrameTooLong, Layout, BookVersion, BookMalformed, BookHeader, WrongCount, BrokenBatch}
-use Rattle.alphabet.specs.declared.answers.Check.{Check}
-use Rattle.alphabet.specs.declared.answers.Check.TheVariants.{Passes, Fails}
-use Rattle.alphabet.specs.declared.answers.Answer.{Answer}
+use Rattle.alphabet.specs.declared.answers.Refusal.TheVariants.{Length, Header, Delimiter, NotAllowed, NotEnded, SegmentName, SecondHeader, TooManySegments, NotAcknowledgeable, AcknowledgementTooLong, Separator, UnknownEscape, UnclosedEscape, NoRoom, NullText, CallersTime, CallersId, Address, NoStructure, SegmentMisplaced, EndedEarly, RequiredMissing, BreaksForm, NotListed, RequiredNull, ValueWithoutType, Repeated, ValueTooLong, StructureName, BrokenFrame, FrameTooLong, Layout, BookVersion, BookMalformed, BookHeader, WrongCount, BrokenBatch}
+use Rattle.alphabet.specs.declared.answers.Fault.{Fault}
 
 -- 'Numbers given back': the number of each case
 abbrev pub number_of : Refusal → ℕ
-number_of None = 0
 number_of Length = 1
 number_of Header = 2
 number_of Delimiter = 3
@@ -47,20 +44,35 @@ number_of BookHeader = 52
 number_of WrongCount = 60
 number_of BrokenBatch = 61
 
+-- what goes back: what was asked for, or the first fault and its place
+abbrev pub Refusable : Type 0 → Type 0
+Refusable T = Result T Fault
+
+-- what a check finds: nothing wrong, or the first fault
+abbrev pub Check : Type 0
+Check = Refusable (Unit {0})
+
+abbrev pub passes : Check
+passes = Ok tt
+
+-- a refusal and its place
+abbrev pub fails : {T : Type 0} → Refusal → ℕ → Refusable T
+fails kind place = Err (record { kind = kind; place = place })
+
 -- a check that fails where its test holds
 abbrev pub fails_if : Bool → Refusal → ℕ → Check
-fails_if test kind place = cond test (Fails kind place) Passes
+fails_if test kind place = cond test (fails kind place) passes
 
 -- "in order": the first check that fails decides
 abbrev pub or_else : Check → Check → Check
-or_else (Fails kind place) later = Fails kind place
-or_else Passes later = later
+or_else (Err fault) later = Err fault
+or_else (Ok _) later = later
 
 abbrev pub in_order : List Check → Check
-in_order [] = Passes
+in_order [] = passes
 in_order (c ∷ later) = or_else c (in_order later)
 
--- "A refusal gives number and place, length 0"; what is accepted gives 0, 0 and 0
-abbrev pub answered : Check → Answer
-answered Passes = record { kind = None; place = 0; length = 0 }
-answered (Fails kind place) = record { kind = kind; place = place; length = 0 }
+-- the number that is given back: 0 where nothing is refused
+abbrev pub number_given : {T : Type 0} → Refusable T → ℕ
+number_given (Ok _) = 0
+number_given (Err fault) = number_of fault.kind

@@ -1,10 +1,7 @@
 -- How bytes fall into parts at a separator, and where each part stands. One definition for every level.
-use Rattle.std.specs.Prelude.{ℕ, zero, suc, ◌+◌, List, [], ◌∷◌, ◌++◌, Bool, cond, length, drop, eqb}
+use Rattle.std.specs.Prelude.{ℕ, zero, suc, ◌+◌, List, [], ◌∷◌, ◌++◌, Bool, cond, length, drop, eqb, Option, Some, None}
 use Rattle.alphabet.specs.Lists.{first}
 use Rattle.alphabet.specs.declared.parts.Part.{Part}
-use Rattle.alphabet.specs.declared.parts.Part.TheVariants.{At, Absent}
-use Rattle.alphabet.specs.declared.parts.Start.{Start}
-use Rattle.alphabet.specs.declared.parts.Start.TheVariants.{From, Missing}
 
 -- the first of some parts with one byte more in front
 abbrev pub grown : ℕ → List (List ℕ) → List (List ℕ)
@@ -22,22 +19,26 @@ join sep [] = []
 join sep (p ∷ []) = p
 join sep (p ∷ q ∷ ps) = p ++ sep ∷ join sep (q ∷ ps)
 
+-- a part that is there, from `start` up to and without `end`
+abbrev pub from_to : ℕ → ℕ → Option Part
+from_to start end = Some (record { start = start; end = end })
+
 -- where part k stands, if the first of the parts stands at `at` and one byte stands between each and the next
-unfoldable pub standing : ℕ → List (List ℕ) → ℕ → Part
-standing at [] k = Absent
-standing at (p ∷ ps) zero = At at (at + length p)
+unfoldable pub standing : ℕ → List (List ℕ) → ℕ → Option Part
+standing at [] k = None
+standing at (p ∷ ps) zero = from_to at (at + length p)
 standing at (p ∷ ps) (suc k) = standing (at + length p + 1) ps k
 
--- where part k of the bytes stands; "absent, past the last part"
-unfoldable pub part_at : ℕ → List ℕ → ℕ → Part
+-- where part k of the bytes stands; none, "absent, past the last part"
+unfoldable pub part_at : ℕ → List ℕ → ℕ → Option Part
 part_at sep bytes k = standing 0 (split sep bytes) k
 
 -- where a part begins
-abbrev pub began : Part → Start
-began (At s e) = From s
-began Absent = Missing
+abbrev pub began : Option Part → Option ℕ
+began (Some part) = Some part.start
+began None = None
 
 -- for private functions alone: the part that begins there and goes on up to the first byte that ends it
-abbrev pub ended_by : (ℕ → Bool) → List ℕ → Start → Part
-ended_by ends bytes (From start) = At start (start + first ends (drop start bytes))
-ended_by ends bytes Missing = Absent
+abbrev pub ended_by : (ℕ → Bool) → List ℕ → Option ℕ → Option Part
+ended_by ends bytes (Some start) = from_to start (start + first ends (drop start bytes))
+ended_by ends bytes None = None

@@ -1,5 +1,5 @@
 // What every other crate shares: what a byte may be, the five delimiters, the refusals and the
-// answer that carries one, the limits, how bytes fall into parts at a separator, and how a buffer is filled.
+// fault that carries one, the limits, how bytes fall into parts at a separator, and how a buffer is filled.
 #![tactic(auto)]
 
 mod answers;
@@ -10,7 +10,7 @@ mod hex;
 mod limits;
 mod parts;
 
-pub use answers::{Answer, Check, Refusal, answer_of, fails_if, number, or_else};
+pub use answers::{Fault, Refusal, fails_if};
 pub use bytes::{
     BLOCK, CARRIAGE_RETURN, byte_at, find, first_not_allowed, hex_digit, hex_value, is_allowed,
     is_capital, is_digit, is_null, is_printable, is_without, same,
@@ -19,4 +19,4 @@ pub use delimiters::{Delimiters, first_wrong_delimiter, is_permitted};
 pub use filling::{put, put_long};
 pub use hex::all_hex;
 pub use limits::{id_limit, message_limit, segment_limit};
-pub use parts::{Part, Start, nth_part};
+pub use parts::{Part, nth_part};
