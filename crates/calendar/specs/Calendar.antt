@@ -1,10 +1,7 @@
 -- What was sent of a time, and what may stand there, by document 01, 'Numbers and times': "A time keeps how much was
 -- sent; a month not sent is not month 0."
-use Rattle.std.specs.Prelude.{ℕ, ◌%◌, Bool, true, cond, not, ◌&&◌, ◌||◌, leb, eqb}
+use Rattle.std.specs.Prelude.{ℕ, ◌%◌, Bool, true, cond, not, ◌&&◌, ◌||◌, leb, eqb, Option, None, Some, unwrap_or}
 use Rattle.alphabet.specs.Bytes.{from_to}
-use Rattle.calendar.specs.declared.figures.Figure.{Figure}
-use Rattle.calendar.specs.declared.figures.Figure.TheVariants.{NotSent, Sent}
-use Rattle.calendar.specs.declared.figures.Sign.{Sign}
 use Rattle.calendar.specs.declared.figures.Date.{Date}
 use Rattle.calendar.specs.declared.figures.Clock.{Clock}
 use Rattle.calendar.specs.declared.figures.Offset.{Offset}
@@ -13,26 +10,19 @@ use Rattle.calendar.specs.declared.figures.Time.{Time}
 -- ---- nothing was sent
 
 abbrev pub no_date : Date
-no_date = record { year = NotSent; month = NotSent; day = NotSent }
+no_date = record { year = None; month = None; day = None }
 
 abbrev pub no_clock : Clock
-no_clock = record { hour = NotSent; minute = NotSent; second = NotSent; fraction = NotSent; digits = 0 }
-
-abbrev pub no_offset : Offset
-no_offset = record { sign = Sign.NotSent; hours = 0; minutes = 0 }
-
-abbrev pub no_time : Time
-no_time = record { date = no_date; clock = no_clock; offset = no_offset }
+no_clock = record { hour = None; minute = None; second = None; fraction = None }
 
 -- ---- what may stand there
 
-abbrev pub in_range : ℕ → ℕ → Figure → Bool
-in_range least most NotSent = true
-in_range least most (Sent n) = from_to least most n
+abbrev pub in_range : ℕ → ℕ → Option ℕ → Bool
+in_range least most None = true
+in_range least most (Some n) = from_to least most n
 
-abbrev pub number_in : Figure → ℕ
-number_in NotSent = 0
-number_in (Sent n) = n
+abbrev pub number_in : Option ℕ → ℕ
+number_in figure = unwrap_or figure 0
 
 -- "Gregorian leap rule"
 abbrev pub leap : ℕ → Bool
@@ -54,8 +44,9 @@ unfoldable pub valid_clock : Clock → Bool
 valid_clock c = in_range 0 23 c.hour && (in_range 0 59 c.minute && in_range 0 59 c.second)
 
 -- "offset hours 00-14 and offset minutes 00-59"
-abbrev pub valid_offset : Offset → Bool
-valid_offset o = leb o.hours 14 && leb o.minutes 59
+abbrev pub valid_offset : Option Offset → Bool
+valid_offset None = true
+valid_offset (Some o) = leb o.hours 14 && leb o.minutes 59
 
 abbrev pub valid_time : Time → Bool
 valid_time t = valid_date t.date && (valid_clock t.clock && valid_offset t.offset)

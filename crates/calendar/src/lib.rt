@@ -5,4 +5,4 @@ mod dates;
 mod figures;
 
 pub use dates::{is_date, is_offset, is_time};
-pub use figures::{Clock, Date, Figure, Offset, Sign, Time, no_clock, no_date, no_offset, no_time};
+pub use figures::{Clock, Date, Fraction, Offset, Sign, Time};
