@@ -10,13 +10,12 @@ use lib.Dec.{leb, ltb, eqb}
 use lib.ListN.{length, get_or, length-append}
 use lib.Seq.{get_or-append-add}
 use borrow.Author.Tests.{leb-true, leb-false, ltb-true, ltb-false, eqb-true, eqb-false, not-false, le-leb, le-ltb, lt-ltb, eq-eqb, ne_eqb}
-use Rattle.alphabet.specs.Answers.{fails_if, in_order}
+use Rattle.alphabet.specs.Answers.{fails_if, in_order, passes}
 use Rattle.alphabet.specs.Bytes.{carriage_return, allowed, not_allowed}
 use Rattle.alphabet.specs.Delimiters.{first_wrong_delimiter}
 use Rattle.alphabet.specs.Limits.{message_limit, segment_limit}
 use Rattle.alphabet.specs.Lists.{first}
 use Rattle.alphabet.specs.Parts.{grown, split}
-use Rattle.alphabet.specs.declared.answers.Check.TheVariants.{Passes}
 use Rattle.alphabet.specs.declared.answers.Refusal.TheVariants.{Length, Header, Delimiter, NotAllowed, NotEnded, SegmentName, SecondHeader, TooManySegments}
 use Rattle.alphabet.proofs.BoolLaws.{and_both, both_and, or_neither, neither_or}
 use Rattle.alphabet.proofs.CheckLaws.{both_pass, passes_if, passes_not, passes_or}
@@ -93,18 +92,18 @@ pub record Sound (sep k : ℕ) (s : List ℕ) : Type 0 where
   pub well_named : named sep s ≡ true
   pub no_second : 0 < k → is_header s ≡ false
 
-sound : (sep k at : ℕ) (s : List ℕ) → segment_check sep k at s ≡ Passes → Sound sep k s
+sound : (sep k at : ℕ) (s : List ℕ) → segment_check sep k at s ≡ passes → Sound sep k s
 sound sep k at s e =
     let a = both_pass (fails_if (eqb k segment_limit) TooManySegments at) _ e in
     let b = both_pass (fails_if (not (named sep s)) SegmentName at) _ a.1 in
-    let c = both_pass (fails_if (ltb 0 k && is_header s) SecondHeader at) Passes b.1 in
+    let c = both_pass (fails_if (ltb 0 k && is_header s) SecondHeader at) passes b.1 in
     record {
       below = eqb-false k segment_limit (passes_not _ TooManySegments at a.0);
       well_named = not-false (named sep s) (passes_not _ SegmentName at b.0);
       no_second = λ h. ap (λ (t : Bool). t && is_header s) (sym (lt-ltb 0 k h)) ∙ passes_not (ltb 0 k && is_header s) SecondHeader at c.0;
     }
 
-checks_sound : (sep k at : ℕ) (ss : List (List ℕ)) → in_order (segment_checks sep k at ss) ≡ Passes → (j : ℕ) → j < length ss → Sound sep (k + j) (get_or ss j [])
+checks_sound : (sep k at : ℕ) (ss : List (List ℕ)) → in_order (segment_checks sep k at ss) ≡ passes → (j : ℕ) → j < length ss → Sound sep (k + j) (get_or ss j [])
 unfolding segment_checks
 checks_sound sep k at [] e j h = absurd (omega arith)
 checks_sound sep k at (s ∷ ss) e zero h =
@@ -114,7 +113,7 @@ checks_sound sep k at (s ∷ ss) e (suc j) h =
     subst (λ (i : ℕ). Sound sep i (get_or ss j [])) n
     (checks_sound sep (k + 1) (at + length s + 1) ss (both_pass (segment_check sep k at s) _ e).1 j (omega arith))
 
-passing : (sep k at : ℕ) (s : List ℕ) → Sound sep k s → segment_check sep k at s ≡ Passes
+passing : (sep k at : ℕ) (s : List ℕ) → Sound sep k s → segment_check sep k at s ≡ passes
 passing sep k at s h =
     let again = not_both (ltb 0 k) (is_header s) (λ e. h.no_second (ltb-true 0 k e)) in
     let first = passes_if (ne_eqb k segment_limit h.below) TooManySegments at in
@@ -122,7 +121,7 @@ passing sep k at s h =
     let third = passes_if again SecondHeader at in
     rw (first, second, third)
 
-checks_pass : (sep k at : ℕ) (ss : List (List ℕ)) → ((j : ℕ) → j < length ss → Sound sep (k + j) (get_or ss j [])) → in_order (segment_checks sep k at ss) ≡ Passes
+checks_pass : (sep k at : ℕ) (ss : List (List ℕ)) → ((j : ℕ) → j < length ss → Sound sep (k + j) (get_or ss j [])) → in_order (segment_checks sep k at ss) ≡ passes
 unfolding segment_checks
 checks_pass sep k at [] h = refl
 checks_pass sep k at (s ∷ ss) h =
@@ -133,13 +132,13 @@ checks_pass sep k at (s ∷ ss) h =
 
 -- ---- checks 1 to 4 pass, and `Opened`
 
-pub opened_if : (m : List ℕ) → opening m ≡ Passes → Opened m
+pub opened_if : (m : List ℕ) → opening m ≡ passes → Opened m
 unfolding opening
 opened_if m e =
     let a = both_pass (length_check m) _ e in
     let b = both_pass (header_check m) _ a.1 in
     let c = both_pass (delimiter_check m) _ b.1 in
-    let d = both_pass (byte_check m) Passes c.1 in
+    let d = both_pass (byte_check m) passes c.1 in
     let size = or_neither (eqb (length m) 0) (ltb message_limit (length m)) (passes_not _ Length 0 a.0) in
     let head = and_both (leb 9 (length m)) _ (not-false (headed m) (passes_not _ Header 0 b.0)) in
     let name = and_both (is_header m) _ head.1 in
@@ -156,7 +155,7 @@ opened_if m e =
       all_allowed = λ i h. not-false (allowed (get_or m i 0)) (first_before not_allowed m i (omega arith));
     }
 
-pub opening_if : (m : List ℕ) → Opened m → opening m ≡ Passes
+pub opening_if : (m : List ℕ) → Opened m → opening m ≡ passes
 unfolding opening
 opening_if m o =
     let lengths = neither_or (ne_eqb (length m) 0 (λ z. let s = o.some_bytes in omega arith)) (le-ltb message_limit (length m) o.most_bytes) in
@@ -173,12 +172,12 @@ opening_if m o =
 
 -- ---- all checks pass, and `Message`
 
-pub accepted : (m : List ℕ) → reading m ≡ Passes → Message m
+pub accepted : (m : List ℕ) → reading m ≡ passes → Message m
 unfolding reading segments_check segments
 accepted m e =
     let a = both_pass (opening m) _ e in
     let b = both_pass (end_check m) _ a.1 in
-    let c = both_pass (segments_check m) Passes b.1 in
+    let c = both_pass (segments_check m) passes b.1 in
     let o = opened_if m a.0 in
     let some = o.some_bytes in
     let last = not-false (eqb (get_or m (length m - 1) 0) carriage_return) (passes_not _ NotEnded (length m - 1) b.0) in
@@ -199,7 +198,7 @@ pub message_last : (m : List ℕ) → Message m → get_or m (length m - 1) 0 �
 message_last m g =
     subst (λ (x : List ℕ). get_or x (length x - 1) 0 ≡ carriage_return) g.all_ended (ended_last (segments m) g.some_segments).1
 
-pub accepting : (m : List ℕ) → Message m → reading m ≡ Passes
+pub accepting : (m : List ℕ) → Message m → reading m ≡ passes
 unfolding reading segments_check
 accepting m g =
     let last = message_last m g in

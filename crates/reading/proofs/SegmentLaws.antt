@@ -9,13 +9,11 @@ use Prim.Native.Nat.{ℕ, zero, suc, ◌+◌, ◌-◌, ◌≤◌, ◌<◌}
 use native.Mathlib.Omega.{arith}
 use lib.ListN.{length, get_or, take, drop, length-drop}
 use lib.Seq.{length-take-le, get_or-drop}
+use Rattle.std.specs.Prelude.{None, Some, Option}
 use Rattle.alphabet.specs.Bytes.{carriage_return}
 use Rattle.alphabet.specs.Lists.{find}
-use Rattle.alphabet.specs.Parts.{split, standing, part_at, began, ended_by}
+use Rattle.alphabet.specs.Parts.{split, standing, part_at, began, ended_by, from_to}
 use Rattle.alphabet.specs.declared.parts.Part.{Part}
-use Rattle.alphabet.specs.declared.parts.Part.TheVariants.{At, Absent}
-use Rattle.alphabet.specs.declared.parts.Start.{Start}
-use Rattle.alphabet.specs.declared.parts.Start.TheVariants.{From, Missing}
 use Rattle.alphabet.proofs.ListLaws.{first_least}
 use Rattle.alphabet.proofs.PartLaws.{split_walk, split_last, split_cons, split_some, join_split, joined_end, standing_absent, absent_past, part_bytes_lem, part_end}
 use Rattle.reading.specs.Segments.{all_but_last, segments, segment_at}
@@ -46,22 +44,22 @@ but_last_standing at (p ∷ q ∷ ps) zero h = rw (but_last_cons p (q ∷ ps) (o
 but_last_standing at (p ∷ q ∷ ps) (suc k) h =
     rw (but_last_cons p (q ∷ ps) (omega arith)) (but_last_standing (at + length p + 1) (q ∷ ps) k (omega arith))
 
-but_last_absent : (at : ℕ) (ps : List (List ℕ)) (k : ℕ) → 1 ≤ length ps → length ps ≤ k + 1 → standing at (all_but_last ps) k ≡ Absent
+but_last_absent : (at : ℕ) (ps : List (List ℕ)) (k : ℕ) → 1 ≤ length ps → length ps ≤ k + 1 → standing at (all_but_last ps) k ≡ None
 but_last_absent at [] k h l = absurd (omega arith)
 but_last_absent at (p ∷ ps) k h l = let n = but_last_length p ps in standing_absent at (all_but_last (p ∷ ps)) k (omega arith)
 
 -- ---- where segment k stands, from where part k stands
 
 module _ (m : List ℕ) (k : ℕ) where
-  segment_absent : part_at carriage_return m k ≡ Absent → segment_at m k ≡ Absent
+  segment_absent : part_at carriage_return m k ≡ None → segment_at m k ≡ None
   unfolding segment_at segments part_at
   segment_absent q =
       let h = absent_past 0 (split carriage_return m) k q in
       but_last_absent 0 (split carriage_return m) k (split_some carriage_return m) (omega arith)
 
-  module _ (s e : ℕ) (q : part_at carriage_return m k ≡ At s e) where
+  module _ (s e : ℕ) (q : part_at carriage_return m k ≡ from_to s e) where
     -- what ends where the message ends is behind the last CR
-    segment_none : e ≡ length m → segment_at m k ≡ Absent
+    segment_none : e ≡ length m → segment_at m k ≡ None
     unfolding segment_at segments part_at
     segment_none h =
         let j = ap length (join_split carriage_return m) in
@@ -72,7 +70,7 @@ module _ (m : List ℕ) (k : ℕ) where
         (joined_end carriage_return 0 (split carriage_return m) k s e q) in
         but_last_absent 0 (split carriage_return m) k (split_some carriage_return m) l
 
-    pub segment_some : (e ≡ length m → ⊥) → segment_at m k ≡ At s e
+    pub segment_some : (e ≡ length m → ⊥) → segment_at m k ≡ from_to s e
     unfolding segment_at segments part_at
     segment_some h =
         let j = ap length (join_split carriage_return m) in
@@ -98,32 +96,32 @@ module _ (m : List ℕ) (start : ℕ) where
       sym (lt-ltb (start + find carriage_return (drop start m)) (length m) (omega arith))
 
 -- from where part k begins, and so does the segment, if it is ended
-began_absent : (p : Part) → began p ≡ Missing → p ≡ Absent
-began_absent Absent e = refl
-began_absent (At a b) e = absurd (let z : ◌≡◌ {A = ℕ} 0 1 = cc in omega arith)
+began_absent : (p : Option Part) → began p ≡ None → p ≡ None
+began_absent None e = refl
+began_absent (Some part) e = absurd (let z : ◌≡◌ {A = ℕ} 0 1 = cc in omega arith)
 
-module _ (m : List ℕ) (k : ℕ) (line : Start) (q : line ≡ began (part_at carriage_return m k)) where
-  pub start_none : line ≡ Missing → Missing ≡ began (segment_at m k)
+module _ (m : List ℕ) (k : ℕ) (line : Option ℕ) (q : line ≡ began (part_at carriage_return m k)) where
+  pub start_none : line ≡ None → None ≡ began (segment_at m k)
   start_none e = ap began (sym (segment_absent m k (began_absent (part_at carriage_return m k) (sym q ∙ e))))
 
-  module _ (s : ℕ) (e : line ≡ From s) where
-    stands : part_at carriage_return m k ≡ At s (s + find carriage_return (drop s m))
+  module _ (s : ℕ) (e : line ≡ Some s) where
+    stands : part_at carriage_return m k ≡ from_to s (s + find carriage_return (drop s m))
     stands = at (part_at carriage_return m k) refl
       where
-        at : (p : Part) → part_at carriage_return m k ≡ p → p ≡ At s (s + find carriage_return (drop s m))
-        at Absent r = absurd (let z : ◌≡◌ {A = ℕ} 0 1 = cc in omega arith)
-        at (At a b) r =
-            let h : a ≡ s = cc in
-            let n = part_end carriage_return m k a b r in
-            ap (At a) n ∙ ap (λ (x : ℕ). At x (x + find carriage_return (drop x m))) h
+        at : (p : Option Part) → part_at carriage_return m k ≡ p → p ≡ from_to s (s + find carriage_return (drop s m))
+        at None r = absurd (let z : ◌≡◌ {A = ℕ} 0 1 = cc in omega arith)
+        at (Some part) r =
+            let h : part.start ≡ s = cc in
+            let n = part_end carriage_return m k part.start part.end r in
+            ap (from_to part.start) n ∙ ap (λ (x : ℕ). from_to x (x + find carriage_return (drop x m))) h
 
-    pub start_open : ltb (s + find carriage_return (drop s m)) (length m) ≡ false → Missing ≡ began (segment_at m k)
+    pub start_open : ltb (s + find carriage_return (drop s m)) (length m) ≡ false → None ≡ began (segment_at m k)
     start_open f =
         let n = ltb-false (s + find carriage_return (drop s m)) (length m) f in
         let l = (part_bytes_lem carriage_return m k s _ stands).2 in
         ap began (sym (segment_none m k s _ stands (omega arith)))
 
-    pub start_ended : ltb (s + find carriage_return (drop s m)) (length m) ≡ true → From s ≡ began (segment_at m k)
+    pub start_ended : ltb (s + find carriage_return (drop s m)) (length m) ≡ true → Some s ≡ began (segment_at m k)
     start_ended f =
         let n = ltb-true (s + find carriage_return (drop s m)) (length m) f in
         ap began (sym (segment_some m k s _ stands (λ z. omega arith)))
@@ -138,33 +136,33 @@ but_last_get (p ∷ q ∷ ps) (suc k) h =
     ap (λ (l : List (List ℕ)). get_or l (suc k) []) (but_last_cons p (q ∷ ps) (omega arith)) ∙ but_last_get (q ∷ ps) k (omega arith)
 
 -- a segment stands where the part of its number stands, before the message's end
-pub segment_part : (m : List ℕ) (k s e : ℕ) → segment_at m k ≡ At s e → (part_at carriage_return m k ≡ At s e) × (e < length m)
+pub segment_part : (m : List ℕ) (k s e : ℕ) → segment_at m k ≡ from_to s e → (part_at carriage_return m k ≡ from_to s e) × (e < length m)
 segment_part m k s e q = at (part_at carriage_return m k) refl
   where
-    at : (p : Part) → part_at carriage_return m k ≡ p → (part_at carriage_return m k ≡ At s e) × (e < length m)
-    at Absent r = absurd (let n = segment_absent m k r in let z : ◌≡◌ {A = ℕ} 0 1 = cc in omega arith)
-    at (At a b) r =
-        let i = (part_bytes_lem carriage_return m k a b r).2 in
-        by (eqb b (length m)) refl i
+    at : (p : Option Part) → part_at carriage_return m k ≡ p → (part_at carriage_return m k ≡ from_to s e) × (e < length m)
+    at None r = absurd (let n = segment_absent m k r in let z : ◌≡◌ {A = ℕ} 0 1 = cc in omega arith)
+    at (Some part) r =
+        let i = (part_bytes_lem carriage_return m k part.start part.end r).2 in
+        by (eqb part.end (length m)) refl i
       where
-        by : (t : Bool) → eqb b (length m) ≡ t → b ≤ length m → (part_at carriage_return m k ≡ At s e) × (e < length m)
-        by true f i = absurd (let n = segment_none m k a b r (eqb-true b (length m) f) in let z : ◌≡◌ {A = ℕ} 0 1 = cc in omega arith)
+        by : (t : Bool) → eqb part.end (length m) ≡ t → part.end ≤ length m → (part_at carriage_return m k ≡ from_to s e) × (e < length m)
+        by true f i = absurd (let n = segment_none m k part.start part.end r (eqb-true part.end (length m) f) in let z : ◌≡◌ {A = ℕ} 0 1 = cc in omega arith)
         by false f i =
-            let h = eqb-false b (length m) f in
-            let n = segment_some m k a b r h in
-            let g : b ≡ e = cc in
+            let h = eqb-false part.end (length m) f in
+            let n = segment_some m k part.start part.end r h in
+            let g : part.end ≡ e = cc in
             (cc, omega arith)
 
 -- a segment ends at the first CR from its start on
 pub segment_stands : (m : List ℕ) (k : ℕ) → ended_by (eqb carriage_return) m (began (segment_at m k)) ≡ segment_at m k
 segment_stands m k = at (segment_at m k) refl
   where
-    at : (p : Part) → segment_at m k ≡ p → ended_by (eqb carriage_return) m (began p) ≡ p
-    at Absent q = refl
-    at (At s e) q = ap (At s) (sym (part_end carriage_return m k s e (segment_part m k s e q).0))
+    at : (p : Option Part) → segment_at m k ≡ p → ended_by (eqb carriage_return) m (began p) ≡ p
+    at None q = refl
+    at (Some part) q = ap (from_to part.start) (sym (part_end carriage_return m k part.start part.end (segment_part m k part.start part.end q).0))
 
 -- a part that ends before the message does is not the last
-not_last : (m : List ℕ) (k s e : ℕ) → part_at carriage_return m k ≡ At s e → e < length m → k + 1 < length (split carriage_return m)
+not_last : (m : List ℕ) (k s e : ℕ) → part_at carriage_return m k ≡ from_to s e → e < length m → k + 1 < length (split carriage_return m)
 unfolding part_at
 not_last m k s e q h =
     let j = ap length (join_split carriage_return m) in
@@ -175,7 +173,7 @@ but_last_count [] h = absurd (omega arith)
 but_last_count (p ∷ ps) h = let n = but_last_length p ps in omega arith
 
 -- its bytes are the segment's
-pub segment_bytes : (m : List ℕ) (k s e : ℕ) → segment_at m k ≡ At s e → (k < length (segments m)) × (s ≤ e) × (e < length m) × (take (e - s) (drop s m) ≡ get_or (segments m) k [])
+pub segment_bytes : (m : List ℕ) (k s e : ℕ) → segment_at m k ≡ from_to s e → (k < length (segments m)) × (s ≤ e) × (e < length m) × (take (e - s) (drop s m) ≡ get_or (segments m) k [])
 unfolding segments
 segment_bytes m k s e q =
     let p = segment_part m k s e q in
@@ -186,7 +184,7 @@ segment_bytes m k s e q =
     (omega arith, b.1, l, b.3 ∙ sym (but_last_get (split carriage_return m) k n))
 
 -- past the last segment none stands
-pub segment_past : (m : List ℕ) (k : ℕ) → segment_at m k ≡ Absent → length (segments m) ≤ k
+pub segment_past : (m : List ℕ) (k : ℕ) → segment_at m k ≡ None → length (segments m) ≤ k
 unfolding segment_at
 segment_past m k q = absent_past 0 (segments m) k q
 

@@ -1,11 +1,10 @@
 -- Numbers 1 to 8: "Reading checks 1 to 5 in order, then the segments."
 use Rattle.std.specs.Prelude.{ℕ, ◌+◌, ◌-◌, List, [], ◌∷◌, Bool, not, ◌&&◌, ◌||◌, length, get_or, leb, ltb, eqb}
-use Rattle.alphabet.specs.Answers.{fails_if, in_order}
+use Rattle.alphabet.specs.Answers.{fails_if, in_order, Check}
 use Rattle.alphabet.specs.Bytes.{carriage_return, not_allowed}
 use Rattle.alphabet.specs.Delimiters.{first_wrong_delimiter}
 use Rattle.alphabet.specs.Limits.{message_limit, segment_limit}
 use Rattle.alphabet.specs.Lists.{first}
-use Rattle.alphabet.specs.declared.answers.Check.{Check}
 use Rattle.alphabet.specs.declared.answers.Refusal.TheVariants.{Length, Header, Delimiter, NotAllowed, NotEnded, SegmentName, SecondHeader, TooManySegments}
 use Rattle.reading.specs.Segments.{segments, delimiters_of, field_separator, named, is_header}
 

@@ -1,5 +1,5 @@
 -- A message's segments and its delimiters, by document 01, 'Bytes and segments'.
-use Rattle.std.specs.Prelude.{ℕ, ◌+◌, ◌*◌, List, [], ◌∷◌, Bool, ◌&&◌, ◌||◌, length, get_or, eqb}
+use Rattle.std.specs.Prelude.{ℕ, ◌+◌, ◌*◌, List, [], ◌∷◌, Bool, ◌&&◌, ◌||◌, length, get_or, eqb, Option}
 use Prim.Native.String.{String}
 use Rattle.alphabet.specs.Bytes.{ascii, byte_of, carriage_return, capital, digit}
 use Rattle.alphabet.specs.Parts.{split, standing}
@@ -16,7 +16,7 @@ unfoldable pub segments : List ℕ → List (List ℕ)
 segments m = all_but_last (split carriage_return m)
 
 -- where segment k, from 0, stands; its CR is the byte behind it
-unfoldable pub segment_at : List ℕ → ℕ → Part
+unfoldable pub segment_at : List ℕ → ℕ → Option Part
 segment_at m k = standing 0 (segments m) k
 
 -- "Byte 3 is the field separator; bytes 4 to 7 are component, repetition, escape and subcomponent separator."

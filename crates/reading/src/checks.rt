@@ -6,7 +6,7 @@ ghost use Rattle.reading.specs.Segments.{capital_or_digit, is_header, named};
 ghost use Rattle.reading.specs.Reading.{length_check, headed, header_check, delimiter_check, byte_check, opening, end_check, segment_check, segments_check};
 
 use crate::segments::{delimiters_of, segment_end};
-use alphabet::{Check, Refusal};
+use alphabet::{Fault, Refusal};
 
 // The first three bytes are `MSH`.
 fn is_header(segment: &[u8]) -> bool
@@ -61,7 +61,7 @@ fn is_headed(message: &[u8]) -> bool
         & (is_header(message) & ((eighth == separator) | (eighth == alphabet::CARRIAGE_RETURN)))
 }
 
-fn check_length(message: &[u8]) -> Check
+fn check_length(message: &[u8]) -> Result<(), Fault>
     ensures { result ≡ length_check message.now }
 {
     let most = alphabet::message_limit();
@@ -69,20 +69,20 @@ fn check_length(message: &[u8]) -> Check
     alphabet::fails_if(outside, Refusal::Length, 0)
 }
 
-fn check_header(message: &[u8]) -> Check
+fn check_header(message: &[u8]) -> Result<(), Fault>
     ensures { result ≡ header_check message.now }
 {
     alphabet::fails_if(!is_headed(message), Refusal::Header, 0)
 }
 
-fn check_delimiters(message: &[u8]) -> Check
+fn check_delimiters(message: &[u8]) -> Result<(), Fault>
     ensures { result ≡ delimiter_check message.now }
 {
     let wrong = alphabet::first_wrong_delimiter(delimiters_of(message));
     alphabet::fails_if(wrong < 5, Refusal::Delimiter, 3 + wrong)
 }
 
-fn check_bytes(message: &[u8]) -> Check
+fn check_bytes(message: &[u8]) -> Result<(), Fault>
     ensures { result ≡ byte_check message.now }
 {
     let place = alphabet::first_not_allowed(message);
@@ -90,26 +90,18 @@ fn check_bytes(message: &[u8]) -> Check
 }
 
 // Checks 1 to 4, in order.
-pub fn check_opening(message: &[u8]) -> Check
+#[tactic(auto, unfolding(crate::specs::Reading::opening))]
+pub fn check_opening(message: &[u8]) -> Result<(), Fault>
     ensures { result ≡ opening message.now }
 {
-    let length = check_length(message);
-    let Check::Passes = length else {
-        return length;
-    };
-    let header = check_header(message);
-    let Check::Passes = header else {
-        return header;
-    };
-    let delimiters = check_delimiters(message);
-    let Check::Passes = delimiters else {
-        return delimiters;
-    };
+    check_length(message)?;
+    check_header(message)?;
+    check_delimiters(message)?;
     check_bytes(message)
 }
 
 // Check 5.
-pub fn check_end(message: &[u8]) -> Check
+pub fn check_end(message: &[u8]) -> Result<(), Fault>
     ensures { result ≡ end_check message.now }
 {
     let length = message.len();
@@ -123,28 +115,33 @@ pub fn check_end(message: &[u8]) -> Check
 }
 
 // Checks 6 to 8 of the segment of a number, from 0, that begins at `start`.
-pub fn check_segment(segment: &[u8], separator: u8, number: usize, start: usize) -> Check
+pub fn check_segment(
+    segment: &[u8],
+    separator: u8,
+    number: usize,
+    start: usize,
+) -> Result<(), Fault>
     ensures { result ≡ segment_check separator number start segment.now }
 {
     let most = alphabet::segment_limit();
     if number == most {
-        return Check::Fails {
+        return Err(Fault {
             kind: Refusal::TooManySegments,
             place: start,
-        };
+        });
     }
     if !is_named(segment, separator) {
-        return Check::Fails {
+        return Err(Fault {
             kind: Refusal::SegmentName,
             place: start,
-        };
+        });
     }
     let again = (0 < number) & is_header(segment);
     alphabet::fails_if(again, Refusal::SecondHeader, start)
 }
 
 // Checks 6 to 8 of every segment, from the left, up to the first fault.
-pub fn check_segments(message: &[u8]) -> Check
+pub fn check_segments(message: &[u8]) -> Result<(), Fault>
     ensures { result ≡ segments_check message.now }
 {
     let separator = alphabet::byte_at(message, 3);
@@ -153,25 +150,19 @@ pub fn check_segments(message: &[u8]) -> Check
     while start < message.len() {
         let end = segment_end(message, start);
         if end == message.len() {
-            return Check::Passes;
+            return Ok(());
         }
-        let found = check_segment(&message[start..end], separator, number, start);
-        let Check::Passes = found else {
-            return found;
-        };
+        check_segment(&message[start..end], separator, number, start)?;
         start = end + 1;
         number += 1;
     }
-    Check::Passes
+    Ok(())
 }
 
 // Check 5, then 6 to 8.
-pub fn check_rest(message: &[u8]) -> Check
+pub fn check_rest(message: &[u8]) -> Result<(), Fault>
     ensures { result ≡ in_order (end_check message.now ∷ segments_check message.now ∷ []) }
 {
-    let end = check_end(message);
-    let Check::Passes = end else {
-        return end;
-    };
+    check_end(message)?;
     check_segments(message)
 }

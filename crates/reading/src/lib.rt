@@ -6,27 +6,17 @@ mod checks;
 mod segments;
 
 ghost use Rattle.std.specs.Prelude.{◌≡◌};
-ghost use Rattle.alphabet.specs.Answers.{answered};
 ghost use Rattle.reading.specs.Reading.{reading};
 
-use alphabet::{Answer, Check};
+use alphabet::Fault;
 pub use checks::{check_end, check_opening, check_segment, check_segments};
 pub use segments::{delimiters_of, name_of, segment_at, segment_end, segment_start};
 
-// Accepts a message, or refuses it with its first fault and the place.
-pub fn read(message: &[u8]) -> Answer
-    ensures { result ≡ answered (reading message.now) }
-{
-    alphabet::answer_of(check_message(message))
-}
-
-// The same as a check, for the judges that go on from it.
-pub fn check_message(message: &[u8]) -> Check
+// Accepts a message, or refuses it with its first fault.
+#[tactic(auto, unfolding(crate::specs::Reading::reading))]
+pub fn read(message: &[u8]) -> Result<(), Fault>
     ensures { result ≡ reading message.now }
 {
-    let opening = checks::check_opening(message);
-    let Check::Passes = opening else {
-        return opening;
-    };
+    checks::check_opening(message)?;
     checks::check_rest(message)
 }

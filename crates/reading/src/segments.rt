@@ -5,7 +5,7 @@ ghost use Rattle.alphabet.specs.Lists.{find};
 ghost use Rattle.alphabet.specs.Parts.{part_at, began};
 ghost use Rattle.reading.specs.Segments.{delimiters_of, segment_at, name_of};
 
-use alphabet::{Delimiters, Part, Start};
+use alphabet::{Delimiters, Part};
 
 // Bytes 3 to 7; 0 stands for a byte that is not there, and 0 is no delimiter.
 pub fn delimiters_of(message: &[u8]) -> Delimiters
@@ -33,20 +33,18 @@ pub fn segment_end(message: &[u8], start: usize) -> usize
 }
 
 // Where the part of the given index, from 0, of the bytes split at CR begins; each CR is sought as what stands far off.
-fn line_start(message: &[u8], index: usize) -> Start
+fn line_start(message: &[u8], index: usize) -> Option<usize>
     ensures { result ≡ began (part_at carriage_return message.now index) }
 {
     let mut begin = 0;
-    let mut passed = 0;
-    while passed < index {
+    for _ in 0..index {
         let end = segment_end(message, begin);
         if message.len() <= end {
-            return Start::Missing;
+            return None;
         }
         begin = end + 1;
-        passed += 1;
     }
-    Start::From { start: begin }
+    Some(begin)
 }
 
 // Whether a CR stands at `start` or behind. A message that was read ends in CR: its last byte tells, and none is sought.
@@ -63,35 +61,24 @@ fn is_ended(message: &[u8], start: usize) -> bool
 }
 
 // Where the segment of the given index, from 0, begins. What stands behind the last CR is no segment.
-pub fn segment_start(message: &[u8], index: usize) -> Start
+pub fn segment_start(message: &[u8], index: usize) -> Option<usize>
     ensures { result ≡ began (segment_at message.now index) }
 {
-    let line = line_start(message, index);
-    let Start::From { start } = line else {
-        return Start::Missing;
-    };
+    let start = line_start(message, index)?;
     if is_ended(message, start) {
-        line
+        Some(start)
     } else {
-        Start::Missing
+        None
     }
 }
 
 // Where the segment of the given index, from 0, stands, without its CR.
-pub fn segment_at(message: &[u8], index: usize) -> Part
+pub fn segment_at(message: &[u8], index: usize) -> Option<Part>
     ensures { result ≡ segment_at message.now index }
 {
-    let segment = segment_start(message, index);
-    match segment {
-        Start::From { start } => {
-            let end = segment_end(message, start);
-            Part::At {
-                start: start,
-                end: end,
-            }
-        }
-        Start::Missing => Part::Absent,
-    }
+    let start = segment_start(message, index)?;
+    let end = segment_end(message, start);
+    Some(Part { start, end })
 }
 
 // The name of a segment, its first three bytes, as one number in base 256.

@@ -2,10 +2,9 @@ use Prim.Native.Nat.{ℕ, ◌≤◌, ◌-◌}
 use mathlib.Core.Path.{◌≡◌}
 use mathlib.Core.List.{List}
 use lib.ListN.{length, drop}
-use Rattle.alphabet.specs.Answers.{in_order}
+use Rattle.alphabet.specs.Answers.{in_order, Check}
 use Rattle.alphabet.specs.Bytes.{carriage_return}
 use Rattle.alphabet.specs.Parts.{split}
-use Rattle.alphabet.specs.declared.answers.Check.{Check}
 use Rattle.reading.specs.Segments.{all_but_last}
 use Rattle.reading.specs.Reading.{segment_checks, segments_check}
 use Rattle.reading.proofs.checks.check_segments.Given as goal

@@ -5,10 +5,7 @@ use Rattle.alphabet.specs.Bytes.{carriage_return}
 use Rattle.alphabet.specs.Parts.{split, standing, part_at}
 use Rattle.reading.proofs.segments.line_start.Given as goal
 
-abbrev pub invariant-loop-passed : goal.invariant-loop-passed
-invariant-loop-passed l =
-    (l.begin ≤ length l.message) × (l.passed ≤ l.begin) × (l.passed ≤ l.index)
-    × (part_at carriage_return l.message l.index ≡ standing l.begin (split carriage_return (drop l.begin l.message)) (l.index - l.passed))
-
-abbrev pub decreases-loop-passed : goal.decreases-loop-passed
-decreases-loop-passed l = length l.message - l.begin
+abbrev pub invariant-loop : goal.invariant-loop
+invariant-loop l =
+    (l.begin ≤ length l.message)
+    × (part_at carriage_return l.message l.index ≡ standing l.begin (split carriage_return (drop l.begin l.message)) (l.index - l.counter))

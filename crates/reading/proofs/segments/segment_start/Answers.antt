@@ -3,17 +3,17 @@ use mathlib.Core.Path.{sym, ◌∙◌}
 use Rattle.reading.proofs.SegmentLaws.{start_none, start_open, start_ended}
 use Rattle.reading.proofs.segments.segment_start.Goals as goal
 
-pub returns-in_default : goal.returns-in_default
-returns-in_default c =
+pub returns-in_err-start : goal.returns-in_err-start
+returns-in_err-start c =
     let a = c.args in
-    start_none a.message.now a.index _ c.line_start-line.ensures c.in_default.is
+    c.from_residual.ensures ∙ start_none a.message.now a.index _ c.line_start.ensures c.in_err-start.was
 
 pub returns-then-is_ended : goal.returns-then-is_ended
 returns-then-is_ended c =
     let a = c.args in
-    start_ended a.message.now a.index _ c.line_start-line.ensures _ c.in-From.is (sym c.is_ended.ensures ∙ c.if-is_ended.true)
+    start_ended a.message.now a.index _ c.line_start.ensures _ c.in_ok-start.was (sym c.is_ended.ensures ∙ c.if-is_ended.true)
 
 pub returns-else-is_ended : goal.returns-else-is_ended
 returns-else-is_ended c =
     let a = c.args in
-    start_open a.message.now a.index _ c.line_start-line.ensures _ c.in-From.is (sym c.is_ended.ensures ∙ c.if-is_ended.false)
+    start_open a.message.now a.index _ c.line_start.ensures _ c.in_ok-start.was (sym c.is_ended.ensures ∙ c.if-is_ended.false)
