@@ -1,6 +1,6 @@
 -- What a judge answers, by document 01, 'Numbers given back': number and place; "segment, field and repetition for 31
 -- to 37 in the field judge"; and for 21 and 22 what could have stood there.
-use Rattle.std.specs.Prelude.{ℕ, ◌-◌, Bool, false, List, [], ◌++◌, length, replicate}
+use Rattle.std.specs.Prelude.{ℕ, ◌-◌, Bool, false, List, [], ◌++◌, length, replicate, Result}
 use Rattle.alphabet.specs.declared.answers.Refusal.{Refusal}
 use Rattle.fault.specs.declared.Names.{Names}
 use Rattle.fault.specs.declared.FaultRecord.{FaultRecord}
@@ -8,6 +8,10 @@ use Rattle.fault.specs.declared.FaultRecord.{FaultRecord}
 -- a list of names, by value: the names, and zeros behind them
 abbrev pub name_list : List ℕ → Names
 name_list l = record { list = l ++ replicate (64 - length l) 0; count = length l }
+
+-- what a judge answers: nothing is wrong, or the first fault
+abbrev pub Judgement : Type 0
+Judgement = Result (Unit {0}) FaultRecord
 
 -- a fault of the structure: whether the message could have ended at the place, and the names that could have stood
 -- there
@@ -18,6 +22,6 @@ at_place kind place ends list = record { kind = kind; place = place; field = 0; 
 abbrev pub at_field : Refusal → ℕ → ℕ → ℕ → FaultRecord
 at_field kind segment field repetition = record { kind = kind; place = segment; field = field; repetition = repetition; could_end = false; names = name_list [] }
 
--- what has a place and no field, or is accepted
+-- what has a place and no field
 abbrev pub plain : Refusal → ℕ → FaultRecord
 plain kind place = at_field kind place 0 0
