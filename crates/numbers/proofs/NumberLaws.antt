@@ -1,6 +1,9 @@
 -- Laws of NM and SI: what a check that passes says of the digits, and how large the number can be. Assumes nothing.
 use mathlib.Core.Path.{◌≡◌, refl, sym, ap, subst, ◌∙◌}
 use mathlib.Core.List.{List, [], ◌∷◌}
+use Rattle.std.specs.Prelude.{Ok, Err}
+use Rattle.std.specs.Bool.{MatchBool}
+use Rattle.std.specs.List.{AllWithin, HoldsAt}
 use mathlib.Core.Bool.{Bool, true, false, not, ◌&&◌, ◌||◌}
 use Prim.Native.Nat.{ℕ, zero, suc, ◌+◌, ◌^◌, ◌≤◌, ◌<◌}
 use native.Mathlib.Nat.{one-mul, pow-le-pow_right, lt_of_lt_of_le}
@@ -17,20 +20,38 @@ use borrow.Author.Rules.{sfits_of}
 use borrow.Author.Tests.{le-leb, le-ltb, lt-ltb, ltb-false, leb-true, not-false, eq-eqb, ne_eqb}
 use native.Mathlib.Decide.{dec_lt}
 use mathlib.Core.Logic.{⊎_elim}
-use Rattle.alphabet.specs.Answers.{fails_if}
+use Rattle.alphabet.specs.Answers.{passes, fails_if}
+use Rattle.alphabet.specs.declared.answers.Fault.{Fault}
 use Rattle.alphabet.specs.Bytes.{digit}
 use Rattle.alphabet.specs.Digits.{all_digits, counted, decimal}
 use Rattle.alphabet.specs.Lists.{find}
-use Rattle.alphabet.specs.declared.answers.Check.{Check}
-use Rattle.alphabet.specs.declared.answers.Check.TheVariants.{Passes, Fails}
-use Rattle.alphabet.specs.declared.answers.Refusal.{Refusal}
-use Rattle.alphabet.specs.declared.answers.Refusal.TheVariants.{None, BreaksForm, ValueTooLong}
+use Rattle.alphabet.specs.declared.answers.Refusal.TheVariants.{BreaksForm, ValueTooLong}
 use Rattle.alphabet.proofs.BoolLaws.{and_both, both_and, false_true}
 use Rattle.alphabet.proofs.CheckLaws.{both_pass, passes_not}
-use Rattle.alphabet.proofs.DigitLaws.{counted_append, counted_below, digits_append, digits_end, digits_next}
+use Rattle.alphabet.proofs.DigitLaws.{counted_append, counted_below, digits_append, digits_drop, digits_end, digits_next, digits_not}
 use Rattle.alphabet.proofs.ListLaws.{first_le, first_none, first_passes, first_reached}
 use Rattle.numbers.specs.Plain.{Leads, PlainNumber}
 use Rattle.numbers.specs.Numbers.{some_digits, is_sign, unsigned, before_point, has_point, fraction, nm_form, nm_digits, most_digits, nm_check, signed, is_negative, nm_value, nm_read, is_si, si_value, si_read}
+
+-- ---- digits
+
+-- a list of which each byte is a digit
+digits_from : (l : List ℕ) (count i : ℕ) → length l ≤ i + count → ((j : ℕ) → i ≤ j → j < length l → digit (get_or l j 0) ≡ true) → all_digits (drop i l) ≡ true
+digits_from l zero i h d = digits_end l i (omega arith)
+digits_from l (suc count) i h d = at (digits_from l count (i + 1) (omega arith) (λ j a b. d j (omega arith) b)) (dec_lt i (length l))
+  where
+    at : all_digits (drop (i + 1) l) ≡ true → Dec (i < length l) → all_digits (drop i l) ≡ true
+    at later (yes g) = digits_next l i g (d i (omega arith) g) ∙ later
+    at later (no g) = digits_end l i (omega arith)
+
+-- what a look at each byte tells: all are digits, or one is none
+pub all_told : (r : Bool) (l : List ℕ) → MatchBool r (AllWithin (λ b. digit b ≡ true) l 0 (length l)) ((i : ℕ) × (i < length l) × HoldsAt (λ b. digit b ≡ false) l i) → r ≡ all_digits l
+all_told true l h = sym (digits_from l (length l) 0 (omega arith) (λ j a b. h j 0 a b))
+all_told false l h = at (all_digits l) refl
+  where
+    at : (t : Bool) → all_digits l ≡ t → false ≡ t
+    at true q = absurd (false_true (sym (digits_not l h.0 h.1 (h.2 0)) ∙ digits_drop h.0 l q))
+    at false q = refl
 
 -- ---- the sign
 
@@ -49,21 +70,24 @@ unsigned_none (b ∷ r) h = absurd (omega arith)
 
 -- ---- the parts
 
+pub point_within : (l : List ℕ) → find 46 l ≤ length l
+point_within = first_le (eqb 46)
+
 pub point_length : (l : List ℕ) → length (before_point l) ≡ find 46 l
-point_length l = length-take-le (find 46 l) l (first_le (eqb 46) l)
+point_length l = length-take-le (find 46 l) l (point_within l)
 
 -- an NM that passes: digits before and behind the point, at most so many
-pub nm_form_lem : (l : List ℕ) → nm_check l ≡ Passes → nm_form l ≡ true
+pub nm_form_lem : (l : List ℕ) → nm_check l ≡ passes → nm_form l ≡ true
 unfolding nm_check
 nm_form_lem l e = not-false (nm_form l) (passes_not _ BreaksForm 0 (both_pass (fails_if (not (nm_form l)) BreaksForm 0) _ e).0)
 
-pub nm_short : (l : List ℕ) → nm_check l ≡ Passes → length (nm_digits l) ≤ most_digits
+pub nm_short : (l : List ℕ) → nm_check l ≡ passes → length (nm_digits l) ≤ most_digits
 unfolding nm_check
 nm_short l e =
     ltb-false most_digits (length (nm_digits l))
-    (passes_not _ ValueTooLong 0 (both_pass (fails_if (ltb most_digits (length (nm_digits l))) ValueTooLong 0) Passes (both_pass (fails_if (not (nm_form l)) BreaksForm 0) _ e).1).0)
+    (passes_not _ ValueTooLong 0 (both_pass (fails_if (ltb most_digits (length (nm_digits l))) ValueTooLong 0) passes (both_pass (fails_if (not (nm_form l)) BreaksForm 0) _ e).1).0)
 
-pub nm_before : (l : List ℕ) → nm_check l ≡ Passes → all_digits (before_point (unsigned l)) ≡ true
+pub nm_before : (l : List ℕ) → nm_check l ≡ passes → all_digits (before_point (unsigned l)) ≡ true
 unfolding nm_form
 nm_before l e = (and_both (leb 1 (length (before_point (unsigned l)))) (all_digits (before_point (unsigned l))) (and_both (some_digits (before_point (unsigned l))) _ (nm_form_lem l e)).0).1
 
@@ -78,20 +102,11 @@ fraction_digits l e = at (has_point l) refl e
         let k : length l ≤ find 46 l + 1 = omega arith in
         rw (drop_of_length-le l k)
 
-pub nm_fraction : (l : List ℕ) → nm_check l ≡ Passes → all_digits (fraction (unsigned l)) ≡ true
+pub nm_fraction : (l : List ℕ) → nm_check l ≡ passes → all_digits (fraction (unsigned l)) ≡ true
 unfolding nm_form
 nm_fraction l e = fraction_digits (unsigned l) (and_both (some_digits (before_point (unsigned l))) _ (nm_form_lem l e)).1
 
 -- ---- a number that is seen at once to be one
-
--- a list of which each byte is a digit
-digits_from : (l : List ℕ) (count i : ℕ) → length l ≤ i + count → ((j : ℕ) → i ≤ j → j < length l → digit (get_or l j 0) ≡ true) → all_digits (drop i l) ≡ true
-digits_from l zero i h d = digits_end l i (omega arith)
-digits_from l (suc count) i h d = at (digits_from l count (i + 1) (omega arith) (λ j a b. d j (omega arith) b)) (dec_lt i (length l))
-  where
-    at : all_digits (drop (i + 1) l) ≡ true → Dec (i < length l) → all_digits (drop i l) ≡ true
-    at later (yes g) = digits_next l i g (d i (omega arith) g) ∙ later
-    at later (no g) = digits_end l i (omega arith)
 
 leading : (l : List ℕ) (n : ℕ) → Leads l n → all_digits (take n l) ≡ true
 leading l n d =
@@ -166,7 +181,7 @@ module _ (l : List ℕ) (p : PlainNumber (unsigned l)) where
       let f = first_le (eqb 46) u in
       omega arith
 
-  pub plain_passes : nm_check l ≡ Passes
+  pub plain_passes : nm_check l ≡ passes
   unfolding nm_check
   plain_passes = rw (plain_form, le-ltb most_digits (length (nm_digits l)) plain_short)
 
@@ -176,7 +191,7 @@ module _ (l : List ℕ) (p : PlainNumber (unsigned l)) where
 pub short_below : (l : List ℕ) → all_digits l ≡ true → length l ≤ 18 → decimal l < 10 ^ 18
 short_below l e h = lt_of_lt_of_le (counted_below 0 l e) (rw (one-mul (10 ^ length l)) (pow-le-pow_right (omega arith) h))
 
-pub nm_below : (l : List ℕ) → nm_check l ≡ Passes → counted (decimal (before_point (unsigned l))) (fraction (unsigned l)) < 10 ^ 18
+pub nm_below : (l : List ℕ) → nm_check l ≡ passes → counted (decimal (before_point (unsigned l))) (fraction (unsigned l)) < 10 ^ 18
 nm_below l e =
     let both : (all_digits (before_point (unsigned l)) && all_digits (fraction (unsigned l))) ≡ true = both_and (nm_before l e) (nm_fraction l e) in
     let d = digits_append (before_point (unsigned l)) (fraction (unsigned l)) ∙ both in
@@ -210,24 +225,24 @@ pub nm_value_lem : (l : List ℕ) → nm_value l ≡ signed (is_negative l) (cou
 unfolding nm_value
 nm_value_lem l = ap (signed (is_negative l)) (counted_append 0 (before_point (unsigned l)) (fraction (unsigned l)))
 
-pub nm_fits : (l : List ℕ) → nm_check l ≡ Passes → SFits w64 (nm_value l)
+pub nm_fits : (l : List ℕ) → nm_check l ≡ passes → SFits w64 (nm_value l)
 nm_fits l e = subst (SFits w64) (sym (nm_value_lem l)) (signed_fits (is_negative l) _ (nm_below l e))
 
 -- ---- what is read, case by case
 
-pub nm_read_lem : (l : List ℕ) (c : Check) → c ≡ nm_check l → c ≡ Passes → nm_read l ≡ record { kind = None; value = nm_value l; decimals = length (fraction (unsigned l)) }
+pub nm_read_lem : (l : List ℕ) → nm_check l ≡ passes → nm_read l ≡ Ok (record { value = nm_value l; decimals = length (fraction (unsigned l)) })
 unfolding nm_read
-nm_read_lem l c e f = rw (← e, f)
+nm_read_lem l e = rw e
 
-pub nm_refused : (l : List ℕ) (c : Check) (kind : Refusal) (place : ℕ) → c ≡ nm_check l → c ≡ Fails kind place → nm_read l ≡ record { kind = kind; value = pos 0; decimals = 0 }
+pub nm_refused : (l : List ℕ) (f : Fault) → nm_check l ≡ Err f → nm_read l ≡ Err f.kind
 unfolding nm_read
-nm_refused l c kind place e f = rw (← e, f)
+nm_refused l f e = rw e
 
-pub si_read_lem : (l : List ℕ) → is_si l ≡ true → si_read l ≡ record { kind = None; value = pos (decimal l); decimals = 0 }
+pub si_read_lem : (l : List ℕ) → is_si l ≡ true → si_read l ≡ Ok (record { value = pos (decimal l); decimals = 0 })
 unfolding si_read
 si_read_lem l e = rw e
 
-pub si_refused : (l : List ℕ) → is_si l ≡ false → si_read l ≡ record { kind = BreaksForm; value = pos 0; decimals = 0 }
+pub si_refused : (l : List ℕ) → is_si l ≡ false → si_read l ≡ Err BreaksForm
 unfolding si_read
 si_refused l e = rw e
 

@@ -1,13 +1,12 @@
 -- NM and SI, by document 01, 'Numbers and times'.
-use Rattle.std.specs.Prelude.{ℕ, ◌+◌, List, [], ◌∷◌, ◌++◌, Bool, cond, not, ◌&&◌, ◌||◌, leb, ltb, eqb, ℤ, pos, neg_ℤ, length, get_or, take, drop}
-use Rattle.alphabet.specs.Answers.{fails_if, in_order}
+use Rattle.std.specs.Prelude.{ℕ, ◌+◌, Result, Ok, Err, List, [], ◌∷◌, ◌++◌, Bool, cond, not, ◌&&◌, ◌||◌, leb, ltb, eqb, ℤ, pos, neg_ℤ, length, get_or, take, drop}
+use Rattle.alphabet.specs.Answers.{Check, fails_if, in_order}
 use Rattle.alphabet.specs.Bytes.{byte_of}
 use Rattle.alphabet.specs.Digits.{all_digits, decimal}
 use Rattle.alphabet.specs.Lists.{find}
-use Rattle.alphabet.specs.declared.answers.Check.{Check}
-use Rattle.alphabet.specs.declared.answers.Check.TheVariants.{Passes, Fails}
-use Rattle.alphabet.specs.declared.answers.Refusal.TheVariants.{None, BreaksForm, ValueTooLong}
-use Rattle.numbers.specs.declared.numerals.ReadNumber.{ReadNumber}
+use Rattle.alphabet.specs.declared.answers.Refusal.{Refusal}
+use Rattle.alphabet.specs.declared.answers.Refusal.TheVariants.{BreaksForm, ValueTooLong}
+use Rattle.numbers.specs.declared.numerals.Number.{Number}
 
 -- one or more digits
 abbrev pub some_digits : List ℕ → Bool
@@ -60,11 +59,12 @@ signed negative n = cond negative (neg_ℤ (pos n)) (pos n)
 unfoldable pub nm_value : List ℕ → ℤ
 nm_value l = signed (is_negative l) (decimal (nm_digits l))
 
-abbrev pub number_if : Check → ℤ → ℕ → ReadNumber
-number_if Passes value decimals = record { kind = None; value = value; decimals = decimals }
-number_if (Fails kind place) value decimals = record { kind = kind; value = pos 0; decimals = 0 }
+-- the number where the check passes, and else its refusal
+abbrev pub number_if : Check → ℤ → ℕ → Result Number Refusal
+number_if (Ok _) value decimals = Ok (record { value = value; decimals = decimals })
+number_if (Err fault) value decimals = Err fault.kind
 
-unfoldable pub nm_read : List ℕ → ReadNumber
+unfoldable pub nm_read : List ℕ → Result Number Refusal
 nm_read l = number_if (nm_check l) (nm_value l) (length (fraction (unsigned l)))
 
 -- "SI: one to four digits."
@@ -75,5 +75,5 @@ is_si l = some_digits l && leb (length l) 4
 unfoldable pub si_value : List ℕ → ℕ
 si_value l = cond (is_si l) (decimal l) 0
 
-unfoldable pub si_read : List ℕ → ReadNumber
+unfoldable pub si_read : List ℕ → Result Number Refusal
 si_read l = number_if (fails_if (not (is_si l)) BreaksForm 0) (pos (decimal l)) 0

@@ -7,35 +7,14 @@ ghost use Rattle.numbers.specs.Plain.{Leads};
 pub fn is_digits(bytes: &[u8]) -> bool
     ensures { result ≡ all_digits bytes.now }
 {
-    let mut i = 0;
-    while i < bytes.len() {
-        if !alphabet::is_digit(bytes[i]) {
-            return false;
-        }
-        i += 1;
-    }
-    true
+    bytes.iter().all(|b| alphabet::is_digit(*b))
 }
 
 // How many digits bytes begin with.
 pub fn leading_digits(bytes: &[u8]) -> usize
     ensures { Leads bytes.now result }
 {
-    let mut i = 0;
-    while i < bytes.len() {
-        if !alphabet::is_digit(bytes[i]) {
-            break;
-        }
-        i += 1;
-    }
-    i
-}
-
-// A byte as a wider number. By a call of its own the cast asks no proof that the byte fits.
-fn wide(byte: u8) -> u64
-    ensures { result ≡ byte }
-{
-    byte as u64
+    bytes.iter().take_while(|b| alphabet::is_digit(**b)).count()
 }
 
 // The number that is written by the digits of `number` and those that follow.
@@ -45,11 +24,8 @@ pub fn count_on(number: u64, bytes: &[u8]) -> u64
     ensures { result ≡ counted number bytes.now }
 {
     let mut n = number;
-    let mut i = 0;
-    while i < bytes.len() {
-        let digit = wide(bytes[i]) - 48;
-        n = n * 10 + digit;
-        i += 1;
+    for b in bytes {
+        n = n * 10 + u64::from(*b - b'0');
     }
     n
 }

@@ -8,4 +8,4 @@ mod numerals;
 
 pub use digits::is_digits;
 pub use marks::find_mark;
-pub use numerals::{ReadNumber, before_point, check_nm, is_si, read_nm, read_si, si_value};
+pub use numerals::{Number, before_point, check_nm, is_si, read_nm, read_si, si_value};

@@ -1,20 +1,19 @@
 // NM, a signed whole number and a count of decimals, and SI, one to four digits.
 ghost use Rattle.std.specs.Prelude.{◌≡◌, true, ◌<◌, ◌^◌};
-ghost use Rattle.alphabet.specs.declared.answers.Check.TheVariants.{Passes};
+ghost use Rattle.alphabet.specs.Answers.{passes};
 ghost use Rattle.numbers.specs.Plain.{PlainNumber};
 ghost use Rattle.numbers.specs.Numbers.{some_digits, unsigned, before_point, fraction, signed, nm_check, nm_value, nm_read, is_si, si_value, si_read};
 
 use crate::digits::{count_on, is_digits, leading_digits};
 use crate::marks::find_mark;
-use alphabet::{Check, Refusal};
+use alphabet::{Fault, Refusal};
 
 // The most digits of an NM that we read.
 const MOST_DIGITS: usize = 18;
 
-// What bytes say as a number: the refusal, or the number. A whole number has no decimals.
+// A number, and how many of its digits are decimals: `4.0` has one, and a whole number none.
 #[derive(Clone, Copy)]
-pub struct ReadNumber {
-    pub kind: Refusal,
+pub struct Number {
     pub value: i64,
     pub decimals: usize,
 }
@@ -30,15 +29,11 @@ fn is_some_digits(bytes: &[u8]) -> bool
 fn without_sign(bytes: &[u8]) -> &[u8]
     ensures { result.now ≡ unsigned bytes.now }
 {
-    if bytes.len() == 0 {
+    let Some((first, body)) = bytes.split_first() else {
         return bytes;
-    }
-    let first = bytes[0];
-    let sign = (first == b'+') | (first == b'-');
-    if sign {
-        return &bytes[1..];
-    }
-    bytes
+    };
+    let sign = (*first == b'+') | (*first == b'-');
+    if sign { body } else { bytes }
 }
 
 // What stands before the point, or all where there is none.
@@ -50,6 +45,7 @@ pub fn before_point(bytes: &[u8]) -> &[u8]
 }
 
 // What stands behind the point, or nothing where there is none.
+#[tactic(auto, using(crate::proofs::NumberLaws::point_within))]
 fn fraction_of(bytes: &[u8]) -> &[u8]
     ensures { result.now ≡ fraction bytes.now }
 {
@@ -83,22 +79,20 @@ fn is_usual(body: &[u8]) -> bool
 }
 
 // Number 32 for bytes that are no NM, 37 for one of more digits than we read.
-pub fn check_nm(bytes: &[u8]) -> Check
+pub fn check_nm(bytes: &[u8]) -> Result<(), Fault>
     ensures { result ≡ nm_check bytes.now }
 {
     let body = without_sign(bytes);
     if is_usual(body) {
-        return Check::Passes;
+        return Ok(());
     }
     let before = before_point(body);
     let fraction = fraction_of(body);
     let point = before.len() < body.len();
     let form = is_some_digits(before) & (!point | is_some_digits(fraction));
     let digits = before.len() + fraction.len();
-    alphabet::or_else(
-        alphabet::fails_if(!form, Refusal::BreaksForm, 0),
-        alphabet::fails_if(MOST_DIGITS < digits, Refusal::ValueTooLong, 0),
-    )
+    alphabet::fails_if(!form, Refusal::BreaksForm, 0)?;
+    alphabet::fails_if(MOST_DIGITS < digits, Refusal::ValueTooLong, 0)
 }
 
 // A number with its sign applied; minus zero is zero.
@@ -112,7 +106,7 @@ fn signed_number(negative: bool, number: u64) -> i64
 
 // The number of an NM that was checked.
 fn nm_value(bytes: &[u8]) -> i64
-    requires { nm_check bytes.now ≡ Passes }
+    requires { nm_check bytes.now ≡ passes }
     ensures { result ≡ nm_value bytes.now }
 {
     let body = without_sign(bytes);
@@ -123,30 +117,21 @@ fn nm_value(bytes: &[u8]) -> i64
 }
 
 // The number that bytes say as an NM, or why they say none.
-pub fn read_nm(bytes: &[u8]) -> ReadNumber
+pub fn read_nm(bytes: &[u8]) -> Result<Number, Refusal>
     ensures { result ≡ nm_read bytes.now }
 {
-    let check = check_nm(bytes);
-    match check {
-        Check::Passes => {
+    match check_nm(bytes) {
+        Ok(()) => {
             let value = nm_value(bytes);
-            let body = without_sign(bytes);
-            let fraction = fraction_of(body);
-            ReadNumber {
-                kind: Refusal::None,
-                value: value,
-                decimals: fraction.len(),
-            }
+            let decimals = fraction_of(without_sign(bytes)).len();
+            Ok(Number { value, decimals })
         }
-        Check::Fails { kind, place: _ } => ReadNumber {
-            kind: kind,
-            value: 0,
-            decimals: 0,
-        },
+        Err(fault) => Err(fault.kind),
     }
 }
 
 // One to four digits.
+#[tactic(auto, unfolding(crate::specs::Numbers::is_si))]
 pub fn is_si(bytes: &[u8]) -> bool
     ensures { result ≡ is_si bytes.now }
 {
@@ -164,20 +149,12 @@ pub fn si_value(bytes: &[u8]) -> u64
 }
 
 // The number that bytes say as an SI, or why they say none.
-pub fn read_si(bytes: &[u8]) -> ReadNumber
+pub fn read_si(bytes: &[u8]) -> Result<Number, Refusal>
     ensures { result ≡ si_read bytes.now }
 {
     if !is_si(bytes) {
-        return ReadNumber {
-            kind: Refusal::BreaksForm,
-            value: 0,
-            decimals: 0,
-        };
+        return Err(Refusal::BreaksForm);
     }
-    let number = count_on(0, bytes);
-    ReadNumber {
-        kind: Refusal::None,
-        value: signed_number(false, number),
-        decimals: 0,
-    }
+    let value = signed_number(false, count_on(0, bytes));
+    Ok(Number { value, decimals: 0 })
 }

@@ -1,19 +1,15 @@
--- Rests on the laws of digits along the bytes.
-use mathlib.Core.Path.{sym, ◌∙◌}
-use Rattle.alphabet.proofs.DigitLaws.{digits_end, digits_next, digits_not}
-use native.Mathlib.Omega.{arith}
+-- Rests on what `all` gives: each byte is a digit, or one is none.
+use Rattle.std.proofs.Common.{rules}
+use borrow.Author.Tests.{tests}
+use mathlib.Core.Bool.{true, false}
+use mathlib.Core.Path.{◌≡◌}
+use Rattle.std.proofs.lemmas.Iterator.{cases_from_all, YieldsList-from_slice}
+use Rattle.alphabet.specs.Bytes.{digit}
+use Rattle.numbers.proofs.NumberLaws.{all_told}
 use Rattle.numbers.proofs.digits.is_digits.Goals as goal
-
-pub returns-then-not-is_digit : goal.returns-then-not-is_digit
-returns-then-not-is_digit c =
-    let s = c.args.bytes.now in
-    sym (c.loop-i.invariant.1 ∙ digits_not s c.loop-i.i (omega arith) (sym c.is_digit.ensures ∙ c.if-not-is_digit.true))
-
-pub loop-i-preserved : goal.loop-i-preserved
-loop-i-preserved c =
-    let s = c.args.bytes.now in
-    (omega arith, c.loop-i.invariant.1 ∙ digits_next s c.loop-i.i (omega arith) (sym c.is_digit.ensures ∙ c.if-not-is_digit.false))
 
 pub returns : goal.returns
 returns c =
-    sym (c.loop-i.invariant.1 ∙ digits_end c.args.bytes.now c.loop-i.i (omega arith))
+    let l = c.args.bytes.now in
+    all_told c.all.result l
+    (cases_from_all _ _ _ (λ b. digit b ≡ true) (λ b. digit b ≡ false) c.all.ensures.ran (YieldsList-from_slice l cc) (λ x q k. search (rules, tests)) (λ x q k. search (rules, tests)))
