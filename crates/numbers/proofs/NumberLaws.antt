@@ -114,14 +114,6 @@ leading l n d =
     let s = length-take-le n l i in
     digits_from (take n l) n 0 (omega arith) (λ j a b. ap digit (get_or-take n l j 0 (omega arith)) ∙ d.digits j (omega arith))
 
--- one digit on
-pub leads_next : (l : List ℕ) (n : ℕ) → Leads l n → n < length l → digit (get_or l n 0) ≡ true → Leads l (n + 1)
-leads_next l n d h e = record { inside = omega arith; digits = λ i g. at i g (dec_lt i n) }
-  where
-    at : (i : ℕ) → i < n + 1 → Dec (i < n) → digit (get_or l i 0) ≡ true
-    at i g (yes b) = d.digits i b
-    at i g (no b) = let q : i ≡ n = omega arith in ap (λ (k : ℕ). digit (get_or l k 0)) q ∙ e
-
 -- a digit is no point
 no_point : (b : ℕ) → digit b ≡ true → eqb 46 b ≡ false
 no_point b e = ne_eqb 46 b (λ q. let d = leb-true 48 b (and_both (leb 48 b) (leb b 57) e).0 in omega arith)
