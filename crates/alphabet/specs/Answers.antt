@@ -72,6 +72,11 @@ abbrev pub in_order : List Check → Check
 in_order [] = passes
 in_order (c ∷ later) = or_else c (in_order later)
 
+-- what is given where a check passes
+abbrev pub given : {T : Type 0} → Check → T → Refusable T
+given (Ok _) x = Ok x
+given (Err fault) x = Err fault
+
 -- the number that is given back: 0 where nothing is refused
 abbrev pub number_given : {T : Type 0} → Refusable T → ℕ
 number_given (Ok _) = 0

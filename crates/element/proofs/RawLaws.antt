@@ -7,11 +7,11 @@ use native.Mathlib.Omega.{arith}
 use lib.Dec.{leb}
 use lib.ListN.{length, get_or, take, drop, get_or-eq_default}
 use borrow.Author.Tests.{leb-true, leb-false, le-leb, lt-leb, ne_eqb}
-use Rattle.alphabet.specs.Parts.{split, standing, part_at}
+use Rattle.std.specs.Prelude.{None, Some, Option}
+use Rattle.alphabet.specs.Parts.{split, standing, part_at, from_to}
 use Rattle.alphabet.specs.declared.parts.Part.{Part}
-use Rattle.alphabet.specs.declared.parts.Part.TheVariants.{At, Absent}
 use Rattle.alphabet.proofs.ListLaws.{piece_of_piece}
-use Rattle.alphabet.proofs.PartLaws.{part_bytes_lem, absent_past}
+use Rattle.alphabet.proofs.PartLaws.{part_same, part_bytes_lem, absent_past}
 use Rattle.reading.specs.Segments.{delimiters_of, field_separator, segments, segment_at}
 use Rattle.reading.proofs.SegmentLaws.{segment_bytes, segment_past}
 use Rattle.element.specs.Levels.{between, moved, part_in, field_in, below, repetition_at, component_at, subcomponent_at, fixed, unsplit, element_at}
@@ -22,47 +22,48 @@ use Rattle.element.proofs.FindingLaws.{raw_short}
 use Rattle.element.proofs.LevelLaws.{Within, between_length, within_segment, within_field, within_in, field_header, field_other}
 
 -- absent means past the last part
-pub absent_means : (sep : ℕ) (m : List ℕ) (s e k : ℕ) → part_in sep m (At s e) k ≡ Absent → length (split sep (between m s e)) ≤ k
+pub absent_means : (sep : ℕ) (m : List ℕ) (s e k : ℕ) → part_in sep m (from_to s e) k ≡ None → length (split sep (between m s e)) ≤ k
 unfolding part_in part_at
 absent_means sep m s e k q = at (standing 0 (split sep (between m s e)) k) refl q
   where
-    at : (p : Part) → standing 0 (split sep (between m s e)) k ≡ p → moved s p ≡ Absent → length (split sep (between m s e)) ≤ k
-    at Absent r q = absent_past 0 (split sep (between m s e)) k r
-    at (At a b) r q = absurd (let z : ◌≡◌ {A = ℕ} 0 1 = cc in omega arith)
+    at : (p : Option Part) → standing 0 (split sep (between m s e)) k ≡ p → moved s p ≡ None → length (split sep (between m s e)) ≤ k
+    at None r q = absent_past 0 (split sep (between m s e)) k r
+    at (Some part) r q = absurd (let z : ◌≡◌ {A = ℕ} 0 1 = cc in omega arith)
 
 -- a part's bytes are exactly the part of the split
-pub part_means : (sep : ℕ) (m : List ℕ) (s e k b f : ℕ) → s ≤ e → e ≤ length m → part_in sep m (At s e) k ≡ At b f
+pub part_means : (sep : ℕ) (m : List ℕ) (s e k b f : ℕ) → s ≤ e → e ≤ length m → part_in sep m (from_to s e) k ≡ from_to b f
     → (s ≤ b) × (b ≤ f) × (f ≤ e) × (between m b f ≡ get_or (split sep (between m s e)) k [])
 unfolding part_in
 part_means sep m s e k b f h l q = at (part_at sep (between m s e) k) refl q
   where
-    at : (p : Part) → part_at sep (between m s e) k ≡ p → moved s p ≡ At b f → (s ≤ b) × (b ≤ f) × (f ≤ e) × (between m b f ≡ get_or (split sep (between m s e)) k [])
-    at Absent r q = absurd (let z : ◌≡◌ {A = ℕ} 0 1 = cc in omega arith)
-    at (At x y) r q =
-        let g : s + x ≡ b = cc in
-        let j : s + y ≡ f = cc in
-        let i = part_bytes_lem sep (between m s e) k x y r in
+    at : (p : Option Part) → part_at sep (between m s e) k ≡ p → moved s p ≡ from_to b f → (s ≤ b) × (b ≤ f) × (f ≤ e) × (between m b f ≡ get_or (split sep (between m s e)) k [])
+    at None r q = absurd (let z : ◌≡◌ {A = ℕ} 0 1 = cc in omega arith)
+    at (Some part) r q =
+        let both = part_same q in
+        let g : s + part.start ≡ b = both.0 in
+        let j : s + part.end ≡ f = both.1 in
+        let i = part_bytes_lem sep (between m s e) k part.start part.end r in
         let i1 = i.1 in
         let i2 = i.2 in
         let n = between_length m s e h l in
-        let w : f - b ≡ y - x = omega arith in (
+        let w : f - b ≡ part.end - part.start = omega arith in (
           omega arith,
           omega arith,
           omega arith,
-          ap (λ (z : ℕ). take z (drop b m)) w ∙ ap (λ (z : ℕ). take (y - x) (drop z m)) (sym g)
-              ∙ sym (piece_of_piece m s (e - s) x (y - x) (omega arith)) ∙ i.3,
+          ap (λ (z : ℕ). take z (drop b m)) w ∙ ap (λ (z : ℕ). take (part.end - part.start) (drop z m)) (sym g)
+              ∙ sym (piece_of_piece m s (e - s) part.start (part.end - part.start) (omega arith)) ∙ i.3,
         )
 
 -- a part's part, by its bytes
-pub part_in_bytes : (sep : ℕ) (m : List ℕ) (p : Part) (k : ℕ) → Within m p → part_bytes m (part_in sep m p k) ≡ get_or (split sep (part_bytes m p)) k []
+pub part_in_bytes : (sep : ℕ) (m : List ℕ) (p : Option Part) (k : ℕ) → Within m p → part_bytes m (part_in sep m p k) ≡ get_or (split sep (part_bytes m p)) k []
 unfolding part_in split
-part_in_bytes sep m Absent zero w = refl
-part_in_bytes sep m Absent (suc k) w = refl
-part_in_bytes sep m (At s e) k w = at (part_in sep m (At s e) k) refl
+part_in_bytes sep m None zero w = refl
+part_in_bytes sep m None (suc k) w = refl
+part_in_bytes sep m (Some part) k w = at (part_in sep m (from_to part.start part.end) k) refl
   where
-    at : (q : Part) → part_in sep m (At s e) k ≡ q → part_bytes m q ≡ get_or (split sep (between m s e)) k []
-    at Absent r = sym (get_or-eq_default (split sep (between m s e)) [] (absent_means sep m s e k r))
-    at (At b f) r = (part_means sep m s e k b f w.0 w.1 r).3
+    at : (q : Option Part) → part_in sep m (from_to part.start part.end) k ≡ q → part_bytes m q ≡ get_or (split sep (between m part.start part.end)) k []
+    at None r = sym (get_or-eq_default (split sep (between m part.start part.end)) [] (absent_means sep m part.start part.end k r))
+    at (Some piece) r = (part_means sep m part.start part.end k piece.start piece.end w.0 w.1 r).3
 
 module _ (m : List ℕ) (long : 4 ≤ length m) where
   -- field f of the segment of a number, whole
@@ -73,7 +74,7 @@ module _ (m : List ℕ) (long : 4 ≤ length m) where
   abbrev pub component : ℕ → ℕ → ℕ → Address
   component k f c = record { segment = k; field = f; repetition = 1; component = c; subcomponent = 0 }
 
-  abbrev field_part : ℕ → ℕ → Part
+  abbrev field_part : ℕ → ℕ → Option Part
   field_part k f = field_in m k (segment_at m k) f
 
   pub raw_whole : (k f : ℕ) → raw_bytes m (whole k f) ≡ part_bytes m (field_in m k (segment_at m k) f)
@@ -91,9 +92,9 @@ module _ (m : List ℕ) (long : 4 ≤ length m) where
   pub segment_part_bytes : (k : ℕ) → part_bytes m (segment_at m k) ≡ get_or (segments m) k []
   segment_part_bytes k = at (segment_at m k) refl
     where
-      at : (p : Part) → segment_at m k ≡ p → part_bytes m p ≡ get_or (segments m) k []
-      at Absent q = sym (get_or-eq_default (segments m) [] (segment_past m k q))
-      at (At s e) q = (segment_bytes m k s e q).3
+      at : (p : Option Part) → segment_at m k ≡ p → part_bytes m p ≡ get_or (segments m) k []
+      at None q = sym (get_or-eq_default (segments m) [] (segment_past m k q))
+      at (Some part) q = (segment_bytes m k part.start part.end q).3
 
   -- "fields 3, 4, ..": MSH's are counted from the separator itself
   pub raw_header : (f : ℕ) → (f ≡ 1 → ⊥) → raw_bytes m (whole 0 f) ≡ get_or (split (field_separator m) (get_or (segments m) 0 [])) (f - 1) []

@@ -2,50 +2,48 @@
 -- separator and ends at one more stop. Assumes nothing.
 use mathlib.Core.Path.{◌≡◌, refl, sym, ap, ◌∙◌}
 use mathlib.Core.List.{List, [], ◌∷◌, ◌++◌}
-use mathlib.Core.Bool.{Bool, true, false, cond, ◌||◌}
+use mathlib.Core.Bool.{Bool, true, false, cond, ◌&&◌, ◌||◌}
 use Prim.Native.Nat.{ℕ, zero, suc, ◌+◌, ◌-◌, ◌≤◌, ◌<◌}
 use native.Mathlib.Omega.{arith}
 use lib.Dec.{eqb, ltb, leb-suc-suc}
 use lib.ListN.{length, get_or, take, drop, length-append}
 use lib.Seq.{drop-drop, get_or-drop}
 use borrow.Author.Tests.{eqb-true, eqb-false, eq-eqb, ne_eqb, lt-ltb}
+use Rattle.std.specs.Prelude.{None, Some, Option}
 use Rattle.alphabet.specs.Bytes.{carriage_return}
 use Rattle.alphabet.specs.Lists.{first, find, among}
-use Rattle.alphabet.specs.Parts.{grown, split, standing, part_at, began, ended_by}
+use Rattle.alphabet.specs.Parts.{grown, split, standing, part_at, began, ended_by, from_to}
 use Rattle.alphabet.specs.declared.parts.Part.{Part}
-use Rattle.alphabet.specs.declared.parts.Part.TheVariants.{At, Absent}
-use Rattle.alphabet.specs.declared.parts.Start.{Start}
-use Rattle.alphabet.specs.declared.parts.Start.TheVariants.{From, Missing}
 use Rattle.alphabet.proofs.ListLaws.{drop_next, first_here, first_past, first_end, first_le, first_before}
 use Rattle.alphabet.proofs.PartLaws.{split_some, split_nothing, standing_first}
 use Rattle.reading.specs.Segments.{field_separator, segment_at}
 use Rattle.reading.proofs.SegmentLaws.{segment_stands}
 use Rattle.element.specs.Levels.{moved, part_in, field_at, below, repetition_at, component_at, subcomponent_at}
-use Rattle.element.specs.Ends.{or_at, level_ends, end_of, field_ends}
+use Rattle.element.specs.Ends.{or_at, level_ends, end_of, field_ends, field_index}
 use Rattle.element.specs.declared.address.Address.{Address}
-use Rattle.element.proofs.LevelLaws.{within_at, within_in, below_split}
+use Rattle.element.proofs.LevelLaws.{within_at, in_absent, within_in, field_part_lem, below_none, below_split}
 
 -- ---- parts that all stand further on
 
 standing_moved : (by at : ℕ) (ps : List (List ℕ)) (k : ℕ) → standing (by + at) ps k ≡ moved by (standing at ps k)
 unfolding standing
 standing_moved by at [] k = refl
-standing_moved by at (p ∷ ps) zero = let e : by + at + length p ≡ by + (at + length p) = omega arith in ap (At (by + at)) e
+standing_moved by at (p ∷ ps) zero = let e : by + at + length p ≡ by + (at + length p) = omega arith in ap (from_to (by + at)) e
 standing_moved by at (p ∷ ps) (suc k) =
     let e : by + at + length p + 1 ≡ by + (at + length p + 1) = omega arith in
     ap (λ (n : ℕ). standing n ps k) e ∙ standing_moved by (at + length p + 1) ps k
 
-moved_twice : (a b : ℕ) (p : Part) → moved a (moved b p) ≡ moved (a + b) p
-moved_twice a b Absent = refl
-moved_twice a b (At s e) =
-    let u : a + (b + s) ≡ a + b + s = omega arith in
-    let v : a + (b + e) ≡ a + b + e = omega arith in
+moved_twice : (a b : ℕ) (p : Option Part) → moved a (moved b p) ≡ moved (a + b) p
+moved_twice a b None = refl
+moved_twice a b (Some part) =
+    let u : a + (b + part.start) ≡ a + b + part.start = omega arith in
+    let v : a + (b + part.end) ≡ a + b + part.end = omega arith in
     cc
 
 -- ---- one byte of a part that is split: none is left, a separator, any other
 
 module _ (sep : ℕ) where
-  split_over : (k : ℕ) → part_at sep [] (suc k) ≡ Absent
+  split_over : (k : ℕ) → part_at sep [] (suc k) ≡ None
   unfolding part_at split standing
   split_over k = refl
 
@@ -79,19 +77,19 @@ module _ (sep : ℕ) (m : List ℕ) (ends : ℕ → Bool) where
   abbrev left : ℕ → List ℕ
   left i = take (first ends (drop i m)) (drop i m)
 
-  split_left : (i k : ℕ) → part_in sep m (ended_by ends m (From i)) k ≡ moved i (part_at sep (left i) k)
+  split_left : (i k : ℕ) → part_in sep m (ended_by ends m (Some i)) k ≡ moved i (part_at sep (left i) k)
   unfolding part_in
   split_left i k =
       let n : i + first ends (drop i m) - i ≡ first ends (drop i m) = omega arith in
       ap (λ (j : ℕ). moved i (part_at sep (take j (drop i m)) k)) n
 
-  nothing_left : (i k : ℕ) → first ends (drop i m) ≡ 0 → 0 < k → part_in sep m (ended_by ends m (From i)) k ≡ Absent
+  nothing_left : (i k : ℕ) → first ends (drop i m) ≡ 0 → 0 < k → part_in sep m (ended_by ends m (Some i)) k ≡ None
   nothing_left i zero e h = absurd (omega arith)
   nothing_left i (suc k) e h =
       split_left i (suc k) ∙ ap (λ (j : ℕ). moved i (part_at sep (take j (drop i m)) (suc k))) e ∙ ap (moved i) (split_over sep k)
 
   -- the part asked for begins here, and ends at the separator or where the whole does
-  pub walk_here : (i : ℕ) → part_in sep m (ended_by ends m (From i)) 0 ≡ ended_by (or_at sep ends) m (From i)
+  pub walk_here : (i : ℕ) → part_in sep m (ended_by ends m (Some i)) 0 ≡ ended_by (or_at sep ends) m (Some i)
   unfolding part_at
   walk_here i =
       let z : i + 0 ≡ i = omega arith in
@@ -100,12 +98,12 @@ module _ (sep : ℕ) (m : List ℕ) (ends : ℕ → Bool) where
       split_left i 0 ∙ ap (moved i) (standing_first sep 0 (left i)) ∙ cc
 
   -- the message ends here
-  pub walk_over : (i k : ℕ) → length m ≤ i → 0 < k → part_in sep m (ended_by ends m (From i)) k ≡ Absent
+  pub walk_over : (i k : ℕ) → length m ≤ i → 0 < k → part_in sep m (ended_by ends m (Some i)) k ≡ None
   walk_over i k h = nothing_left i k (first_end ends m i h)
 
   module _ (i k : ℕ) (h : i < length m) (more : 0 < k) where
     -- the whole ends here
-    pub walk_stop : ends (get_or m i 0) ≡ true → part_in sep m (ended_by ends m (From i)) k ≡ Absent
+    pub walk_stop : ends (get_or m i 0) ≡ true → part_in sep m (ended_by ends m (Some i)) k ≡ None
     walk_stop e = nothing_left i k (first_here ends m i h e) more
 
     module _ (e : ends (get_or m i 0) ≡ false) where
@@ -115,23 +113,23 @@ module _ (sep : ℕ) (m : List ℕ) (ends : ℕ → Bool) where
           ∙ ap (take (suc (first ends (drop (i + 1) m)))) (drop_next m i h)
 
       -- a separator: what is sought is one nearer
-      pub walk_at : get_or m i 0 ≡ sep → part_in sep m (ended_by ends m (From i)) k ≡ part_in sep m (ended_by ends m (From (i + 1))) (k - 1)
+      pub walk_at : get_or m i 0 ≡ sep → part_in sep m (ended_by ends m (Some i)) k ≡ part_in sep m (ended_by ends m (Some (i + 1))) (k - 1)
       walk_at q = at k more
         where
-          at : (k : ℕ) → 0 < k → part_in sep m (ended_by ends m (From i)) k ≡ part_in sep m (ended_by ends m (From (i + 1))) (k - 1)
+          at : (k : ℕ) → 0 < k → part_in sep m (ended_by ends m (Some i)) k ≡ part_in sep m (ended_by ends m (Some (i + 1))) (k - 1)
           at zero l = absurd (omega arith)
           at (suc j) l =
               let n : j ≡ suc j - 1 = omega arith in
               split_left i (suc j) ∙ ap (λ (x : List ℕ). moved i (part_at sep x (suc j))) left_next
               ∙ ap (moved i) (split_at sep (get_or m i 0) (left (i + 1)) j (eq-eqb sep (get_or m i 0) (sym q)))
               ∙ moved_twice i 1 (part_at sep (left (i + 1)) j) ∙ sym (split_left (i + 1) j)
-              ∙ ap (part_in sep m (ended_by ends m (From (i + 1)))) n
+              ∙ ap (part_in sep m (ended_by ends m (Some (i + 1)))) n
 
       -- any other byte
-      pub walk_past : (get_or m i 0 ≡ sep → ⊥) → part_in sep m (ended_by ends m (From i)) k ≡ part_in sep m (ended_by ends m (From (i + 1))) k
+      pub walk_past : (get_or m i 0 ≡ sep → ⊥) → part_in sep m (ended_by ends m (Some i)) k ≡ part_in sep m (ended_by ends m (Some (i + 1))) k
       walk_past q = at k more
         where
-          at : (k : ℕ) → 0 < k → part_in sep m (ended_by ends m (From i)) k ≡ part_in sep m (ended_by ends m (From (i + 1))) k
+          at : (k : ℕ) → 0 < k → part_in sep m (ended_by ends m (Some i)) k ≡ part_in sep m (ended_by ends m (Some (i + 1))) k
           at zero l = absurd (omega arith)
           at (suc j) l =
               split_left i (suc j) ∙ ap (λ (x : List ℕ). moved i (part_at sep x (suc j))) left_next
@@ -155,12 +153,12 @@ module _ (sep : ℕ) where
 
 module _ (sep : ℕ) (m : List ℕ) (ends : ℕ → Bool) where
   pub walk_block : (n i k c : ℕ) → i + n ≤ length m → n ≤ first ends (drop i m) → c + 1 ≡ length (split sep (take n (drop i m))) → c < k
-      → part_in sep m (ended_by ends m (From i)) k ≡ part_in sep m (ended_by ends m (From (i + n))) (k - c)
+      → part_in sep m (ended_by ends m (Some i)) k ≡ part_in sep m (ended_by ends m (Some (i + n))) (k - c)
   walk_block zero i k c h w e l =
       let z : i ≡ i + 0 = omega arith in
       let one = ap length (split_nothing sep) in
       let y : k ≡ k - c = omega arith in
-      ap (λ (x : ℕ). part_in sep m (ended_by ends m (From x)) k) z ∙ ap (part_in sep m (ended_by ends m (From (i + 0)))) y
+      ap (λ (x : ℕ). part_in sep m (ended_by ends m (Some x)) k) z ∙ ap (part_in sep m (ended_by ends m (Some (i + 0)))) y
   walk_block (suc n) i k c h w e l = at (eqb (get_or m i 0) sep) refl (λ j d. walk_block n (i + 1) j d)
     where
       here : i < length m
@@ -180,8 +178,8 @@ module _ (sep : ℕ) (m : List ℕ) (ends : ℕ → Bool) where
 
       at : (t : Bool) → eqb (get_or m i 0) sep ≡ t
           → ((j d : ℕ) → i + 1 + n ≤ length m → n ≤ first ends (drop (i + 1) m) → d + 1 ≡ length (split sep (take n (drop (i + 1) m))) → d < j
-          → part_in sep m (ended_by ends m (From (i + 1))) j ≡ part_in sep m (ended_by ends m (From (i + 1 + n))) (j - d))
-          → part_in sep m (ended_by ends m (From i)) k ≡ part_in sep m (ended_by ends m (From (i + suc n))) (k - c)
+          → part_in sep m (ended_by ends m (Some (i + 1))) j ≡ part_in sep m (ended_by ends m (Some (i + 1 + n))) (j - d))
+          → part_in sep m (ended_by ends m (Some i)) k ≡ part_in sep m (ended_by ends m (Some (i + suc n))) (k - c)
       at true t ih =
           let q = eqb-true (get_or m i 0) sep t in
           let d = ap (λ (x : List ℕ). length (split sep x)) block ∙ count_at sep (get_or m i 0) (take n (drop (i + 1) m)) q in
@@ -189,33 +187,33 @@ module _ (sep : ℕ) (m : List ℕ) (ends : ℕ → Bool) where
           let y : k - 1 - (c - 1) ≡ k - c = omega arith in
           walk_at sep m ends i k here (omega arith) free q
           ∙ ih (k - 1) (c - 1) (omega arith) rest (omega arith) (omega arith)
-          ∙ ap (part_in sep m (ended_by ends m (From (i + 1 + n)))) y ∙ ap (λ (x : ℕ). part_in sep m (ended_by ends m (From x)) (k - c)) further
+          ∙ ap (part_in sep m (ended_by ends m (Some (i + 1 + n)))) y ∙ ap (λ (x : ℕ). part_in sep m (ended_by ends m (Some x)) (k - c)) further
       at false t ih =
           let q = eqb-false (get_or m i 0) sep t in
           let d = ap (λ (x : List ℕ). length (split sep x)) block ∙ count_past sep (get_or m i 0) (take n (drop (i + 1) m)) q in
           walk_past sep m ends i k here (omega arith) free q
           ∙ ih k c (omega arith) rest (omega arith) l
-          ∙ ap (λ (x : ℕ). part_in sep m (ended_by ends m (From x)) (k - c)) further
+          ∙ ap (λ (x : ℕ). part_in sep m (ended_by ends m (Some x)) (k - c)) further
 
 -- ---- from the rest of the message back to the message
 
 module _ (m : List ℕ) (s : ℕ) (l : List ℕ) (rest : l ≡ drop s m) (ends : ℕ → Bool) where
-  pub ended_moved : (a : ℕ) → ended_by ends m (From (s + a)) ≡ moved s (ended_by ends l (From a))
+  pub ended_moved : (a : ℕ) → ended_by ends m (Some (s + a)) ≡ moved s (ended_by ends l (Some a))
   ended_moved a =
       let n : s + a + first ends (drop (s + a) m) ≡ s + (a + first ends (drop (s + a) m)) = omega arith in
-      ap (At (s + a)) n ∙ ap (λ (x : List ℕ). At (s + a) (s + (a + first ends x))) (sym (drop-drop a s m)) ∙ ap (λ (x : List ℕ). moved s (ended_by ends x (From a))) (sym rest)
+      ap (from_to (s + a)) n ∙ ap (λ (x : List ℕ). from_to (s + a) (s + (a + first ends x))) (sym (drop-drop a s m)) ∙ ap (λ (x : List ℕ). moved s (ended_by ends x (Some a))) (sym rest)
 
-  pub part_moved : (sep k : ℕ) → moved s (part_in sep l (ended_by ends l (From 0)) k) ≡ part_in sep m (ended_by ends m (From s)) k
+  pub part_moved : (sep k : ℕ) → moved s (part_in sep l (ended_by ends l (Some 0)) k) ≡ part_in sep m (ended_by ends m (Some s)) k
   part_moved sep k =
       let z : s + 0 ≡ s = omega arith in
-      ap (λ (x : List ℕ). moved s (part_in sep x (ended_by ends x (From 0)) k)) rest
+      ap (λ (x : List ℕ). moved s (part_in sep x (ended_by ends x (Some 0)) k)) rest
       ∙ ap (moved s) (split_left sep (drop s m) ends 0 k) ∙ moved_twice s 0 (part_at sep (left sep m ends s) k)
       ∙ ap (λ (n : ℕ). moved n (part_at sep (left sep m ends s) k)) z ∙ sym (split_left sep m ends s k)
 
 -- what was found lies within the bytes
-pub start_within : (sep : ℕ) (l : List ℕ) (ends : ℕ → Bool) (k a e : ℕ) → At a e ≡ part_in sep l (ended_by ends l (From 0)) k → a ≤ length l
+pub start_within : (sep : ℕ) (l : List ℕ) (ends : ℕ → Bool) (k a e : ℕ) → from_to a e ≡ part_in sep l (ended_by ends l (Some 0)) k → a ≤ length l
 start_within sep l ends k a e q =
-    let w = within_at l _ a e (within_in sep l (ended_by ends l (From 0)) k (omega arith, let n = first_le ends l in omega arith)) (sym q) in
+    let w = within_at l _ a e (within_in sep l (ended_by ends l (Some 0)) k (omega arith, let n = first_le ends l in omega arith)) (sym q) in
     let w0 = w.0 in
     let w1 = w.1 in
     omega arith
@@ -281,11 +279,11 @@ unfolding first
 first_alike p q h [] = refl
 first_alike p q h (b ∷ l) = rw (h b, first_alike p q h l)
 
-ends_alike : (p q : ℕ → Bool) → ((b : ℕ) → p b ≡ q b) → (m : List ℕ) (part : Start) → ended_by p m part ≡ ended_by q m part
-ends_alike p q h m Missing = refl
-ends_alike p q h m (From s) = ap (λ (n : ℕ). At s (s + n)) (first_alike p q h (drop s m))
+ends_alike : (p q : ℕ → Bool) → ((b : ℕ) → p b ≡ q b) → (m : List ℕ) (part : Option ℕ) → ended_by p m part ≡ ended_by q m part
+ends_alike p q h m None = refl
+ends_alike p q h m (Some s) = ap (λ (n : ℕ). from_to s (s + n)) (first_alike p q h (drop s m))
 
-module _ (sep : ℕ) (p q : List ℕ) (n : length p + length q ≡ 3) (m : List ℕ) (part : Start) where
+module _ (sep : ℕ) (p q : List ℕ) (n : length p + length q ≡ 3) (m : List ℕ) (part : Option ℕ) where
   five : (x : ℕ) → length (carriage_return ∷ p ++ x ∷ q) ≡ 5
   five x = let l = length-append p (x ∷ q) in omega arith
 
@@ -298,7 +296,7 @@ module _ (sep : ℕ) (p q : List ℕ) (n : length p + length q ≡ 3) (m : List 
       m part
 
 -- and of a level that may not be split
-level_ends_lem : (sep k x : ℕ) (p q : List ℕ) → length p + length q ≡ 3 → x ≡ end_of sep k → (m : List ℕ) (part : Start)
+level_ends_lem : (sep k x : ℕ) (p q : List ℕ) → length p + length q ≡ 3 → x ≡ end_of sep k → (m : List ℕ) (part : Option ℕ)
     → ended_by (among (carriage_return ∷ p ++ x ∷ q)) m part ≡ ended_by (level_ends sep k (among (carriage_return ∷ p ++ carriage_return ∷ q))) m part
 level_ends_lem sep zero x p q n e m part = ap (λ (y : ℕ). ended_by (among (carriage_return ∷ p ++ y ∷ q)) m part) e
 level_ends_lem sep (suc k) x p q n e m part = ap (λ (y : ℕ). ended_by (among (carriage_return ∷ p ++ y ∷ q)) m part) e ∙ part_ends sep p q n m part
@@ -309,31 +307,35 @@ end_split sep (suc k) h = refl
 
 -- ---- number k of a level below a part
 
-module _ (sep : ℕ) (ends : ℕ → Bool) (m : List ℕ) (part : Start) where
+module _ (sep : ℕ) (ends : ℕ → Bool) (m : List ℕ) (part : Option ℕ) where
   pub start_whole : (k : ℕ) → k ≡ 0 → ended_by (level_ends sep k ends) m part ≡ below sep m (ended_by ends m part) k
   unfolding below
   start_whole k e = rw e
 
-  pub start_split : (k : ℕ) (r : Start) → (k ≡ 0 → ⊥) → ended_by (or_at sep ends) m r ≡ part_in sep m (ended_by ends m part) (k - 1)
+  pub start_split : (k : ℕ) (r : Option ℕ) → (k ≡ 0 → ⊥) → ended_by (or_at sep ends) m r ≡ part_in sep m (ended_by ends m part) (k - 1)
       → ended_by (level_ends sep k ends) m r ≡ below sep m (ended_by ends m part) k
   start_split zero r h e = absurd (h refl)
   start_split (suc k) r h e = e ∙ sym (below_split sep m (ended_by ends m part) (suc k) h)
 
+-- of no part there is no part
+pub below_nothing : (sep : ℕ) (m : List ℕ) (k : ℕ) → None ≡ below sep m None k
+below_nothing sep m k = sym (below_none sep m None k refl)
+
 -- ---- a field, from where its segment begins
 
 -- part k of a segment ends at CR or the field separator
-pub field_begins : (m : List ℕ) (sep k s : ℕ) (segment field : Start) → sep ≡ field_separator m → segment ≡ began (segment_at m s)
+pub field_begins : (m : List ℕ) (sep k s : ℕ) (segment field : Option ℕ) → sep ≡ field_separator m → segment ≡ began (segment_at m s)
     → ended_by (or_at sep (eqb carriage_return)) m field ≡ part_in sep m (ended_by (eqb carriage_return) m segment) k
     → ended_by (among (carriage_return ∷ sep ∷ carriage_return ∷ carriage_return ∷ carriage_return ∷ [])) m field ≡ part_in (field_separator m) m (segment_at m s) k
 field_begins m sep k s segment field e q f =
     part_ends sep [] (carriage_return ∷ carriage_return ∷ carriage_return ∷ []) refl m field
     ∙ ends_alike _ _ (λ b. ap (λ (t : Bool). t || eqb sep b) (all_alike carriage_return b)) m field ∙ f
-    ∙ ap (λ (p : Part). part_in sep m p k) (ap (ended_by (eqb carriage_return) m) q ∙ segment_stands m s) ∙ ap (λ (x : ℕ). part_in x m (segment_at m s) k) e
+    ∙ ap (λ (p : Option Part). part_in sep m p k) (ap (ended_by (eqb carriage_return) m) q ∙ segment_stands m s) ∙ ap (λ (x : ℕ). part_in x m (segment_at m s) k) e
 
 -- ---- the three levels of a field, each with one stop more, where r, c and s are those stops
 
 module _ (m : List ℕ) (sep rep comp sub i j k r c s : ℕ) (er : r ≡ end_of rep i) (ec : c ≡ end_of comp j) (es : s ≡ end_of sub k) where
-  pub levels_down : (field first second third : Start)
+  pub levels_down : (field first second third : Option ℕ)
       → ended_by (level_ends rep i (among (carriage_return ∷ sep ∷ carriage_return ∷ carriage_return ∷ carriage_return ∷ []))) m first
       ≡ below rep m (ended_by (among (carriage_return ∷ sep ∷ carriage_return ∷ carriage_return ∷ carriage_return ∷ [])) m field) i
       → ended_by (level_ends comp j (among (carriage_return ∷ sep ∷ r ∷ carriage_return ∷ carriage_return ∷ []))) m second
@@ -344,13 +346,19 @@ module _ (m : List ℕ) (sep rep comp sub i j k r c s : ℕ) (er : r ≡ end_of 
       ≡ below sub m (below comp m (below rep m (ended_by (among (carriage_return ∷ sep ∷ carriage_return ∷ carriage_return ∷ carriage_return ∷ [])) m field) i) j) k
   levels_down field first second third e f g =
       level_ends_lem sub k s (sep ∷ r ∷ c ∷ []) [] refl es m third ∙ g
-      ∙ ap (λ (p : Part). below sub m p k) (level_ends_lem comp j c (sep ∷ r ∷ []) (carriage_return ∷ []) refl ec m second ∙ f
-      ∙ ap (λ (p : Part). below comp m p j) (level_ends_lem rep i r (sep ∷ []) (carriage_return ∷ carriage_return ∷ []) refl er m first ∙ e))
+      ∙ ap (λ (p : Option Part). below sub m p k) (level_ends_lem comp j c (sep ∷ r ∷ []) (carriage_return ∷ []) refl ec m second ∙ f
+      ∙ ap (λ (p : Option Part). below comp m p j) (level_ends_lem rep i r (sep ∷ []) (carriage_return ∷ carriage_return ∷ []) refl er m first ∙ e))
 
 -- and these are the levels that the address asks for
-pub levels_asked : (m : List ℕ) (a : Address) (field : Start) (sep rep comp sub : ℕ) → sep ≡ get_or m 3 0 → rep ≡ get_or m 5 0 → comp ≡ get_or m 4 0 → sub ≡ get_or m 7 0
+pub levels_asked : (m : List ℕ) (a : Address) (field : Option ℕ) (sep rep comp sub : ℕ) → sep ≡ get_or m 3 0 → rep ≡ get_or m 5 0 → comp ≡ get_or m 4 0 → sub ≡ get_or m 7 0
     → ended_by (among (field_ends m)) m field ≡ field_at m a
     → below sub m (below comp m (below rep m (ended_by (among (carriage_return ∷ sep ∷ carriage_return ∷ carriage_return ∷ carriage_return ∷ [])) m field) a.repetition) a.component) a.subcomponent
     ≡ subcomponent_at m a
 unfolding repetition_at component_at subcomponent_at
-levels_asked m a field sep rep comp sub es er ec eu e = rw (es, er, ec, eu) (ap (λ (p : Part). below (get_or m 7 0) m (below (get_or m 4 0) m (below (get_or m 5 0) m p a.repetition) a.component) a.subcomponent) e)
+levels_asked m a field sep rep comp sub es er ec eu e = rw (es, er, ec, eu) (ap (λ (p : Option Part). below (get_or m 7 0) m (below (get_or m 4 0) m (below (get_or m 5 0) m p a.repetition) a.component) a.subcomponent) e)
+
+-- of no segment there is no field
+pub field_missing : (m : List ℕ) (a : Address) → began (segment_at m a.segment) ≡ None → (eqb a.segment 0 && eqb a.field 1) ≡ false → field_at m a ≡ None
+field_missing m a e h =
+    field_part_lem m a.segment (segment_at m a.segment) a.field h
+    ∙ in_absent (field_separator m) m (segment_at m a.segment) (field_index a.segment a.field) (sym (segment_stands m a.segment) ∙ ap (ended_by (eqb carriage_return) m) e)

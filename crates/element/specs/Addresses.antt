@@ -1,7 +1,6 @@
 -- The address of an element, by document 01, 'Elements'.
 use Rattle.std.specs.Prelude.{ℕ, Bool, not, ◌&&◌, ◌||◌, leb, eqb}
-use Rattle.alphabet.specs.Answers.{fails_if}
-use Rattle.alphabet.specs.declared.answers.Check.{Check}
+use Rattle.alphabet.specs.Answers.{fails_if, Check}
 use Rattle.alphabet.specs.declared.answers.Refusal.{Refusal}
 use Rattle.element.specs.declared.address.Address.{Address}
 

@@ -1,9 +1,7 @@
 -- For private functions alone: the bytes that end the part of each level.
-use Rattle.std.specs.Prelude.{ℕ, zero, suc, ◌-◌, ◌≤◌, ◌≡◌, List, [], ◌∷◌, Bool, cond, ◌||◌, eqb}
+use Rattle.std.specs.Prelude.{ℕ, zero, suc, ◌-◌, ◌≤◌, ◌≡◌, List, [], ◌∷◌, Bool, cond, ◌||◌, eqb, Some, Option}
 use Rattle.alphabet.specs.Bytes.{carriage_return}
 use Rattle.alphabet.specs.Parts.{ended_by}
-use Rattle.alphabet.specs.declared.parts.Start.{Start}
-use Rattle.alphabet.specs.declared.parts.Start.TheVariants.{From}
 use Rattle.reading.specs.Segments.{field_separator}
 use Rattle.element.specs.Levels.{part_in}
 
@@ -26,7 +24,7 @@ abbrev pub field_ends : List ℕ → List ℕ
 field_ends m = carriage_return ∷ field_separator m ∷ carriage_return ∷ carriage_return ∷ carriage_return ∷ []
 
 -- r is where part k begins, of the part that begins at `above` and that `ends` ends
-abbrev pub StartsPart : ℕ → (ℕ → Bool) → List ℕ → Start → ℕ → Start → Type 0
+abbrev pub StartsPart : ℕ → (ℕ → Bool) → List ℕ → Option ℕ → ℕ → Option ℕ → Type 0
 StartsPart sep ends m above k r = ended_by (or_at sep ends) m r ≡ part_in sep m (ended_by ends m above) k
 
 -- a walk to part k of the segment that begins at `start` has come to `place`, behind which `left` separators are still
@@ -34,7 +32,7 @@ StartsPart sep ends m above k r = ended_by (or_at sep ends) m r ≡ part_in sep 
 abbrev pub OnTheWay : ℕ → List ℕ → ℕ → ℕ → ℕ → ℕ → Type 0
 OnTheWay sep m start k place left =
     (1 ≤ left)
-    × (part_in sep m (ended_by (eqb carriage_return) m (From start)) k ≡ part_in sep m (ended_by (eqb carriage_return) m (From place)) left)
+    × (part_in sep m (ended_by (eqb carriage_return) m (Some start)) k ≡ part_in sep m (ended_by (eqb carriage_return) m (Some place)) left)
 
 -- which part of its segment a field is, but for MSH-1: MSH has its fields counted from the separator itself
 abbrev pub field_index : ℕ → ℕ → ℕ

@@ -1,11 +1,8 @@
 -- The answer to a question for an element, by document 01, 'Elements': "Lookup: a reading fault, 19".
-use Rattle.std.specs.Prelude.{ℕ, List, [], ◌∷◌, Bool, true, false, cond, ◌&&◌, leb, length}
-use Rattle.alphabet.specs.Answers.{fails_if, in_order, answered}
+use Rattle.std.specs.Prelude.{ℕ, List, [], ◌∷◌, Bool, true, false, cond, ◌&&◌, leb, length, None, Some, Ok, Err, Option}
+use Rattle.alphabet.specs.Answers.{Refusable, fails_if, in_order, given, Check}
 use Rattle.alphabet.specs.declared.answers.Refusal.{Refusal}
-use Rattle.alphabet.specs.declared.answers.Check.{Check}
-use Rattle.alphabet.specs.declared.answers.Check.TheVariants.{Passes, Fails}
 use Rattle.alphabet.specs.declared.parts.Part.{Part}
-use Rattle.alphabet.specs.declared.parts.Part.TheVariants.{At, Absent}
 use Rattle.reading.specs.Segments.{delimiters_of, segment_at}
 use Rattle.reading.specs.Reading.{reading}
 use Rattle.element.specs.Addresses.{address_check}
@@ -14,11 +11,10 @@ use Rattle.element.specs.Levels.{between, element_at}
 use Rattle.element.specs.declared.address.Address.{Address}
 use Rattle.element.specs.declared.states.State.{State}
 use Rattle.element.specs.declared.Element.{Element}
-use Rattle.element.specs.declared.Found.{Found}
 
-abbrev pub is_absent : Part → Bool
-is_absent Absent = true
-is_absent (At s e) = false
+abbrev pub is_absent : Option Part → Bool
+is_absent None = true
+is_absent (Some part) = false
 
 -- "a reading fault, 19": 19 is "bad address, or no such segment"
 unfoldable pub lookup_check : List ℕ → Address → Check
@@ -29,34 +25,35 @@ abbrev pub nowhere : Element
 nowhere = record { state = State.Absent; start = 0; end = 0 }
 
 -- the element at a part of the message
-abbrev pub element_in : List ℕ → Part → Element
-element_in m Absent = nowhere
-element_in m (At s e) = record { state = state_of (delimiters_of m) (between m s e); start = s; end = e }
+abbrev pub element_in : List ℕ → Option Part → Element
+element_in m None = nowhere
+element_in m (Some part) = record { state = state_of (delimiters_of m) (between m part.start part.end); start = part.start; end = part.end }
 
 unfoldable pub element_of : List ℕ → Address → Element
 element_of m a = element_in m (element_at m a)
 
-abbrev pub element_if : Check → Element → Element
-element_if Passes e = e
-element_if (Fails kind place) e = nowhere
-
 -- the refusal, or the element
-unfoldable pub found : List ℕ → Address → Found
-found m a = record { answer = answered (lookup_check m a); element = element_if (lookup_check m a) (element_of m a) }
+unfoldable pub found : List ℕ → Address → Refusable Element
+found m a = given (lookup_check m a) (element_of m a)
+
+-- the element of an answer; what is refused stands nowhere
+abbrev pub element_found : Refusable Element → Element
+element_found (Ok e) = e
+element_found (Err _) = nowhere
 
 -- "shows the part of the message where it stands"
 unfoldable pub bytes_at : List ℕ → Element → List ℕ
 bytes_at m e = cond (leb e.start e.end && leb e.end (length m)) (between m e.start e.end) []
 
 abbrev pub element_bytes : List ℕ → Address → List ℕ
-element_bytes m a = bytes_at m (found m a).element
+element_bytes m a = bytes_at m (element_found (found m a))
 
 -- ---- raw, for judges that have read the message already
 
 -- the bytes of a part of the message
-abbrev pub part_bytes : List ℕ → Part → List ℕ
-part_bytes m Absent = []
-part_bytes m (At s e) = between m s e
+abbrev pub part_bytes : List ℕ → Option Part → List ℕ
+part_bytes m None = []
+part_bytes m (Some part) = between m part.start part.end
 
 -- "raw": the bytes at an address, for which no fault is looked for; none where nothing stands. Four bytes have a field
 -- separator

@@ -2,10 +2,10 @@
 ghost use Rattle.std.specs.Prelude.{◌≡◌};
 ghost use Rattle.element.specs.Addresses.{address_check, type_address};
 
-use alphabet::{Check, Refusal};
+use alphabet::{Fault, Refusal};
 
 // Segments count from 0, all else from 1; 0 for the last three means the whole.
-#[derive(Clone, Copy)]
+#[derive(Clone, Copy, PartialEq, Eq)]
 pub struct Address {
     pub segment: usize,
     pub field: usize,
@@ -15,7 +15,7 @@ pub struct Address {
 }
 
 // Number 19 for an address that no message could have; it is judged by its numbers alone.
-pub fn check_address(address: Address) -> Check
+pub fn check_address(address: Address) -> Result<(), Fault>
     ensures { result ≡ address_check address }
 {
     let field = 1 <= address.field;
@@ -32,7 +32,7 @@ pub fn type_address(component: usize) -> Address
         segment: 0,
         field: 9,
         repetition: 1,
-        component: component,
+        component,
         subcomponent: 0,
     }
 }

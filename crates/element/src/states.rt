@@ -4,7 +4,7 @@ ghost use Rattle.element.specs.States.{state_of, is_empty, is_present};
 
 use alphabet::Delimiters;
 
-#[derive(Clone, Copy)]
+#[derive(Clone, Copy, PartialEq, Eq)]
 pub enum State {
     Absent,
     Empty,
@@ -20,14 +20,11 @@ pub fn is_empty(delimiters: Delimiters, bytes: &[u8]) -> bool
     let component = ds[1];
     let repetition = ds[2];
     let subcomponent = ds[4];
-    let mut i = 0;
-    while i < bytes.len() {
-        let b = bytes[i];
+    for &b in bytes {
         let separator = (b == component) | ((b == repetition) | (b == subcomponent));
         if !separator {
             return false;
         }
-        i += 1;
     }
     true
 }
@@ -49,10 +46,5 @@ pub fn state_of(delimiters: Delimiters, bytes: &[u8]) -> State
 pub fn is_present(state: State) -> bool
     ensures { result ≡ is_present state }
 {
-    match state {
-        State::Absent => false,
-        State::Empty => false,
-        State::Null => false,
-        State::Present => true,
-    }
+    matches!(state, State::Present)
 }

@@ -5,23 +5,22 @@ ghost use Rattle.alphabet.specs.Bytes.{carriage_return};
 ghost use Rattle.alphabet.specs.Parts.{split};
 ghost use Rattle.element.specs.Ends.{StartsPart, OnTheWay};
 
-use alphabet::{BLOCK, CARRIAGE_RETURN, Start};
+use alphabet::{BLOCK, CARRIAGE_RETURN};
 
 // From which part of a segment on the walk to it passes over blocks.
 const FAR: usize = 8;
 
-// How many separators a block has, one fewer than it has parts: counted in a byte and without a branch, so that the
-// compiler takes many at once.
+// How many separators a block has, one fewer than it has parts: counted in a byte, so that the compiler takes many at
+// once.
 fn separators_in(block: &[u8], separator: u8) -> u8
     requires { length block.now ≤ 32 }
     ensures { result + 1 ≡ length (split separator block.now) }
 {
     let mut count: u8 = 0;
-    let mut i = 0;
-    while i < block.len() {
-        let one = if block[i] == separator { 1 } else { 0 };
-        count += one;
-        i += 1;
+    for &b in block {
+        if b == separator {
+            count += 1;
+        }
     }
     count
 }
@@ -84,31 +83,26 @@ fn begin_walk(message: &[u8], start: usize, separator: u8, index: usize) -> Walk
     pass_blocks(message, start, separator, index)
 }
 
-// Where part `index`, from 0, of a segment begins: a field, or the name.
-pub fn field_start(message: &[u8], segment: Start, separator: u8, index: usize) -> Start
-    ensures { StartsPart separator (eqb carriage_return) message.now segment index result }
+// Where part `index`, from 0, of the segment that begins at `start` begins: a field, or the name.
+pub fn field_start(message: &[u8], start: usize, separator: u8, index: usize) -> Option<usize>
+    ensures { StartsPart separator (eqb carriage_return) message.now (Some start) index result }
 {
-    let Start::From { start } = segment else {
-        return Start::Missing;
-    };
     if index == 0 {
-        return segment;
+        return Some(start);
     }
     let walk = begin_walk(message, start, separator, index);
-    let mut i = walk.place;
     let mut left = walk.left;
-    while i < message.len() {
+    for i in walk.place..message.len() {
         let b = message[i];
         if b == CARRIAGE_RETURN {
-            return Start::Missing;
+            return None;
         }
-        i += 1;
         if b == separator {
             if left == 1 {
-                return Start::From { start: i };
+                return Some(i + 1);
             }
             left -= 1;
         }
     }
-    Start::Missing
+    None
 }

@@ -13,22 +13,22 @@ pub returns-then-not-separator : goal.returns-then-not-separator
 returns-then-not-separator c =
     let a = c.args in
     let ds = a.delimiters.bytes in
-    let z = first_here (other (get_or ds 1 0) (get_or ds 2 0) (get_or ds 4 0)) a.bytes.now c.loop-i.i (omega arith) c.if-not-separator.true-raw in
+    let z = first_here (other (get_or ds 1 0) (get_or ds 2 0) (get_or ds 4 0)) a.bytes.now c.loop-b.b-index (omega arith) c.if-not-separator.true-raw in
     sym (ne_eqb (first (other (get_or ds 1 0) (get_or ds 2 0) (get_or ds 4 0)) a.bytes.now) (length a.bytes.now) (λ e. omega arith))
 
-pub loop-i-preserved : goal.loop-i-preserved
-loop-i-preserved c =
+pub loop-b-preserved : goal.loop-b-preserved
+loop-b-preserved c =
     let a = c.args in
     let ds = a.delimiters.bytes in
-    let z = first_past (other (get_or ds 1 0) (get_or ds 2 0) (get_or ds 4 0)) a.bytes.now c.loop-i.i (omega arith) c.if-not-separator.false-raw in
+    let z = first_past (other (get_or ds 1 0) (get_or ds 2 0) (get_or ds 4 0)) a.bytes.now c.loop-b.b-index (omega arith) c.if-not-separator.false-raw in
     (omega arith, omega arith)
 
 pub returns : goal.returns
 returns c =
     let a = c.args in
     let ds = a.delimiters.bytes in
-    let z = first_end (other (get_or ds 1 0) (get_or ds 2 0) (get_or ds 4 0)) a.bytes.now c.loop-i.i (omega arith) in
+    let z = first_end (other (get_or ds 1 0) (get_or ds 2 0) (get_or ds 4 0)) a.bytes.now c.loop-b.b-index (omega arith) in
     sym (eq-eqb (first (other (get_or ds 1 0) (get_or ds 2 0) (get_or ds 4 0)) a.bytes.now) (length a.bytes.now) (omega arith))
 
-pub loop-i-init : goal.loop-i-init
-loop-i-init c = (omega arith, sym (zero-add _))
+pub loop-b-init : goal.loop-b-init
+loop-b-init c = (omega arith, sym (zero-add _))

@@ -1,4 +1,4 @@
-use Prim.Native.Nat.{ℕ, ◌≤◌, ◌+◌, ◌-◌}
+use Prim.Native.Nat.{ℕ, ◌≤◌, ◌+◌}
 use mathlib.Core.Path.{◌≡◌}
 use mathlib.Core.Bool.{Bool, not, ◌||◌}
 use lib.Dec.{eqb}
@@ -10,9 +10,6 @@ use Rattle.element.proofs.states.is_empty.Given as goal
 abbrev pub other : ℕ → ℕ → ℕ → ℕ → Bool
 other component repetition subcomponent b = not (eqb b component || (eqb b repetition || eqb b subcomponent))
 
-abbrev pub invariant-loop-i : goal.invariant-loop-i
-invariant-loop-i l =
-    (l.i ≤ length l.bytes) × (first (other l.component l.repetition l.subcomponent) l.bytes ≡ l.i + first (other l.component l.repetition l.subcomponent) (drop l.i l.bytes))
-
-abbrev pub decreases-loop-i : goal.decreases-loop-i
-decreases-loop-i l = length l.bytes - l.i
+abbrev pub invariant-loop-b : goal.invariant-loop-b
+invariant-loop-b l =
+    (l.b-index ≤ length l.bytes) × (first (other l.component l.repetition l.subcomponent) l.bytes ≡ l.b-index + first (other l.component l.repetition l.subcomponent) (drop l.b-index l.bytes))

@@ -5,10 +5,10 @@ use lib.Dec.{eqb}
 use lib.ListN.{length, take, drop, length-drop}
 use native.Mathlib.Omega.{arith}
 use borrow.Author.Tests.{leb-true}
+use Rattle.std.specs.Prelude.{Some}
 use Rattle.alphabet.specs.Bytes.{carriage_return}
 use Rattle.alphabet.specs.Lists.{first}
 use Rattle.alphabet.specs.Parts.{ended_by}
-use Rattle.alphabet.specs.declared.parts.Start.TheVariants.{From}
 use Rattle.alphabet.proofs.ListLaws.{first_block}
 use Rattle.alphabet.proofs.BlockLaws.{block_size}
 use Rattle.element.specs.Levels.{part_in}
@@ -35,7 +35,7 @@ loop-i-preserved c =
     let to : i + n ≡ i + 32 = omega arith in (
       omega arith,
       c.loop-i.invariant.1 ∙ walk_block a.separator s test n i c.loop-i.left c.separators_in-count.result (omega arith) (omega arith) c.separators_in-count.ensures (omega arith)
-          ∙ ap (λ (x : ℕ). part_in a.separator s (ended_by test s (From x)) (c.loop-i.left - c.separators_in-count.result)) to,
+          ∙ ap (λ (x : ℕ). part_in a.separator s (ended_by test s (Some x)) (c.loop-i.left - c.separators_in-count.result)) to,
     )
 
 pub loop-i-init : goal.loop-i-init

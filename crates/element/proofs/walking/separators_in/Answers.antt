@@ -1,6 +1,6 @@
 -- Rests on the laws of how many parts there are: those of the rest, and one more for each separator so far.
 use Prim.Native.Nat.{ℕ, ◌≤◌, ◌+◌}
-use mathlib.Core.Path.{◌≡◌, ap, ◌∙◌}
+use mathlib.Core.Path.{ap, ◌∙◌}
 use mathlib.Core.List.{List}
 use lib.ListN.{length, drop, drop_of_length-le}
 use native.Mathlib.Omega.{arith}
@@ -8,34 +8,29 @@ use Rattle.alphabet.specs.Parts.{split}
 use Rattle.alphabet.proofs.ListLaws.{drop_next}
 use Rattle.alphabet.proofs.PartLaws.{split_nothing}
 use Rattle.element.proofs.StartLaws.{count_at, count_past}
-use Rattle.element.proofs.walking.separators_in.Goals.{After-row_known-1, else-block-i, then-block-i}
+use Rattle.element.proofs.walking.separators_in.Goals.{else-b-separator, then-b-separator}
 use Rattle.element.proofs.walking.separators_in.Goals as goal
 
-pub loop-i-init : goal.loop-i-init
-loop-i-init c = (omega arith, c.requires, omega arith, omega arith)
+pub loop-b-init : goal.loop-b-init
+loop-b-init c = (c.requires, omega arith, omega arith)
 
--- a separator counts for one
-one_more : (c : After-row_known-1) → let a = c.args in let s = a.block.now in
-    (c.if-block-i.one ≤ 1) × (length (split a.separator (drop c.loop-i.i s)) ≡ c.if-block-i.one + length (split a.separator (drop (c.loop-i.i + 1) s)))
-one_more c =
+pub loop-b-preserved : goal.loop-b-preserved
+loop-b-preserved c =
     let a = c.args in
     let s = a.block.now in
-    let next = ap (λ (x : List ℕ). length (split a.separator x)) (drop_next s c.loop-i.i (omega arith)) in
-    elim c.if-block-i.branch [ then-block-i w ↦ let e = w.one-is in let n = next ∙ count_at a.separator _ (drop (c.loop-i.i + 1) s) w.if-block-i.true in (omega arith, omega arith) | else-block-i w ↦ let e = w.one-is in let n = next ∙ count_past a.separator _ (drop (c.loop-i.i + 1) s) w.if-block-i.false in (omega arith, omega arith) ]
+    let i = c.loop-b.b-index in
+    let n = c.loop-b.invariant.1 in
+    let k = c.loop-b.invariant.2 in
+    let next = ap (λ (x : List ℕ). length (split a.separator x)) (drop_next s i (omega arith)) in
+    elim c.if-b-separator.branch [ then-b-separator w ↦ let e = w.count-is in let l = next ∙ count_at a.separator _ (drop (i + 1) s) w.if-b-separator.true in (c.loop-b.invariant.0, omega arith, omega arith) | else-b-separator w ↦ let e = w.count-is in let l = next ∙ count_past a.separator _ (drop (i + 1) s) w.if-b-separator.false in (c.loop-b.invariant.0, omega arith, omega arith) ]
 
 pub overflow_add-count : goal.overflow_add-count
-overflow_add-count c = let o = one_more c in let m = o.0 in omega arith
-
-pub loop-i-preserved : goal.loop-i-preserved
-loop-i-preserved c =
-    let o = one_more c in
-    let m = o.0 in
-    let n = o.1 in
-    (omega arith, c.loop-i.invariant.1, omega arith, omega arith)
+overflow_add-count c = let n = c.loop-b.invariant.1 in let m = c.loop-b.invariant.0 in omega arith
 
 pub returns : goal.returns
 returns c =
     let a = c.args in
-    let h : length a.block.now ≤ c.loop-i.i = omega arith in
+    let h : length a.block.now ≤ c.loop-b.b-index = omega arith in
+    let k = c.loop-b.invariant.2 in
     let z = ap (λ (x : List ℕ). length (split a.separator x)) (drop_of_length-le a.block.now h) ∙ ap length (split_nothing a.separator) in
     omega arith
