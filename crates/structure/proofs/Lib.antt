@@ -14,4 +14,3 @@ pub mod SegmentWalk
 pub mod OneWalk
 pub mod NameLaws
 pub mod ChoiceLaws
-pub mod TableTest

@@ -3,22 +3,20 @@ use mathlib.Core.Path.{◌≡◌, refl, sym, ◌∙◌}
 use mathlib.Core.List.{List}
 use Prim.Native.Nat.{ℕ}
 use native.Mathlib.Omega.{arith}
-use lib.ListN.{take, drop}
+use lib.ListN.{drop}
+use Rattle.std.specs.Prelude.{Ok, Err, Some, None}
+use Rattle.alphabet.specs.Answers.{Check, passes, fails}
 use Rattle.alphabet.specs.Bytes.{carriage_return}
 use Rattle.alphabet.specs.Parts.{split}
 use Rattle.alphabet.specs.declared.answers.Refusal.{Refusal}
-use Rattle.alphabet.specs.declared.answers.Refusal.TheVariants.{None}
-use Rattle.alphabet.specs.declared.answers.Check.{Check}
-use Rattle.alphabet.specs.declared.answers.Check.TheVariants.{Passes, Fails}
 use Rattle.alphabet.proofs.CheckLaws.{fails_or, passes_or, ends}
 use Rattle.reading.specs.Segments.{all_but_last}
 use Rattle.reading.specs.Reading.{opening, end_check, segment_checks, segments_check, reading}
-use Rattle.reading.proofs.Honest.{reading_fails}
-use Rattle.fault.specs.declared.FaultRecord.{FaultRecord}
+use Rattle.fault.specs.Faults.{Judgement}
 use Rattle.structure.specs.Shapes.{Shape}
 use Rattle.structure.specs.Structures.{ListedStructure, chosen, unlisted, structure_for}
 use Rattle.structure.specs.Judged.{AnswersBy, no_structure, by, unread, read}
-use Rattle.structure.specs.Engine.{into, Tables, RowsOf}
+use Rattle.structure.specs.Engine.{RowsAre, RowsOf}
 use Rattle.structure.specs.OneWalk.{unlisted_answer, JudgedAsRead}
 use Rattle.structure.specs.OneWalk.JudgedAsRead.{faulty, judged}
 use Rattle.structure.specs.declared.rows.Rows.{Rows}
@@ -31,17 +29,17 @@ checks_left m separator number start = segment_checks separator number start (al
 -- ---- reading
 
 module _ (m : List ℕ) where
-  pub opening_fails : {kind : Refusal} {place : ℕ} → opening m ≡ Fails kind place → reading m ≡ Fails kind place
+  pub opening_fails : {kind : Refusal} {place : ℕ} → opening m ≡ fails kind place → reading m ≡ fails kind place
   unfolding reading
   opening_fails e = fails_or e _
 
-  module _ (o : opening m ≡ Passes) where
-    pub end_fails : {kind : Refusal} {place : ℕ} → end_check m ≡ Fails kind place → reading m ≡ Fails kind place
+  module _ (o : opening m ≡ passes) where
+    pub end_fails : {kind : Refusal} {place : ℕ} → end_check m ≡ fails kind place → reading m ≡ fails kind place
     unfolding reading
     end_fails e = passes_or o _ ∙ fails_or e _
 
     -- the segments are left to be read
-    pub left_to_read : end_check m ≡ Passes → reading m ≡ segments_check m
+    pub left_to_read : end_check m ≡ passes → reading m ≡ segments_check m
     unfolding reading
     left_to_read d = passes_or o _ ∙ passes_or d _ ∙ sym (ends refl)
 
@@ -52,26 +50,21 @@ module _ (book : List ListedStructure) (m : List ℕ) (left : reading m ≡ segm
   unlisted_answers g = at (segments_check m) left
     where
       at : (c : Check) → reading m ≡ c → AnswersBy book m (unlisted_answer c)
-      at Passes e = read e (no_structure g)
-      at (Fails kind place) e = unread kind place e
+      at (Ok _) e = read e (no_structure g)
+      at (Err fault) e = unread fault.kind fault.place e
 
-  -- it is a refusal
-  pub unlisted_refuses : (unlisted_answer (segments_check m)).kind ≡ None → ⊥
-  unlisted_refuses = at (segments_check m) left
-    where
-      at : (c : Check) → reading m ≡ c → (unlisted_answer c).kind ≡ None → ⊥
-      at Passes e = λ q. let z : ◌≡◌ {A = ℕ} 0 1 = cc in omega arith
-      at (Fails kind place) e = reading_fails m kind place e
-
-  listed_answers : (x : ListedStructure) → structure_for book m ≡ chosen x → {r : FaultRecord} → JudgedAsRead x.shape m r → AnswersBy book m r
+  listed_answers : (x : ListedStructure) → structure_for book m ≡ chosen x → {r : Judgement} → JudgedAsRead x.shape m r → AnswersBy book m r
   listed_answers x g (faulty kind place f) = unread kind place (left ∙ f)
   listed_answers x g (judged p j) = read (left ∙ p) (by x g j)
 
   -- by the rows of the structure that is chosen, or where there are none
-  module _ (r : Rows) (h : RowsOf (structure_for book m) r) where
-    pub without_rows : r.count ≡ 0 → AnswersBy book m (unlisted_answer (segments_check m))
-    without_rows n = unlisted_answers (none_chosen (structure_for book m) r h n)
+  pub without_rows : RowsOf (structure_for book m) None → AnswersBy book m (unlisted_answer (segments_check m))
+  without_rows h = unlisted_answers (none_chosen (structure_for book m) h)
 
-    pub with_rows : {j : FaultRecord} → (r.count ≡ 0 → ⊥)
-        → ((s : Shape) → Tables s (take r.count r.names) (take r.count r.follow) r.last (into 1) → JudgedAsRead s m j) → AnswersBy book m j
-    with_rows n judge = let k = one_chosen (structure_for book m) r h n in listed_answers k.0 k.1 (judge k.0.shape k.2)
+  pub with_rows : (r : Rows) {j : Judgement} → RowsOf (structure_for book m) (Some r) → ((s : Shape) → RowsAre s r → JudgedAsRead s m j) → AnswersBy book m j
+  with_rows r h judge = let k = one_chosen (structure_for book m) r h in listed_answers k.0 k.1 (judge k.0.shape k.2)
+
+-- it is a refusal
+pub unlisted_refuses : (c : Check) → unlisted_answer c ≡ Ok tt → ⊥
+unlisted_refuses (Ok _) e = absurd (let z : ◌≡◌ {A = ℕ} 0 1 = cc in omega arith)
+unlisted_refuses (Err fault) e = absurd (let z : ◌≡◌ {A = ℕ} 0 1 = cc in omega arith)

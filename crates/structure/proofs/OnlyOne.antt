@@ -1,23 +1,24 @@
 -- No second judgement meets the contract, and what a judgement says of the grammar: accepted exactly where the structure yields the names, a list of
 -- exactly the names with which what stands before can go on, and no prefix before a refusal that cannot be completed. Assumes nothing.
-use mathlib.Core.Path.{◌≡◌, refl, sym, ap, ◌∙◌, subst}
+use mathlib.Core.Path.{◌≡◌, refl, sym, ap, ap₂, ◌∙◌, subst}
 use mathlib.Core.Logic.{◌↔◌}
-use mathlib.Core.Bool.{Bool, true, false, cond}
+use mathlib.Core.Bool.{Bool, true, false}
 use mathlib.Core.List.{List, [], ◌∷◌, ◌++◌, map, append_assoc}
 use Prim.Native.Nat.{ℕ, ◌+◌, ◌≤◌, ◌<◌}
 use native.Mathlib.Decide.{dec_lt}
 use native.Mathlib.Omega.{arith}
-use lib.Dec.{T, ltb}
+use lib.Dec.{T}
 use lib.ListN.{length, take, drop, take-append-drop}
 use lib.Seq.{take-take, append_snoc}
-use Rattle.alphabet.specs.declared.answers.Refusal.TheVariants.{None, SegmentMisplaced, EndedEarly}
+use Rattle.std.specs.Prelude.{Ok, Err}
+use Rattle.alphabet.proofs.CheckLaws.{fails_same, never_both}
 use Rattle.alphabet.specs.declared.answers.Refusal.{Refusal}
 use Rattle.structure.specs.Shapes.{Shape, Yields, Viable, Fills, Possible, names, name_at}
 use Rattle.structure.specs.SegmentNames.{kept, segment_names}
 use Rattle.structure.specs.Listed.{In}
 use Rattle.structure.specs.Structures.{ListedStructure, built_in}
 use Rattle.structure.specs.Judged.{front, Refused, refused_as, Judged, accepted, refused, StructuredBy, no_structure, by, AnswersBy, unread, read, Structured, Answers}
-use Rattle.fault.specs.Faults.{plain}
+use Rattle.fault.specs.Faults.{Judgement, plain}
 use Rattle.fault.specs.declared.FaultRecord.{FaultRecord}
 use Rattle.structure.proofs.PlaceLaws.{CouldEnd, yields_is}
 use Rattle.structure.proofs.Going.{map_append}
@@ -75,11 +76,14 @@ module _ (s : Shape) where
         let list = one_list (Possible s (front s p ns)) (name_at s) k l a.could_stand moved.could_stand in
         ap (λ (i : ℕ). refused_as (length ns) i d k) place ∙ ap (λ (t : Bool). refused_as (length ns) q t k) flag ∙ ap (refused_as (length ns) q e) list
 
-    pub one_judgement : {r t : FaultRecord} → Judged s ns r → Judged s ns t → r ≡ t
+    abbrev refusal : FaultRecord → Judgement
+    refusal r = Err r
+
+    pub one_judgement : {r t : Judgement} → Judged s ns r → Judged s ns t → r ≡ t
     one_judgement (accepted y) (accepted z) = refl
     one_judgement (accepted y) (refused place ends list r) = absurd (r.not_yielded y)
     one_judgement (refused place ends list r) (accepted y) = absurd (r.not_yielded y)
-    one_judgement (refused p d k a) (refused q e l b) = one_refusal p q d e k l a b
+    one_judgement (refused p d k a) (refused q e l b) = ap refusal (one_refusal p q d e k l a b)
 
     -- the list has exactly the names with which what stands before goes on
     pub could_stand_is : (place : ℕ) (ends : Bool) (list : List ℕ) → Refused s ns place ends list → (n : ℕ) → In n list ↔ Viable s (front s place ns ++ (n ∷ []))
@@ -98,20 +102,16 @@ module _ (s : Shape) where
     )
 
     -- accepted exactly where the structure yields the names
-    pub accepts_exactly : {r : FaultRecord} → Judged s ns r → (r ≡ plain None 0) ↔ Yields s (kept (names s) ns)
+    pub accepts_exactly : {r : Judgement} → Judged s ns r → (r ≡ Ok tt) ↔ Yields s (kept (names s) ns)
     accepts_exactly j = (yielded j, λ y. one_judgement j (accepted y))
       where
-        yielded : {r : FaultRecord} → Judged s ns r → r ≡ plain None 0 → Yields s (kept (names s) ns)
+        yielded : {r : Judgement} → Judged s ns r → r ≡ Ok tt → Yields s (kept (names s) ns)
         yielded (accepted y) e = y
-        yielded (refused place ends list a) e = absurd (kinds (ltb place (length ns)) (ap (λ (x : FaultRecord). x.kind) e))
-          where
-            kinds : (t : Bool) → cond t SegmentMisplaced EndedEarly ≡ None → ⊥
-            kinds true q = let z : ◌≡◌ {A = ℕ} 0 1 = cc in omega arith
-            kinds false q = let z : ◌≡◌ {A = ℕ} 0 1 = cc in omega arith
+        yielded (refused place ends list a) e = absurd (let z : ◌≡◌ {A = ℕ} 0 1 = cc in omega arith)
 
 module _ (book : List ListedStructure) (m : List ℕ) where
   -- no second judgement of a message that was read
-  pub one_structured_by : {r t : FaultRecord} → StructuredBy book m r → StructuredBy book m t → r ≡ t
+  pub one_structured_by : {r t : Judgement} → StructuredBy book m r → StructuredBy book m t → r ≡ t
   one_structured_by (no_structure e) (no_structure f) = refl
   one_structured_by (no_structure e) (by x f j) = absurd (let z : ◌≡◌ {A = ℕ} 0 1 = cc in omega arith)
   one_structured_by (by x e j) (no_structure f) = absurd (let z : ◌≡◌ {A = ℕ} 0 1 = cc in omega arith)
@@ -120,15 +120,18 @@ module _ (book : List ListedStructure) (m : List ℕ) where
       one_judgement x.shape (segment_names m) j (subst (λ (z : ListedStructure). Judged z.shape (segment_names m) t) q k)
 
   -- nor of any bytes
-  pub only_one_by : {r t : FaultRecord} → AnswersBy book m r → AnswersBy book m t → r ≡ t
-  only_one_by (unread k p e) (unread l q f) = let a : k ≡ l = cc in let b : p ≡ q = cc in ap (λ (x : Refusal). plain x p) a ∙ ap (plain l) b
-  only_one_by (unread k p e) (read f j) = absurd (let z : ◌≡◌ {A = ℕ} 0 1 = cc in omega arith)
-  only_one_by (read e j) (unread l q f) = absurd (let z : ◌≡◌ {A = ℕ} 0 1 = cc in omega arith)
+  pub only_one_by : {r t : Judgement} → AnswersBy book m r → AnswersBy book m t → r ≡ t
+  only_one_by (unread k p e) (unread l q f) = let k = fails_same (sym e ∙ f) in ap₂ (λ (x : Refusal) (n : ℕ). told x n) k.0 k.1
+    where
+      told : Refusal → ℕ → Judgement
+      told x n = Err (plain x n)
+  only_one_by (unread k p e) (read f j) = absurd (never_both (sym f ∙ e))
+  only_one_by (read e j) (unread l q f) = absurd (never_both (sym e ∙ f))
   only_one_by (read e j) (read f k) = one_structured_by j k
 
 -- by the structures of document 01
-pub one_structured : (m : List ℕ) {r t : FaultRecord} → Structured m r → Structured m t → r ≡ t
+pub one_structured : (m : List ℕ) {r t : Judgement} → Structured m r → Structured m t → r ≡ t
 one_structured m a b = one_structured_by built_in m a b
 
-pub only_one : (m : List ℕ) {r t : FaultRecord} → Answers m r → Answers m t → r ≡ t
+pub only_one : (m : List ℕ) {r t : Judgement} → Answers m r → Answers m t → r ≡ t
 only_one m a b = only_one_by built_in m a b

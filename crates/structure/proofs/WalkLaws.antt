@@ -10,13 +10,13 @@ use lib.Dec.{T, eqb}
 use lib.ListN.{length, take, length-append}
 use lib.Seq.{take-append_seam, append_snoc}
 use borrow.Author.Tests.{eqb-true, eqb-false}
+use Rattle.std.specs.Prelude.{Ok, Err}
 use Rattle.alphabet.proofs.BoolLaws.{false_true}
 use Rattle.structure.specs.Shapes.{Shape, Yields, Viable, Possible, names, name_at, numbered}
 use Rattle.structure.specs.SegmentNames.{passed_over, kept}
 use Rattle.structure.specs.Judged.{front, Refused}
-use Rattle.structure.specs.Engine.{has, Entry, entry_at, stepped, stuck_at, ended_with, walked, listing, stop, Fits, Tables}
-use Rattle.structure.specs.declared.walking.Walked.{Walked}
-use Rattle.structure.specs.declared.walking.Walked.TheVariants.{Accepted, Misplaced, Early}
+use Rattle.structure.specs.Engine.{has, Entry, entry_at, stepped, stuck_at, Walked, misplaced, early, ended_with, walked, listing, stop, Fits, Tables}
+use Rattle.structure.specs.declared.walking.Stop.TheVariants.{Misplaced, Early}
 use Rattle.structure.proofs.Going.{Going, begun, onward, halted, yielded, standing, placed}
 use Rattle.structure.proofs.ListingLaws.{listing_is}
 
@@ -71,9 +71,9 @@ module _ (s : Shape) (follow : List ℕ) (last : ℕ) (fits : Fits (entry_at fol
 
   -- what a walk over all names comes to
   abbrev pub Walks : List ℕ → Walked → Type 0
-  Walks all Accepted = Yields s (kept (names s) all)
-  Walks all (Misplaced place places ends) = (place < length all) × Refused s all place ends (listing (names s) places (length (names s)))
-  Walks all (Early place places) = (place ≡ length all) × Refused s all place false (listing (names s) places (length (names s)))
+  Walks all (Ok _) = Yields s (kept (names s) all)
+  Walks all (Err (Misplaced stuck)) = (stuck.place < length all) × Refused s all stuck.place stuck.next.ends (listing (names s) stuck.next.places (length (names s)))
+  Walks all (Err (Early place places)) = (place ≡ length all) × Refused s all place false (listing (names s) places (length (names s)))
 
   module _ (before : List ℕ) (e : Entry) (g : Goes before e) where
     -- at a segment that cannot stand
@@ -124,7 +124,7 @@ module _ (s : Shape) (follow : List ℕ) (last : ℕ) (fits : Fits (entry_at fol
     unfolding ended_with
     ended_is = at e.ends refl
       where
-        at : (t : Bool) → e.ends ≡ t → Walks (before ++ []) (cond t Accepted (Early (length before) e.next))
+        at : (t : Bool) → e.ends ≡ t → Walks (before ++ []) (cond t (Ok tt) (early (length before) e.next))
         at true f =
             subst (λ (x : List ℕ). Yields s (kept ns x)) (sym (append-nil before))
             ((yielded s ns follow last refl fits (kept ns before) e g).0 (subst T (sym f) tt))
@@ -151,7 +151,7 @@ module _ (s : Shape) (follow : List ℕ) (last : ℕ) (fits : Fits (entry_at fol
           → (Goes (before ++ (n ∷ [])) (stepped ns follow last e.next n) → Walks (before ++ n ∷ l) (walked ns follow last (stepped ns follow last e.next n) (length before + 1) l))
           → Walks (before ++ n ∷ l)
           (cond t (walked ns follow last e (length before + 1) l)
-          (cond u (Misplaced (length before) e.next e.ends) (walked ns follow last (stepped ns follow last e.next n) (length before + 1) l)))
+          (cond u (misplaced (length before) e.next e.ends) (walked ns follow last (stepped ns follow last e.next n) (length before + 1) l)))
       at true p u q over on = over (subst (λ (x : List ℕ). Going s ns follow last refl fits x e) (sym (kept_over ns before n p)) g)
       at false p true q over on = (omega (arith, length-append before (n ∷ l)), at_name before e g n l p q)
       at false p false q over on =

@@ -1,22 +1,23 @@
 -- How the private functions walk the names of a message by a structure's tables. Nobody has to believe this: `proofs/`
 -- shows that the walk is the grammar, once for every shape and every table that fits it. A set of places is a number:
 -- place q is in m where digit q of m, in base 2, is 1.
-use Rattle.std.specs.Prelude.{◌≡◌, Bool, true, false, cond, not, ◌&&◌, ◌||◌, List, [], ◌∷◌, ◌++◌, ℕ, zero, suc, ◌+◌, ◌-◌, ◌/◌, ◌%◌, ◌^◌, ◌≤◌, eqb, length, get_or, take, replicate}
+use Rattle.std.specs.Prelude.{◌≡◌, Bool, true, false, cond, not, ◌&&◌, ◌||◌, List, [], ◌∷◌, ◌++◌, ℕ, zero, suc, ◌+◌, ◌/◌, ◌%◌, ◌^◌, eqb, length, get_or, Option, Some, None, Result, Ok, Err}
 use Rattle.std.specs.Int.Bits.{bit_or}
-use Rattle.alphabet.specs.declared.answers.Refusal.TheVariants.{None}
+use Rattle.alphabet.specs.declared.answers.Refusal.TheVariants.{SegmentMisplaced, EndedEarly}
+use Rattle.fault.specs.Faults.{Judgement, at_place}
 use Rattle.fault.specs.declared.FaultRecord.{FaultRecord}
 use Rattle.structure.specs.Shapes.{Shape, names, numbered}
 use Rattle.structure.specs.Shapes.Shape.{end, seg, opt, rep}
 use Rattle.structure.specs.SegmentNames.{among, passed_over}
-use Rattle.structure.specs.Structures.{Choice, chosen, unlisted, observation_report, acknowledgement, merge, admission, transfer, cancel}
+use Rattle.structure.specs.Structures.{ListedStructure, Choice, chosen, unlisted, observation_report, acknowledgement, merge, admission, transfer, cancel}
 use Rattle.structure.specs.Judged.{Judged}
 use Rattle.structure.specs.declared.rows.Rows.{Rows}
 use Rattle.structure.specs.declared.structures.Structure.{Structure}
-use Rattle.structure.specs.declared.structures.Structure.TheVariants.{ObservationReport, Acknowledgement, Merge, Admission, Transfer, Cancel, Unlisted}
-use Rattle.structure.specs.declared.walking.Course.{Course}
-use Rattle.structure.specs.declared.walking.Course.TheVariants.{Going, Stuck}
-use Rattle.structure.specs.declared.walking.Walked.{Walked}
-use Rattle.structure.specs.declared.walking.Walked.TheVariants.{Accepted, Misplaced, Early}
+use Rattle.structure.specs.declared.structures.Structure.TheVariants.{ObservationReport, Acknowledgement, Merge, Admission, Transfer, Cancel}
+use Rattle.structure.specs.declared.walking.Next.{Next}
+use Rattle.structure.specs.declared.walking.Stuck.{Stuck}
+use Rattle.structure.specs.declared.walking.Stop.{Stop}
+use Rattle.structure.specs.declared.walking.Stop.TheVariants.{Misplaced, Early}
 
 -- ---- sets of places
 
@@ -70,22 +71,36 @@ stepped ns follow last set n = gathered ns follow last set n (length ns)
 abbrev pub stuck_at : Entry → Bool
 stuck_at e = eqb e.next 0 && not e.ends
 
+-- what a walk comes to: nothing stops it, or why it stops
+abbrev pub Walked : Type 0
+Walked = Result (Unit {0}) Stop
+
+abbrev pub misplaced : ℕ → ℕ → Bool → Walked
+misplaced place places ends = Err (Misplaced (record { place = place; next = record { places = places; ends = ends } }))
+
+abbrev pub early : ℕ → ℕ → Walked
+early place places = Err (Early place places)
+
 -- at the end of the names
 unfoldable pub ended_with : Entry → ℕ → Walked
-ended_with e i = cond e.ends Accepted (Early i e.next)
+ended_with e i = cond e.ends (Ok tt) (early i e.next)
 
 -- some names walked from what can come next; i segments are behind
 unfoldable pub walked : List ℕ → List ℕ → ℕ → Entry → ℕ → List ℕ → Walked
 walked ns follow last e i [] = ended_with e i
 walked ns follow last e i (n ∷ l) =
     cond (passed_over ns n) (walked ns follow last e (i + 1) l)
-    (cond (stuck_at (stepped ns follow last e.next n)) (Misplaced i e.next e.ends)
+    (cond (stuck_at (stepped ns follow last e.next n)) (misplaced i e.next e.ends)
     (walked ns follow last (stepped ns follow last e.next n) (i + 1) l))
+
+-- a walk on its way, or where it is stuck
+abbrev pub Course : Type 0
+Course = Result Next Stuck
 
 -- a walk on its way, with the names that are left; i segments are behind
 abbrev pub resumed : List ℕ → List ℕ → ℕ → Course → ℕ → List ℕ → Walked
-resumed ns follow last (Going places ends) i l = walked ns follow last (entry places ends) i l
-resumed ns follow last (Stuck place places ends) i l = Misplaced place places ends
+resumed ns follow last (Ok next) i l = walked ns follow last (entry next.places next.ends) i l
+resumed ns follow last (Err stuck) i l = Err (Misplaced stuck)
 
 -- the names of the places of a set below k, each once
 unfoldable pub listing : List ℕ → ℕ → ℕ → List ℕ
@@ -141,32 +156,37 @@ pub record Tables (s : Shape) (ns follow : List ℕ) (last : ℕ) (begin : Entry
   pub fits : Fits (entry_at follow last) (numbered 0 s) stop
   pub begins : begin ≡ enter (numbered 0 s) stop
 
--- the record tells what a walk by the names of some tables came to, and it tells a fault where the walk does not accept
-pub record Tells (w : Walked) (ns : List ℕ) (r : FaultRecord) : Type 0 where
+-- the record of why a walk by the names of some tables stopped
+abbrev pub recorded : Stop → List ℕ → FaultRecord
+recorded (Misplaced stuck) ns = at_place SegmentMisplaced stuck.place stuck.next.ends (listing ns stuck.next.places (length ns))
+recorded (Early place places) ns = at_place EndedEarly place false (listing ns places (length ns))
+
+-- it tells what a walk by the names of some tables came to, and a fault where the walk does not accept
+pub record Tells (w : Walked) (ns : List ℕ) (r : Judgement) : Type 0 where
   pub judges : (s : Shape) (follow : List ℕ) (last : ℕ) (begin : Entry) (all : List ℕ) → Tables s ns follow last begin → w ≡ walked ns follow last begin 0 all → Judged s all r
-  pub refuses : r.kind ≡ None → w ≡ Accepted
+  pub refuses : r ≡ Ok tt → w ≡ Ok tt
 
 -- ---- the structures that the code knows
 
-abbrev pub choice_of : Structure → Choice
-choice_of ObservationReport = chosen observation_report
-choice_of Acknowledgement = chosen acknowledgement
-choice_of Merge = chosen merge
-choice_of Admission = chosen admission
-choice_of Transfer = chosen transfer
-choice_of Cancel = chosen cancel
-choice_of Unlisted = unlisted
+abbrev pub listed_as : Structure → ListedStructure
+listed_as ObservationReport = observation_report
+listed_as Acknowledgement = acknowledgement
+listed_as Merge = merge
+listed_as Admission = admission
+listed_as Transfer = transfer
+listed_as Cancel = cancel
 
--- the tables as one value: zeros stand behind the names and the sets
-unfoldable pub rows_with : List ℕ → List ℕ → ℕ → Rows
-rows_with ns follow last =
-    record { names = ns ++ replicate (64 - length ns) 0; follow = follow ++ replicate (64 - length follow) 0; count = length ns; last = last }
+abbrev pub choice_of : Option Structure → Choice
+choice_of (Some structure) = chosen (listed_as structure)
+choice_of None = unlisted
 
 -- the rows are the tables of a structure, at whose place 0 a message begins
 abbrev pub RowsAre : Shape → Rows → Type 0
-RowsAre s r = (1 ≤ r.count) × (r.count ≤ 64) × Tables s (take r.count r.names) (take r.count r.follow) r.last (into 1)
+RowsAre s r = Tables s r.names.now r.follow.now r.last (into 1)
 
 -- the rows of the structure that is chosen; there are none where none is
-abbrev pub RowsOf : Choice → Rows → Type 0
-RowsOf (chosen x) r = RowsAre x.shape r
-RowsOf unlisted r = r.count ≡ 0
+abbrev pub RowsOf : Choice → Option Rows → Type 0
+RowsOf (chosen x) (Some r) = RowsAre x.shape r
+RowsOf (chosen x) None = ⊥
+RowsOf unlisted (Some r) = ⊥
+RowsOf unlisted None = Unit {0}

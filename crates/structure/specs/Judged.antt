@@ -1,11 +1,11 @@
 -- What a judgement of a message's structure says. It is a relation to the grammar alone; `proofs/OnlyOne.antt` shows
 -- that no second judgement meets it.
-use Rattle.std.specs.Prelude.{◌≡◌, ◌↔◌, Bool, cond, List, ℕ, ◌+◌, ◌≤◌, ◌<◌, T, ltb, length, take}
+use Rattle.std.specs.Prelude.{◌≡◌, ◌↔◌, Bool, cond, List, ℕ, ◌+◌, ◌≤◌, ◌<◌, T, ltb, length, take, Ok, Err}
+use Rattle.alphabet.specs.Answers.{passes, fails}
 use Rattle.alphabet.specs.declared.answers.Refusal.{Refusal}
-use Rattle.alphabet.specs.declared.answers.Refusal.TheVariants.{None, NoStructure, SegmentMisplaced, EndedEarly}
-use Rattle.alphabet.specs.declared.answers.Check.TheVariants.{Passes, Fails}
+use Rattle.alphabet.specs.declared.answers.Refusal.TheVariants.{NoStructure, SegmentMisplaced, EndedEarly}
 use Rattle.reading.specs.Reading.{reading}
-use Rattle.fault.specs.Faults.{at_place, plain}
+use Rattle.fault.specs.Faults.{Judgement, at_place, plain}
 use Rattle.fault.specs.declared.FaultRecord.{FaultRecord}
 use Rattle.structure.specs.Shapes.{Shape, Yields, Viable, Possible, names, name_at}
 use Rattle.structure.specs.SegmentNames.{segment_names, kept}
@@ -32,23 +32,23 @@ abbrev pub refused_as : ℕ → ℕ → Bool → List ℕ → FaultRecord
 refused_as count place ends list = at_place (cond (ltb place count) SegmentMisplaced EndedEarly) place ends list
 
 -- the names ns, as sent, judged by a structure
-pub data Judged (s : Shape) (ns : List ℕ) : FaultRecord → Type 0 where
-  accepted : Yields s (kept (names s) ns) → Judged s ns (plain None 0)
-  refused : (place : ℕ) (ends : Bool) (list : List ℕ) → Refused s ns place ends list → Judged s ns (refused_as (length ns) place ends list)
+pub data Judged (s : Shape) (ns : List ℕ) : Judgement → Type 0 where
+  accepted : Yields s (kept (names s) ns) → Judged s ns (Ok tt)
+  refused : (place : ℕ) (ends : Bool) (list : List ℕ) → Refused s ns place ends list → Judged s ns (Err (refused_as (length ns) place ends list))
 
 -- "20, 21, 22": a message judged by a book, a list of structures, where no reading fault is looked for
-pub data StructuredBy (book : List ListedStructure) (m : List ℕ) : FaultRecord → Type 0 where
-  no_structure : structure_for book m ≡ unlisted → StructuredBy book m (plain NoStructure 0)
-  by : {r : FaultRecord} (x : ListedStructure) → structure_for book m ≡ chosen x → Judged x.shape (segment_names m) r → StructuredBy book m r
+pub data StructuredBy (book : List ListedStructure) (m : List ℕ) : Judgement → Type 0 where
+  no_structure : structure_for book m ≡ unlisted → StructuredBy book m (Err (plain NoStructure 0))
+  by : {r : Judgement} (x : ListedStructure) → structure_for book m ≡ chosen x → Judged x.shape (segment_names m) r → StructuredBy book m r
 
 -- "Judges answer a reading fault first, then 20, 21, 22"
-pub data AnswersBy (book : List ListedStructure) (m : List ℕ) : FaultRecord → Type 0 where
-  unread : (kind : Refusal) (place : ℕ) → reading m ≡ Fails kind place → AnswersBy book m (plain kind place)
-  read : {r : FaultRecord} → reading m ≡ Passes → StructuredBy book m r → AnswersBy book m r
+pub data AnswersBy (book : List ListedStructure) (m : List ℕ) : Judgement → Type 0 where
+  unread : (kind : Refusal) (place : ℕ) → reading m ≡ fails kind place → AnswersBy book m (Err (plain kind place))
+  read : {r : Judgement} → reading m ≡ passes → StructuredBy book m r → AnswersBy book m r
 
 -- by the structures of document 01
-abbrev pub Structured : List ℕ → FaultRecord → Type 0
+abbrev pub Structured : List ℕ → Judgement → Type 0
 Structured m r = StructuredBy built_in m r
 
-abbrev pub Answers : List ℕ → FaultRecord → Type 0
+abbrev pub Answers : List ℕ → Judgement → Type 0
 Answers m r = AnswersBy built_in m r

@@ -1,8 +1,5 @@
 // ACK as tables: MSH MSA [ERR]
-ghost use Rattle.structure.specs.Structures.{ack};
-ghost use Rattle.structure.specs.Engine.{RowsAre};
-
-use crate::rows::{Rows, rows_from};
+use crate::rows::Rows;
 use crate::segments;
 
 // The places behind MSH, place 0: bit p is place p.
@@ -11,10 +8,10 @@ const MSA: u64 = 1 << 1;
 const ERR: u64 = 1 << 2;
 
 // The names, by place.
-const NAMES: [u32; 3] = [segments::MSH, segments::MSA, segments::ERR];
+static NAMES: [u32; 3] = [segments::MSH, segments::MSA, segments::ERR];
 
 // The places that can be filled next, by place.
-const FOLLOW: [u64; 3] = [
+static FOLLOW: [u64; 3] = [
     MSA, // behind MSH
     ERR, // behind MSA
     0, // behind ERR
@@ -24,8 +21,8 @@ const FOLLOW: [u64; 3] = [
 const LAST: u64 = MSA | ERR;
 
 // The tables of ACK.
-pub fn tables() -> Rows
-    ensures { RowsAre ack result }
-{
-    rows_from(&NAMES, &FOLLOW, LAST)
-}
+pub const ROWS: Rows<'static> = Rows {
+    names: &NAMES,
+    follow: &FOLLOW,
+    last: LAST,
+};

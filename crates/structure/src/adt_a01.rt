@@ -1,8 +1,5 @@
 // ADT^A01 as tables: MSH EVN PID [{NK1}] PV1 [PV2] [{AL1}] [{IN1}] [ZVI] [ZPD]
-ghost use Rattle.structure.specs.Structures.{adt_a01};
-ghost use Rattle.structure.specs.Engine.{RowsAre};
-
-use crate::rows::{Rows, rows_from};
+use crate::rows::Rows;
 use crate::segments;
 
 // The places behind MSH, place 0: bit p is place p.
@@ -25,7 +22,7 @@ const ZVI: u64 = 1 << 8;
 const ZPD: u64 = 1 << 9;
 
 // The names, by place.
-const NAMES: [u32; 10] = [
+static NAMES: [u32; 10] = [
     segments::MSH,
     segments::EVN,
     segments::PID,
@@ -39,7 +36,7 @@ const NAMES: [u32; 10] = [
 ];
 
 // The places that can be filled next, by place.
-const FOLLOW: [u64; 10] = [
+static FOLLOW: [u64; 10] = [
     EVN, // behind MSH
     PID, // behind EVN
     NK1 | PV1, // behind PID
@@ -56,8 +53,8 @@ const FOLLOW: [u64; 10] = [
 const LAST: u64 = PV1 | PV2 | AL1 | IN1 | ZVI | ZPD;
 
 // The tables of ADT^A01.
-pub fn tables() -> Rows
-    ensures { RowsAre adt_a01 result }
-{
-    rows_from(&NAMES, &FOLLOW, LAST)
-}
+pub const ROWS: Rows<'static> = Rows {
+    names: &NAMES,
+    follow: &FOLLOW,
+    last: LAST,
+};

@@ -1,8 +1,5 @@
 // ADT^A02 and A12 as tables: MSH EVN PID PV1 [PV2] [ZVI] [ZPD]
-ghost use Rattle.structure.specs.Structures.{adt_a02};
-ghost use Rattle.structure.specs.Engine.{RowsAre};
-
-use crate::rows::{Rows, rows_from};
+use crate::rows::Rows;
 use crate::segments;
 
 // The places behind MSH, place 0: bit p is place p.
@@ -19,7 +16,7 @@ const ZVI: u64 = 1 << 5;
 const ZPD: u64 = 1 << 6;
 
 // The names, by place.
-const NAMES: [u32; 7] = [
+static NAMES: [u32; 7] = [
     segments::MSH,
     segments::EVN,
     segments::PID,
@@ -30,7 +27,7 @@ const NAMES: [u32; 7] = [
 ];
 
 // The places that can be filled next, by place.
-const FOLLOW: [u64; 7] = [
+static FOLLOW: [u64; 7] = [
     EVN, // behind MSH
     PID, // behind EVN
     PV1, // behind PID
@@ -44,8 +41,8 @@ const FOLLOW: [u64; 7] = [
 const LAST: u64 = PV1 | PV2 | ZVI | ZPD;
 
 // The tables of ADT^A02 and A12.
-pub fn tables() -> Rows
-    ensures { RowsAre adt_a02 result }
-{
-    rows_from(&NAMES, &FOLLOW, LAST)
-}
+pub const ROWS: Rows<'static> = Rows {
+    names: &NAMES,
+    follow: &FOLLOW,
+    last: LAST,
+};

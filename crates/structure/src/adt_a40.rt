@@ -1,8 +1,5 @@
 // ADT^A40 as tables: MSH EVN { PID [PD1] MRG [PV1] }
-ghost use Rattle.structure.specs.Structures.{adt_a40};
-ghost use Rattle.structure.specs.Engine.{RowsAre};
-
-use crate::rows::{Rows, rows_from};
+use crate::rows::Rows;
 use crate::segments;
 
 // The places behind MSH, place 0: bit p is place p.
@@ -17,7 +14,7 @@ const MRG: u64 = 1 << 4;
 const PV1: u64 = 1 << 5;
 
 // The names, by place.
-const NAMES: [u32; 6] = [
+static NAMES: [u32; 6] = [
     segments::MSH,
     segments::EVN,
     segments::PID,
@@ -27,7 +24,7 @@ const NAMES: [u32; 6] = [
 ];
 
 // The places that can be filled next, by place.
-const FOLLOW: [u64; 6] = [
+static FOLLOW: [u64; 6] = [
     EVN, // behind MSH
     PID, // behind EVN
     PD1 | MRG, // behind PID
@@ -40,8 +37,8 @@ const FOLLOW: [u64; 6] = [
 const LAST: u64 = MRG | PV1;
 
 // The tables of ADT^A40.
-pub fn tables() -> Rows
-    ensures { RowsAre adt_a40 result }
-{
-    rows_from(&NAMES, &FOLLOW, LAST)
-}
+pub const ROWS: Rows<'static> = Rows {
+    names: &NAMES,
+    follow: &FOLLOW,
+    last: LAST,
+};

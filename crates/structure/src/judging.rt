@@ -4,49 +4,52 @@ ghost use Rattle.std.specs.Prelude.{◌≡◌, ◌≤◌, length};
 ghost use Rattle.structure.specs.Shapes.{Shape};
 ghost use Rattle.structure.specs.SegmentNames.{segment_names};
 ghost use Rattle.structure.specs.Judged.{Judged};
-ghost use Rattle.structure.specs.Engine.{into, Tables, Tells};
+ghost use Rattle.structure.specs.Engine.{into, Tables, Tells, recorded};
 
 use crate::listing::names_at;
-use crate::walking::{Walked, walk};
+use crate::rows::Rows;
+use crate::walking::{Stop, walk};
 use alphabet::Refusal;
 use fault::FaultRecord;
 
-// Tells what a walk by some tables came to, for whatever structure they are the tables of.
-pub fn tell(walked: Walked, names: &[u32]) -> FaultRecord
+// The record of why a walk stopped.
+fn record_of(stop: Stop, names: &[u32]) -> FaultRecord
     requires { length names.now ≤ 64 }
-    ensures { Tells walked names.now result }
+    ensures { result ≡ recorded stop names.now }
 {
-    match walked {
-        Walked::Accepted => fault::plain(Refusal::None, 0),
-        Walked::Misplaced {
-            place,
-            places,
-            ends,
-        } => FaultRecord {
-            kind: Refusal::SegmentMisplaced,
-            place: place,
-            field: 0,
-            repetition: 0,
-            could_end: ends,
-            names: names_at(names, places),
-        },
-        Walked::Early { place, places } => FaultRecord {
-            kind: Refusal::EndedEarly,
-            place: place,
-            field: 0,
-            repetition: 0,
-            could_end: false,
-            names: names_at(names, places),
-        },
+    let (kind, place, could_end, places) = match stop {
+        Stop::Misplaced(stuck) => (
+            Refusal::SegmentMisplaced,
+            stuck.place,
+            stuck.next.ends,
+            stuck.next.places,
+        ),
+        Stop::Early { place, places } => (Refusal::EndedEarly, place, false, places),
+    };
+    FaultRecord {
+        kind,
+        place,
+        field: 0,
+        repetition: 0,
+        could_end,
+        names: names_at(names, places),
     }
 }
 
+// Tells what a walk by some tables came to, for whatever structure they are the tables of.
+#[tactic(auto, using(crate::proofs::Telling::told))]
+pub fn tell(walked: Result<(), Stop>, names: &[u32]) -> Result<(), FaultRecord>
+    requires { length names.now ≤ 64 }
+    ensures { Tells walked names.now result }
+{
+    walked.map_err(|stop| record_of(stop, names))
+}
+
 // Judges the names of a message by tables, for whatever structure they are the tables of.
-pub fn judge_by(message: &[u8], names: &[u32], follow: &[u64], last: u64) -> FaultRecord
-    requires { (length names.now ≤ 64) × (length follow.now ≡ length names.now) }
+pub fn judge_by(message: &[u8], rows: Rows<'_>) -> Result<(), FaultRecord>
     ensures { (s : Shape)
-        → Tables s names.now follow.now last (into 1)
+        → Tables s rows.entry.names.now rows.entry.follow.now rows.entry.last (into 1)
         → Judged s (segment_names message.now) result }
 {
-    tell(walk(message, names, follow, last), names)
+    tell(walk(message, rows), rows.names)
 }

@@ -18,36 +18,21 @@ mod walking;
 
 ghost use Rattle.structure.specs.Judged.{Answers};
 
-use alphabet::Check;
 use fault::FaultRecord;
 pub use judging::tell;
 pub use one_walk::judge_unlisted;
 pub use rows::Rows;
 pub use structures::{judge_read, rows_for};
-pub use walking::{Course, Walked, advance, begin, finish};
+pub use walking::{Course, Next, Stop, Stuck, advance, begin, finish};
 
 // Judges the structure of a message: a reading fault, 20, 21, 22, or accepted.
-pub fn judge_structure(message: &[u8]) -> FaultRecord
+pub fn judge_structure(message: &[u8]) -> Result<(), FaultRecord>
     ensures { Answers message.now result }
 {
-    let opening = reading::check_opening(message);
-    if let Check::Fails { kind, place } = opening {
-        return fault::plain(kind, place);
+    reading::check_opening(message)?;
+    reading::check_end(message)?;
+    match rows_for(message) {
+        Some(rows) => one_walk::judge_segments(message, rows),
+        None => judge_unlisted(message),
     }
-    let end = reading::check_end(message);
-    if let Check::Fails { kind, place } = end {
-        return fault::plain(kind, place);
-    }
-    let rows = rows_for(message);
-    if rows.count == 0 {
-        return judge_unlisted(message);
-    }
-    let names = rows.names;
-    let follow = rows.follow;
-    one_walk::judge_segments(
-        message,
-        &names[..rows.count],
-        &follow[..rows.count],
-        rows.last,
-    )
 }

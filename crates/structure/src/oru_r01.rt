@@ -1,10 +1,7 @@
 // ORU^R01 as tables:
 // MSH { [PID [PD1] [{NK1}] [{NTE}] [PV1 [PV2]]] { [ORC] OBR [{NTE}] [{ [OBX] [{NTE}] }] [{CTI}] } } [DSC]
 // The three places of NTE are told apart by what the note belongs to.
-ghost use Rattle.structure.specs.Structures.{oru_r01};
-ghost use Rattle.structure.specs.Engine.{RowsAre};
-
-use crate::rows::{Rows, rows_from};
+use crate::rows::Rows;
 use crate::segments;
 
 // The places behind MSH, place 0: bit p is place p.
@@ -35,7 +32,7 @@ const CTI: u64 = 1 << 12;
 const DSC: u64 = 1 << 13;
 
 // The names, by place.
-const NAMES: [u32; 14] = [
+static NAMES: [u32; 14] = [
     segments::MSH,
     segments::PID,
     segments::PD1,
@@ -53,7 +50,7 @@ const NAMES: [u32; 14] = [
 ];
 
 // The places that can be filled next, by place.
-const FOLLOW: [u64; 14] = [
+static FOLLOW: [u64; 14] = [
     PID | ORC | OBR, // behind MSH
     PD1 | NK1 | PATIENT_NTE | PV1 | ORC | OBR, // behind PID
     NK1 | PATIENT_NTE | PV1 | ORC | OBR, // behind PD1
@@ -74,8 +71,8 @@ const FOLLOW: [u64; 14] = [
 const LAST: u64 = OBR | ORDER_NTE | OBX | RESULT_NTE | CTI | DSC;
 
 // The tables of ORU^R01.
-pub fn tables() -> Rows
-    ensures { RowsAre oru_r01 result }
-{
-    rows_from(&NAMES, &FOLLOW, LAST)
-}
+pub const ROWS: Rows<'static> = Rows {
+    names: &NAMES,
+    follow: &FOLLOW,
+    last: LAST,
+};

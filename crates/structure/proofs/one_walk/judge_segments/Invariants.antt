@@ -7,8 +7,7 @@ use Rattle.alphabet.specs.Bytes.{carriage_return}
 use Rattle.alphabet.specs.Lists.{find}
 use Rattle.reading.specs.Reading.{segments_check}
 use Rattle.structure.specs.SegmentNames.{segment_names}
-use Rattle.structure.specs.Engine.{into, walked, resumed}
-use Rattle.structure.specs.declared.walking.Walked.{Walked}
+use Rattle.structure.specs.Engine.{into, Walked, walked, resumed}
 use Rattle.structure.proofs.SegmentWalk.{names_from}
 use Rattle.structure.proofs.OneWalk.{checks_left}
 use Rattle.structure.proofs.one_walk.judge_segments.Given as goal
@@ -22,7 +21,7 @@ abbrev pub invariant-loop-end : goal.invariant-loop-end
 invariant-loop-end l =
     (l.start ≤ length l.message) × (l.number ≤ l.start) × (l.end ≡ l.start + find carriage_return (drop l.start l.message))
     × (segments_check l.message ≡ in_order (checks_left l.message l.separator l.number l.start))
-    × (whole l.message l.names l.follow l.last ≡ resumed l.names l.follow l.last l.course l.number (names_from l.message l.start))
+    × (whole l.message l.rows.names.now l.rows.follow.now l.rows.last ≡ resumed l.rows.names.now l.rows.follow.now l.rows.last l.course l.number (names_from l.message l.start))
 
 abbrev pub decreases-loop-end : goal.decreases-loop-end
 decreases-loop-end l = length l.message - l.start

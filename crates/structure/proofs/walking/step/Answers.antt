@@ -8,7 +8,7 @@ use lib.ListN.{length}
 use native.Mathlib.Omega.{arith}
 use Rattle.structure.specs.Engine.{entry, join, gathered}
 use Rattle.structure.proofs.LowestLaws.{without_lowest, without_hit, without_other, without_past, join_none, nothing_left}
-use Rattle.structure.proofs.walking.step.Goals.{then-p-names+then-names-p, then-p-names+else-names-p, else-p-names}
+use Rattle.structure.proofs.walking.step.Goals.{then-p-rows+then-rows-p, then-p-rows+else-rows-p, else-p-rows}
 use Rattle.structure.proofs.walking.step.Goals as goal
 
 pub overflow_cast-p : goal.overflow_cast-p
@@ -20,25 +20,25 @@ loop-rest-smaller c = let l = c.loop-rest in let z = and_le_r l.rest (l.rest - 1
 pub loop-rest-preserved : goal.loop-rest-preserved
 loop-rest-preserved c =
     let a = c.args in
-    let names = a.names.now in
-    let follow = a.follow.now in
+    let names = a.rows.names.now in
+    let follow = a.rows.follow.now in
     let x = c.loop-rest.rest in
     let p = count_trailing_zeros 64 x in
     let y = bit_and x (x - 1) in
     let n = length names in
-    let left = gathered names follow a.last y a.name n in
+    let left = gathered names follow a.rows.last y a.name n in
     let h : x < 2 ^ 64 = omega arith in
     let w = without_lowest 64 x (omega arith) h in
     let z = and_le_r x (x - 1) in (
       omega arith,
-      elim c.if-p-names.branch [
-        | then-p-names+then-names-p v ↦ ap₂ (λ (m : ℕ) (e : Bool). join (entry m e) left) v.next-is v.ends-is
-            ∙ without_hit names follow a.last a.name x p y n c.loop-rest.next c.loop-rest.ends w v.if-p-names.true v.if-names-p.true
-        | then-p-names+else-names-p v ↦ ap₂ (λ (m : ℕ) (e : Bool). join (entry m e) left) v.next-is v.ends-is
-            ∙ ap (join (entry c.loop-rest.next c.loop-rest.ends)) (without_other names follow a.last a.name x p y n w v.if-names-p.false)
-        | else-p-names v ↦ ap₂ (λ (m : ℕ) (e : Bool). join (entry m e) left) v.next-is v.ends-is
+      elim c.if-p-rows.branch [
+        | then-p-rows+then-rows-p v ↦ ap₂ (λ (m : ℕ) (e : Bool). join (entry m e) left) v.next-is v.ends-is
+            ∙ without_hit names follow a.rows.last a.name x p y n c.loop-rest.next c.loop-rest.ends w v.if-p-rows.true v.if-rows-p.true
+        | then-p-rows+else-rows-p v ↦ ap₂ (λ (m : ℕ) (e : Bool). join (entry m e) left) v.next-is v.ends-is
+            ∙ ap (join (entry c.loop-rest.next c.loop-rest.ends)) (without_other names follow a.rows.last a.name x p y n w v.if-rows-p.false)
+        | else-p-rows v ↦ ap₂ (λ (m : ℕ) (e : Bool). join (entry m e) left) v.next-is v.ends-is
             ∙ ap (join (entry c.loop-rest.next c.loop-rest.ends))
-            (without_past names follow a.last a.name x p y n w (let o = v.if-p-names.false in omega arith))
+            (without_past names follow a.rows.last a.name x p y n w (let o = v.if-p-rows.false in omega arith))
       ]
           ∙ c.loop-rest.invariant.1,
     )
@@ -46,10 +46,10 @@ loop-rest-preserved c =
 pub returns : goal.returns
 returns c =
     let a = c.args in
-    let n = length a.names.now in
+    let n = length a.rows.names.now in
     let z : c.loop-rest.rest ≡ 0 = omega arith in
-    sym (nothing_left a.names.now a.follow.now a.last a.name n c.loop-rest.next c.loop-rest.ends)
-    ∙ ap (λ (x : ℕ). join (entry c.loop-rest.next c.loop-rest.ends) (gathered a.names.now a.follow.now a.last x a.name n)) (sym z)
+    sym (nothing_left a.rows.names.now a.rows.follow.now a.rows.last a.name n c.loop-rest.next c.loop-rest.ends)
+    ∙ ap (λ (x : ℕ). join (entry c.loop-rest.next c.loop-rest.ends) (gathered a.rows.names.now a.rows.follow.now a.rows.last x a.name n)) (sym z)
     ∙ c.loop-rest.invariant.1
 
 pub loop-rest-init : goal.loop-rest-init

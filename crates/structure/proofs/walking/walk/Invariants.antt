@@ -11,7 +11,7 @@ use Rattle.structure.proofs.walking.walk.Given as goal
 abbrev pub invariant-loop-end : goal.invariant-loop-end
 invariant-loop-end l =
     (l.start ≤ length l.message) × (l.number ≤ l.start) × (l.end ≡ l.start + find carriage_return (drop l.start l.message))
-    × (walked l.names l.follow l.last (into 1) 0 (segment_names l.message) ≡ resumed l.names l.follow l.last l.course l.number (names_from l.message l.start))
+    × (walked l.rows.names.now l.rows.follow.now l.rows.last (into 1) 0 (segment_names l.message) ≡ resumed l.rows.names.now l.rows.follow.now l.rows.last l.course l.number (names_from l.message l.start))
 
 abbrev pub decreases-loop-end : goal.decreases-loop-end
 decreases-loop-end l = length l.message - l.start
