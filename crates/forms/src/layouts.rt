@@ -2,6 +2,8 @@
 ghost use Rattle.std.specs.Prelude.{◌≡◌};
 ghost use Rattle.forms.specs.Forms.{dt_length, dt_form, layout_of, front_length, fraction_form, zone_form, parts_form};
 
+use crate::parts::Parts;
+
 // The two that have a clock and a zone: TM, a clock alone, and TS, a date and a clock.
 #[derive(Clone, Copy)]
 pub enum Form {
@@ -13,10 +15,11 @@ pub enum Form {
 pub fn is_dt_length(n: usize) -> bool
     ensures { result ≡ dt_length n }
 {
-    (n == 4) | ((n == 6) | (n == 8))
+    matches!(n, 4 | 6 | 8)
 }
 
 // YYYY[MM[DD]]
+#[tactic(auto, unfolding(crate::specs::Forms::dt_form))]
 pub fn is_dt_form(bytes: &[u8]) -> bool
     ensures { result ≡ dt_form bytes.now }
 {
@@ -28,8 +31,8 @@ pub fn is_front_length(form: Form, n: usize) -> bool
     ensures { result ≡ front_length form n }
 {
     match form {
-        Form::Tm => (n == 2) | ((n == 4) | (n == 6)),
-        Form::Ts => (n == 4) | ((n == 6) | ((n == 8) | ((n == 12) | (n == 14)))),
+        Form::Tm => matches!(n, 2 | 4 | 6),
+        Form::Ts => matches!(n, 4 | 6 | 8 | 12 | 14),
     }
 }
 
@@ -44,6 +47,7 @@ pub fn to_seconds(form: Form) -> usize
 }
 
 // No fraction, or, behind seconds, a point and one to four digits.
+#[tactic(auto, unfolding(crate::specs::Forms::fraction_form))]
 pub fn is_fraction(seconds: bool, tail: &[u8]) -> bool
     ensures { result ≡ fraction_form seconds tail.now }
 {
@@ -55,6 +59,7 @@ pub fn is_fraction(seconds: bool, tail: &[u8]) -> bool
 }
 
 // No zone, or a sign and four digits.
+#[tactic(auto, unfolding(crate::specs::Forms::zone_form))]
 pub fn is_zone(zone: &[u8]) -> bool
     ensures { result ≡ zone_form zone.now }
 {
@@ -68,13 +73,12 @@ pub fn is_zone(zone: &[u8]) -> bool
     numbers::is_digits(&zone[1..])
 }
 
-// HH[MM[SS[.S to .SSSS]]][+/-ZZZZ] or YYYY[MM[DD[HHMM[SS[.S to .SSSS]]]]][+/-ZZZZ], by its front, its tail and its
-// zone.
-pub fn is_time_form(form: Form, front: &[u8], tail: &[u8], zone: &[u8]) -> bool
-    ensures { result ≡ parts_form form front.now tail.now zone.now }
+// HH[MM[SS[.S to .SSSS]]][+/-ZZZZ] or YYYY[MM[DD[HHMM[SS[.S to .SSSS]]]]][+/-ZZZZ], by its parts.
+pub fn is_time_form(form: Form, parts: Parts) -> bool
+    ensures { result ≡ parts_form form parts.entry.front.now parts.entry.tail.now parts.entry.zone.now }
 {
     let seconds = to_seconds(form);
-    let digits = numbers::is_digits(front) & is_front_length(form, front.len());
-    let fraction = is_fraction(front.len() == seconds, tail);
-    digits & (fraction & is_zone(zone))
+    let digits = numbers::is_digits(parts.front) & is_front_length(form, parts.front.len());
+    let fraction = is_fraction(parts.front.len() == seconds, parts.tail);
+    digits & (fraction & is_zone(parts.zone))
 }

@@ -8,4 +8,4 @@ mod parts;
 pub use layouts::{
     Form, is_dt_form, is_dt_length, is_fraction, is_front_length, is_time_form, is_zone,
 };
-pub use parts::{body_of, front_of};
+pub use parts::{Parts, parts_of};

@@ -1,14 +1,21 @@
-// The parts of a TM and a TS, where they stand if the bytes are one: the zone is a sign and four bytes at the end, and
-// the tail begins with a point behind the seconds. What stands before each is returned, and what is left behind it is
-// the rest. Nothing is sought, and nothing is said of bytes whose parts then break their forms.
-ghost use Rattle.std.specs.Prelude.{◌≡◌, take};
+// The parts of a TM or a TS, each sought at the one place where it can stand: bytes whose parts stand elsewhere break
+// their forms.
+ghost use Rattle.std.specs.Prelude.{◌≡◌};
 ghost use Rattle.forms.specs.Forms.{layout_of};
-ghost use Rattle.forms.specs.Places.{sign_place, point_place, body_at};
+ghost use Rattle.forms.specs.Places.{sign_place, point_place, front_at, tail_at, zone_at};
 
 use crate::layouts::{Form, to_seconds};
 
 // How many bytes a zone has.
 const ZONE: usize = 5;
+
+// The digits in front, the tail from the point on, and the zone from the sign on.
+#[derive(Clone, Copy)]
+pub struct Parts<'a> {
+    pub front: &'a [u8],
+    pub tail: &'a [u8],
+    pub zone: &'a [u8],
+}
 
 // The place of the sign before a zone, or the length where there is none.
 fn sign_place(bytes: &[u8]) -> usize
@@ -22,14 +29,6 @@ fn sign_place(bytes: &[u8]) -> usize
     let b = bytes[place];
     let sign = (b == b'+') | (b == b'-');
     if sign { place } else { n }
-}
-
-// What stands before the zone.
-pub fn body_of(bytes: &[u8]) -> &[u8]
-    ensures { result.now ≡ body_at bytes.now }
-{
-    let place = sign_place(bytes);
-    &bytes[..place]
 }
 
 // The place of the point behind the seconds, or the length where there is none.
@@ -46,11 +45,13 @@ fn point_place(seconds: usize, body: &[u8]) -> usize
     }
 }
 
-// What stands before the tail.
-pub fn front_of(form: Form, body: &[u8]) -> &[u8]
-    ensures { result.now ≡ take (point_place (layout_of form).seconds body.now) body.now }
+// The three parts.
+pub fn parts_of(form: Form, bytes: &[u8]) -> Parts<'_>
+    ensures front { result.front.now ≡ front_at form bytes.now }
+    ensures tail { result.tail.now ≡ tail_at form bytes.now }
+    ensures zone { result.zone.now ≡ zone_at bytes.now }
 {
-    let seconds = to_seconds(form);
-    let place = point_place(seconds, body);
-    &body[..place]
+    let (body, zone) = bytes.split_at(sign_place(bytes));
+    let (front, tail) = body.split_at(point_place(to_seconds(form), body));
+    Parts { front, tail, zone }
 }
