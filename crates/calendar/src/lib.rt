@@ -4,5 +4,5 @@
 mod dates;
 mod figures;
 
-pub use dates::{is_date, is_offset, is_time};
+pub use dates::{is_clock, is_date, is_offset, is_time};
 pub use figures::{Clock, Date, Fraction, Offset, Sign, Time};

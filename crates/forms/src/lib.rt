@@ -6,6 +6,6 @@ mod layouts;
 mod parts;
 
 pub use layouts::{
-    Form, is_dt_form, is_dt_length, is_fraction, is_front_length, is_time_form, is_zone,
+    Form, is_dt_form, is_dt_length, is_fraction, is_front_length, is_time_form, is_zone, to_seconds,
 };
 pub use parts::{Parts, parts_of};

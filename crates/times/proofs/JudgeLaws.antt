@@ -1,33 +1,28 @@
 -- Laws of judging a time with no time made of it: two digits and their number, digits looked at together, and what is judged part by part. Assumes nothing.
+use Rattle.std.specs.List.{fold}
 use mathlib.Core.Path.{◌≡◌, refl, sym, ap, ap₂, subst, ◌∙◌}
 use mathlib.Core.List.{List, [], ◌∷◌}
 use mathlib.Core.Bool.{Bool, true, false, cond, ◌&&◌}
-use Prim.Native.Nat.{ℕ, zero, suc, ◌+◌, ◌-◌, ◌*◌, ◌≤◌, ◌<◌}
+use Prim.Native.Nat.{ℕ, zero, suc, ◌+◌, ◌-◌, ◌*◌, ◌≤◌}
 use native.Mathlib.Omega.{arith}
 use lib.ListN.{length, get_or, take, drop, drop_of_length-le}
 use lib.Seq.{drop-drop, length-take-le, take_all}
-use native.Mathlib.Numerals.{add-one}
 use Rattle.alphabet.specs.Bytes.{digit}
 use Rattle.alphabet.specs.Digits.{all_digits, counted, decimal}
 use Rattle.alphabet.proofs.BoolLaws.{false_true, and_both, both_and, from_to_lem}
 use Rattle.alphabet.proofs.DigitLaws.{digits_take, digits_drop}
 use Rattle.alphabet.proofs.ListLaws.{drop_next}
-use mathlib.Core.Logic.{◌⊎◌, inl, inr, ⊎_elim}
-use lib.Dec.{leb, ltb, eqb}
-use borrow.Author.Tests.{le-leb}
-use Rattle.calendar.specs.Calendar.{in_range, valid_date, valid_clock, valid_offset, valid_time}
-use Rattle.calendar.specs.declared.figures.Date.{Date}
-use Rattle.calendar.specs.declared.figures.Figure.TheVariants.{NotSent, Sent}
+use lib.Dec.{ltb, eqb}
+use Rattle.calendar.specs.Calendar.{valid_date, valid_clock, valid_offset, valid_time}
 use Rattle.numbers.specs.Numbers.{is_sign}
 use Rattle.forms.specs.declared.layouts.Form.{Form}
-use Rattle.forms.specs.declared.layouts.Form.TheVariants.{Tm, Ts}
-use Rattle.forms.specs.Forms.{one_of, dt_length, dt_form, layout_of, front_length, front_of, tail_of, zone_of, fraction_form, zone_form, parts_form, time_form}
+use Rattle.forms.specs.declared.layouts.Form.TheVariants.{Ts}
+use Rattle.forms.specs.Forms.{dt_length, dt_form, layout_of, front_length, front_of, tail_of, zone_of, fraction_form, zone_form, parts_form, time_form}
 use Rattle.forms.specs.Places.{sign_place, point_place, body_at, front_at, tail_at, zone_at}
-use Rattle.forms.proofs.FormLaws.{one_of_lem, fraction_none}
+use Rattle.forms.proofs.FormLaws.{fraction_none}
 use Rattle.forms.proofs.PlaceLaws.{same_parts, placed_form}
-use Rattle.times.specs.Times.{figure_at, date_of, date_in, clock_of, offset_of, dt_time, is_dt, parts_time, time_of, is_time}
+use Rattle.times.specs.Times.{date_of, date_in, clock_of, offset_of, dt_time, is_dt, parts_time, time_of, is_time}
 use Rattle.times.specs.Judged.{front_judged, zone_judged}
-use Rattle.times.proofs.FigureLaws.{figure_sent, figure_not}
 
 -- ---- two digits
 
@@ -63,6 +58,13 @@ two_told l p e h =
 pub two_digits : (l : List ℕ) (p : ℕ) → all_digits l ≡ true → all_digits (take 2 (drop p l)) ≡ true
 two_digits l p e = digits_take 2 (drop p l) (digits_drop p l e)
 
+-- two of the digits behind a zone's sign are digits
+pub zone_digits : (l : List ℕ) → all_digits (drop 1 l) ≡ true → (all_digits (take 2 (drop 1 l)) ≡ true) × (all_digits (take 2 (drop 3 l)) ≡ true)
+zone_digits l e = (
+  digits_take 2 (drop 1 l) e,
+  digits_take 2 (drop 3 l) (ap all_digits (sym (drop-drop 2 1 l)) ∙ digits_drop 2 (drop 1 l) e),
+)
+
 -- four digits are twice two
 pub year_said : (l : List ℕ) → 4 ≤ length l → decimal (take 2 (drop 0 l)) * 100 + decimal (take 2 (drop 2 l)) ≡ decimal (take 4 (drop 0 l))
 unfolding counted
@@ -82,26 +84,21 @@ two_below l p e h =
 
 -- ---- digits looked at together
 
-pub digits_none : (l : List ℕ) → true ≡ all_digits (take 0 l)
+folded : (t : Bool) (l : List ℕ) → fold (λ (all : Bool) (b : ℕ). all && digit b) t l ≡ (t && all_digits l)
 unfolding all_digits
-digits_none l = refl
-
-digits_suc : (l : List ℕ) (i : ℕ) → i < length l → (all_digits (take i l) && digit (get_or l i 0)) ≡ all_digits (take (suc i) l)
-unfolding all_digits
-digits_suc [] i h = absurd (omega arith)
-digits_suc (x ∷ r) zero h = and_end (digit x)
+folded t [] = and_true t
   where
-    and_end : (t : Bool) → t ≡ (t && true)
-    and_end true = refl
-    and_end false = refl
-digits_suc (x ∷ r) (suc i) h = assoc (digit x) (all_digits (take i r)) (digit (get_or r i 0)) ∙ ap (λ (t : Bool). digit x && t) (digits_suc r i (omega arith))
+    and_true : (t : Bool) → t ≡ (t && true)
+    and_true true = refl
+    and_true false = refl
+folded t (d ∷ r) = folded (t && digit d) r ∙ grouped t (digit d) (all_digits r)
   where
-    assoc : (a b c : Bool) → ((a && b) && c) ≡ (a && (b && c))
-    assoc true b c = refl
-    assoc false b c = refl
+    grouped : (a b c : Bool) → ((a && b) && c) ≡ (a && (b && c))
+    grouped true b c = refl
+    grouped false b c = refl
 
-pub digits_step : (l : List ℕ) (i : ℕ) → i < length l → (all_digits (take i l) && digit (get_or l i 0)) ≡ all_digits (take (i + 1) l)
-digits_step l i h = rw (add-one i) (digits_suc l i h)
+pub digits_folded : (l : List ℕ) → fold (λ (all : Bool) (b : ℕ). all && digit b) true l ≡ all_digits l
+digits_folded l = folded true l
 
 whole : (n : ℕ) (l : List ℕ) → all_digits (take n l) ≡ true → all_digits (drop n l) ≡ true → all_digits l ≡ true
 unfolding all_digits
@@ -130,42 +127,7 @@ module _ (l : List ℕ) (n : ℕ) where
           let d = subst (λ (j : List ℕ). all_digits j ≡ true) (drop-drop (n - k) k l ∙ ap (λ (i : ℕ). drop i l) m) (digits_drop (n - k) (drop k l) q) in
           absurd (false_true (sym p ∙ whole n l e d))
 
--- ---- the date, as far as it was sent
-
-module _ (l : List ℕ) (y : ℕ) (e : y ≡ decimal (take 2 (drop 0 l)) * 100 + decimal (take 2 (drop 2 l))) (h : 4 ≤ length l) where
-  year_sent : Sent y ≡ figure_at l 0 4
-  year_sent = ap Sent (e ∙ year_said l h) ∙ sym (figure_sent l 0 4 h)
-
-  pub date_one : length l < 6 → ◌≡◌ {A = Date} (record { year = Sent y; month = NotSent; day = NotSent }) (date_of l)
-  unfolding date_of
-  date_one k = λ i. record { year = year_sent i; month = sym (figure_not l 4 2 k) i; day = sym (figure_not l 6 2 (omega arith)) i }
-
-  module _ (m : ℕ) (f : m ≡ decimal (take 2 (drop 4 l))) (g : 6 ≤ length l) where
-    month_sent : Sent m ≡ figure_at l 4 2
-    month_sent = ap Sent f ∙ sym (figure_sent l 4 2 g)
-
-    pub date_two : length l < 8 → ◌≡◌ {A = Date} (record { year = Sent y; month = Sent m; day = NotSent }) (date_of l)
-    unfolding date_of
-    date_two k = λ i. record { year = year_sent i; month = month_sent i; day = sym (figure_not l 6 2 k) i }
-
-    pub date_three : (d : ℕ) → d ≡ decimal (take 2 (drop 6 l)) → 8 ≤ length l → ◌≡◌ {A = Date} (record { year = Sent y; month = Sent m; day = Sent d }) (date_of l)
-    unfolding date_of
-    date_three d q k = λ i. record { year = year_sent i; month = month_sent i; day = (ap Sent q ∙ sym (figure_sent l 6 2 k)) i }
-
 -- ---- part by part
-
-and_not : (t : Bool) → false ≡ (t && false)
-and_not true = refl
-and_not false = refl
-
-pub first_not : {t : Bool} (u : Bool) → t ≡ false → false ≡ (t && u)
-first_not u e = rw e
-
-pub second_not : (t : Bool) {u : Bool} → u ≡ false → false ≡ (t && u)
-second_not t e = rw e (and_not t)
-
-pub first_so : {t : Bool} (u : Bool) → t ≡ true → u ≡ (t && u)
-first_so u e = rw e
 
 pub regrouped : (x y z e f g : Bool) → ((x && (e && f)) && (y && (z && g))) ≡ ((x && (y && z)) && (e && (f && g)))
 regrouped false y z e f g = refl
@@ -215,54 +177,6 @@ dt_judged l = ap (λ (b : Bool). (all_digits l && dt_length (length l)) && b) (e
     end true = refl
     end false = refl
 
-pub ts_least : (n : ℕ) → front_length Ts n ≡ true → 4 ≤ n
-ts_least n e = at (one_of_lem 4 (6 ∷ 8 ∷ 12 ∷ 14 ∷ []) n e)
-  where
-    last : (one_of [] n ≡ true) → 4 ≤ n
-    last q = absurd (false_true q)
-
-    at : (n ≡ 4) ⊎ (one_of (6 ∷ 8 ∷ 12 ∷ 14 ∷ []) n ≡ true) → 4 ≤ n
-    at (inl q) = omega arith
-    at (inr r) =
-        ⊎_elim (λ q. omega arith) (λ r. ⊎_elim (λ q. omega arith) (λ r. ⊎_elim (λ q. omega arith) (λ r. ⊎_elim (λ q. omega arith) last (one_of_lem 14 [] n r)) (one_of_lem 12 (14 ∷ []) n r)) (one_of_lem 8 (12 ∷ 14 ∷ []) n r))
-        (one_of_lem 6 (8 ∷ 12 ∷ 14 ∷ []) n r)
-
-pub dt_least : (n : ℕ) → dt_length n ≡ true → 4 ≤ n
-dt_least n e =
-    ⊎_elim (λ q. omega arith) (λ r. ⊎_elim (λ q. omega arith) (λ r. ⊎_elim (λ q. omega arith) (λ q. absurd (false_true q)) (one_of_lem 8 [] n r)) (one_of_lem 6 (8 ∷ []) n r)) (one_of_lem 4 (6 ∷ 8 ∷ []) n e)
-
-pub in_most : (most n : ℕ) → leb n most ≡ in_range 0 most (Sent n)
-in_most most n = rw (le-leb 0 n (omega arith))
-
--- ---- the tests of the parts, one after another
-
-module _ (form : Form) (front : List ℕ) where
-  pub length_not : front_length form (length front) ≡ false → false ≡ front_judged form front
-  length_not e = first_not _ (sym (second_not (all_digits front) e))
-
-  pub digits_not : all_digits front ≡ false → false ≡ front_judged form front
-  digits_not e = first_not _ (sym (first_not (front_length form (length front)) e))
-
-pub tm_front : (front : List ℕ) → all_digits front ≡ true → front_length Tm (length front) ≡ true → valid_clock (clock_of front 0 []) ≡ front_judged Tm front
-unfolding valid_date
-tm_front front e f = rw (e, f)
-
-pub ts_dated : (front : List ℕ) → valid_date (date_of front) ≡ false → false ≡ front_judged Ts front
-ts_dated front e = second_not (all_digits front && front_length Ts (length front)) (sym (first_not (valid_clock (clock_of front 8 [])) e))
-
-pub ts_front : (front : List ℕ) → all_digits front ≡ true → front_length Ts (length front) ≡ true → valid_date (date_of front) ≡ true → valid_clock (clock_of front 8 []) ≡ front_judged Ts front
-ts_front front e f g = rw (e, f, g)
-
-module _ (l : List ℕ) where
-  pub dt_long : dt_length (length l) ≡ false → false ≡ is_dt l
-  dt_long e = first_not _ (sym (second_not (all_digits l) e)) ∙ dt_judged l
-
-  pub dt_digits : all_digits l ≡ false → false ≡ is_dt l
-  dt_digits e = first_not _ (sym (first_not (dt_length (length l)) e)) ∙ dt_judged l
-
-  pub dt_so : all_digits l ≡ true → dt_length (length l) ≡ true → valid_date (date_of l) ≡ is_dt l
-  dt_so e f = rw (e, f) at (dt_judged l)
-
 -- ---- a TS with seconds and a zone: its parts stand at fixed places
 
 module _ (l : List ℕ) (n : length l ≡ 19) (s : is_sign (get_or l 14 0) ≡ true) where
@@ -288,9 +202,9 @@ module _ (l : List ℕ) (n : length l ≡ 19) (s : is_sign (get_or l 14 0) ≡ t
       let h : length (take 14 l) ≤ 14 = let k = usual_length in omega arith in
       ap (λ (b : List ℕ). drop (point_place 14 b) b) usual_body ∙ ap (λ (k : ℕ). drop k (take 14 l)) usual_point ∙ drop_of_length-le (take 14 l) h
 
-  pub usual_ts : all_digits (take 14 l) ≡ true → valid_date (date_of (take 14 l)) ≡ true → valid_clock (clock_of (take 14 l) 8 []) ≡ true → zone_judged (drop 14 l) ≡ true → is_time Ts l ≡ true
-  usual_ts d e c z =
+  pub usual_ts : all_digits (take 14 l) ≡ true → (valid_date (date_of (take 14 l)) && valid_clock (clock_of (take 14 l) 8 [])) ≡ true → zone_judged (drop 14 l) ≡ true → is_time Ts l ≡ true
+  usual_ts d e z =
       let long : front_length Ts (length (take 14 l)) ≡ true = ap (front_length Ts) usual_length in
       sym (judged Ts l)
-      ∙ both_and (ap (front_judged Ts) usual_front ∙ sym (ts_front (take 14 l) d long e) ∙ c)
+      ∙ both_and (ap (front_judged Ts) usual_front ∙ both_and (both_and d long) e)
       (both_and (fraction_none _ _ (ap length usual_tail)) (ap (λ (k : ℕ). zone_judged (drop k l)) usual_sign ∙ z))

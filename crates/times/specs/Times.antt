@@ -1,36 +1,36 @@
 -- DT, TM and TS, by document 01, 'Numbers and times': "A time keeps how much was sent; a month not sent is not month
 -- 0."
-use Rattle.std.specs.Prelude.{ℕ, ◌+◌, ◌-◌, List, Bool, true, false, cond, ◌&&◌, leb, eqb, length, get_or, take, drop}
+use Rattle.std.specs.Prelude.{ℕ, ◌+◌, ◌-◌, List, Bool, true, false, cond, ◌&&◌, leb, eqb, length, get_or, take, drop, Option, None, Some, Result, Ok, Err}
 use Rattle.alphabet.specs.Bytes.{byte_of}
 use Rattle.alphabet.specs.Digits.{decimal}
-use Rattle.calendar.specs.Calendar.{no_date, no_clock, no_offset, no_time, valid_time}
-use Rattle.calendar.specs.declared.figures.Figure.{Figure}
-use Rattle.calendar.specs.declared.figures.Figure.TheVariants.{NotSent, Sent}
+use Rattle.alphabet.specs.declared.answers.Refusal.{Refusal}
+use Rattle.alphabet.specs.declared.answers.Refusal.TheVariants.{BreaksForm}
+use Rattle.calendar.specs.Calendar.{no_date, no_clock, valid_time}
 use Rattle.calendar.specs.declared.figures.Sign.{Sign}
 use Rattle.calendar.specs.declared.figures.Date.{Date}
+use Rattle.calendar.specs.declared.figures.Fraction.{Fraction}
 use Rattle.calendar.specs.declared.figures.Clock.{Clock}
 use Rattle.calendar.specs.declared.figures.Offset.{Offset}
 use Rattle.calendar.specs.declared.figures.Time.{Time}
 use Rattle.forms.specs.Forms.{dt_form, layout_of, front_of, tail_of, zone_of, time_form}
 use Rattle.forms.specs.declared.layouts.Form.{Form}
 use Rattle.forms.specs.declared.layouts.Form.TheVariants.{Tm, Ts}
-use Rattle.times.specs.declared.moments.ReadTime.{ReadTime}
-use Rattle.alphabet.specs.declared.answers.Refusal.TheVariants.{None, BreaksForm}
 
 -- ---- what was sent
 
 -- the figure of `width` digits from place `start` on, if they were sent
-unfoldable pub figure_at : List ℕ → ℕ → ℕ → Figure
+unfoldable pub figure_at : List ℕ → ℕ → ℕ → Option ℕ
 figure_at digits start width =
-    cond (leb (start + width) (length digits)) (Sent (decimal (take width (drop start digits)))) NotSent
+    cond (leb (start + width) (length digits)) (Some (decimal (take width (drop start digits)))) None
 
 -- "YYYY[MM[DD"
 unfoldable pub date_of : List ℕ → Date
 date_of digits = record { year = figure_at digits 0 4; month = figure_at digits 4 2; day = figure_at digits 6 2 }
 
 -- "[.S to .SSSS]": the point and the digits behind it, as a number with their count
-unfoldable pub fraction_of : List ℕ → Figure
-fraction_of tail = cond (eqb (length tail) 0) NotSent (Sent (decimal (drop 1 tail)))
+unfoldable pub fraction_of : List ℕ → Option Fraction
+fraction_of tail =
+    cond (eqb (length tail) 0) None (Some (record { value = decimal (drop 1 tail); digits = length tail - 1 }))
 
 -- "HH[MM[SS": from place `start` of the digits on
 unfoldable pub clock_of : List ℕ → ℕ → List ℕ → Clock
@@ -40,23 +40,22 @@ clock_of digits start tail =
       minute = figure_at digits (start + 2) 2;
       second = figure_at digits (start + 4) 2;
       fraction = fraction_of tail;
-      digits = length tail - 1;
     }
 
 -- "[+/-ZZZZ]": the sign, hours and minutes apart
-unfoldable pub offset_of : List ℕ → Offset
+unfoldable pub offset_of : List ℕ → Option Offset
 offset_of zone =
-    cond (eqb (length zone) 0) no_offset
-    (record {
+    cond (eqb (length zone) 0) None
+    (Some (record {
       sign = cond (eqb (get_or zone 0 0) (byte_of "-")) Sign.Minus Sign.Plus;
       hours = decimal (take 2 (drop 1 zone));
       minutes = decimal (take 2 (drop 3 zone));
-    })
+    }))
 
 -- ---- DT: of its form, and on a day that there is
 
 unfoldable pub dt_time : List ℕ → Time
-dt_time l = record { date = date_of l; clock = no_clock; offset = no_offset }
+dt_time l = record { date = date_of l; clock = no_clock; offset = None }
 
 unfoldable pub is_dt : List ℕ → Bool
 is_dt l = dt_form l && valid_time (dt_time l)
@@ -86,12 +85,12 @@ is_ts l = is_time Ts l
 -- ---- what is read
 
 -- the time, or 32: "breaks its type's form"
-abbrev pub time_if : Bool → Time → ReadTime
-time_if true time = record { kind = None; time = time }
-time_if false time = record { kind = BreaksForm; time = no_time }
+abbrev pub time_if : Bool → Time → Result Time Refusal
+time_if true time = Ok time
+time_if false time = Err BreaksForm
 
-unfoldable pub dt_read : List ℕ → ReadTime
+unfoldable pub dt_read : List ℕ → Result Time Refusal
 dt_read l = time_if (is_dt l) (dt_time l)
 
-unfoldable pub time_read : Form → List ℕ → ReadTime
+unfoldable pub time_read : Form → List ℕ → Result Time Refusal
 time_read form l = time_if (is_time form l) (time_of form l)

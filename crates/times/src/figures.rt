@@ -1,116 +1,101 @@
-// The figures of a time, out of its digits. Each has at most four, so that it is read as an SI is.
+// The figures of a time, out of its digits.
 ghost use Rattle.std.specs.Prelude.{◌≡◌, true, ◌+◌, ◌≤◌, length, take, drop};
 ghost use Rattle.alphabet.specs.Digits.{all_digits, decimal};
 ghost use Rattle.times.specs.Times.{figure_at, date_of, fraction_of, clock_of, offset_of};
 
-use calendar::{Clock, Date, Figure, Offset, Sign};
-
-// A byte as a wider number. By a call of its own the cast asks no proof that the byte fits.
-fn wide(byte: u8) -> u64
-    ensures { result ≡ byte }
-{
-    byte as u64
-}
+use calendar::{Clock, Date, Fraction, Offset, Sign};
 
 // The number of the two digits at a place: 528 is what both say by being digits.
-pub fn two_digits(bytes: &[u8], place: usize) -> u64
+#[tactic(auto, using(crate::proofs::JudgeLaws::two_told))]
+fn two_digits(bytes: &[u8], place: usize) -> u64
     requires { (all_digits (take 2 (drop place bytes.now)) ≡ true) × (place + 2 ≤ length bytes.now) }
     ensures { result ≡ decimal (take 2 (drop place bytes.now)) }
 {
-    let tens = wide(bytes[place]);
-    let ones = wide(bytes[place + 1]);
-    tens * 10 + ones - 528
+    u64::from(bytes[place]) * 10 + u64::from(bytes[place + 1]) - 528
 }
 
-// The figure of so many digits from a place on, if they were sent.
-fn figure_at(digits: &[u8], start: usize, width: usize) -> Figure
-    requires digits_value { all_digits digits.now ≡ true }
-    requires start_bound { (start ≤ 16) × (width ≤ 4) }
-    ensures { result ≡ figure_at digits.now start width }
+// The year that digits begin with, if it was sent.
+#[tactic(auto, using(crate::proofs::JudgeLaws::two_digits, crate::proofs::JudgeLaws::two_below, crate::proofs::JudgeLaws::year_said), unfolding(crate::specs::Times::figure_at))]
+fn year_of(digits: &[u8]) -> Option<u64>
+    requires { all_digits digits.now ≡ true }
+    ensures { result ≡ figure_at digits.now 0 4 }
 {
-    let end = start + width;
-    if end <= digits.len() {
-        return Figure::Sent(numbers::si_value(&digits[start..end]));
+    if digits.len() < 4 {
+        return None;
     }
-    Figure::NotSent
+    Some(two_digits(digits, 0) * 100 + two_digits(digits, 2))
+}
+
+// The figure of the two digits at a place, if they were sent.
+#[tactic(auto, using(crate::proofs::JudgeLaws::two_digits), unfolding(crate::specs::Times::figure_at))]
+fn figure_at(digits: &[u8], place: usize) -> Option<u64>
+    requires { (all_digits digits.now ≡ true) × (place ≤ 16) }
+    ensures { result ≡ figure_at digits.now place 2 }
+{
+    if digits.len() < place + 2 {
+        return None;
+    }
+    Some(two_digits(digits, place))
 }
 
 // The date that digits begin with.
+#[tactic(auto, unfolding(crate::specs::Times::date_of))]
 pub fn date_of(digits: &[u8]) -> Date
     requires { all_digits digits.now ≡ true }
     ensures { result ≡ date_of digits.now }
 {
-    let year = figure_at(digits, 0, 4);
-    let month = figure_at(digits, 4, 2);
-    let day = figure_at(digits, 6, 2);
     Date {
-        year: year,
-        month: month,
-        day: day,
+        year: year_of(digits),
+        month: figure_at(digits, 4),
+        day: figure_at(digits, 6),
     }
 }
 
 // The fraction of a second that stands behind a point.
-fn fraction_figure(tail: &[u8]) -> Figure
+#[tactic(auto, using(crate::proofs::FigureLaws::fraction_not, crate::proofs::FigureLaws::fraction_sent))]
+fn fraction_of(tail: &[u8]) -> Option<Fraction>
     requires { (all_digits (drop 1 tail.now) ≡ true) × (length tail.now ≤ 5) }
     ensures { result ≡ fraction_of tail.now }
 {
-    if tail.len() == 0 {
-        return Figure::NotSent;
-    }
-    Figure::Sent(numbers::si_value(&tail[1..]))
+    let (_, digits) = tail.split_first()?;
+    Some(Fraction {
+        value: numbers::si_value(digits),
+        digits: digits.len(),
+    })
 }
 
 // The clock that digits say from a place on, with the fraction behind them.
+#[tactic(auto, unfolding(crate::specs::Times::clock_of))]
 pub fn clock_of(digits: &[u8], start: usize, tail: &[u8]) -> Clock
     requires digits_value { (all_digits digits.now ≡ true) × (start ≤ 8) }
     requires tail_value { (all_digits (drop 1 tail.now) ≡ true) × (length tail.now ≤ 5) }
     ensures { result ≡ clock_of digits.now start tail.now }
 {
-    let hour = figure_at(digits, start, 2);
-    let minute = figure_at(digits, start + 2, 2);
-    let second = figure_at(digits, start + 4, 2);
-    let fraction = fraction_figure(tail);
-    let count = if tail.len() == 0 { 0 } else { tail.len() - 1 };
     Clock {
-        hour: hour,
-        minute: minute,
-        second: second,
-        fraction: fraction,
-        digits: count,
+        hour: figure_at(digits, start),
+        minute: figure_at(digits, start + 2),
+        second: figure_at(digits, start + 4),
+        fraction: fraction_of(tail),
     }
 }
 
-// The number of the two digits at a place of a zone.
-fn pair_at(zone: &[u8], place: usize) -> u64
-    requires zone_value { (all_digits (drop 1 zone.now) ≡ true) × (length zone.now ≡ 5) }
-    requires le_place { (1 ≤ place) × (place ≤ 3) }
-    ensures { result ≡ decimal (take 2 (drop place zone.now)) }
-{
-    two_digits(zone, place)
-}
-
 // The offset that a zone says: none, or a sign and four digits.
-pub fn offset_of(zone: &[u8]) -> Offset
+#[tactic(auto, using(crate::proofs::FigureLaws::offset_not, crate::proofs::FigureLaws::offset_minus, crate::proofs::FigureLaws::offset_plus))]
+pub fn offset_of(zone: &[u8]) -> Option<Offset>
     requires zone_value { all_digits (drop 1 zone.now) ≡ true }
     requires zone_len { (length zone.now ≡ 0 → ⊥) → length zone.now ≡ 5 }
     ensures { result ≡ offset_of zone.now }
 {
-    if zone.len() == 0 {
-        return calendar::no_offset();
+    if zone.is_empty() {
+        return None;
     }
-    let hours = pair_at(zone, 1);
-    let minutes = pair_at(zone, 3);
-    if zone[0] == b'-' {
-        return Offset {
-            sign: Sign::Minus,
-            hours: hours,
-            minutes: minutes,
-        };
-    }
-    Offset {
-        sign: Sign::Plus,
-        hours: hours,
-        minutes: minutes,
-    }
+    Some(Offset {
+        sign: if zone[0] == b'-' {
+            Sign::Minus
+        } else {
+            Sign::Plus
+        },
+        hours: two_digits(zone, 1),
+        minutes: two_digits(zone, 3),
+    })
 }

@@ -1,14 +1,14 @@
-// Whether bytes are a DT, a TM or a TS. No time is made of them: their form is looked at part by part, and the figures
-// are told as numbers of two digits.
-ghost use Rattle.std.specs.Prelude.{◌≡◌, true, [], ◌≤◌, length};
+// Whether bytes are a DT, a TM or a TS. No time is made of them: their form is looked at part by part, and the first part
+// that breaks it ends the look.
+ghost use Rattle.std.specs.Prelude.{◌≡◌, true, [], ◌≤◌, ◌&&◌, length};
 ghost use Rattle.alphabet.specs.Digits.{all_digits};
-ghost use Rattle.calendar.specs.Calendar.{in_range, valid_date, valid_clock};
+ghost use Rattle.calendar.specs.Calendar.{valid_date, valid_clock};
 ghost use Rattle.forms.specs.declared.layouts.Form.TheVariants.{Tm, Ts};
-ghost use Rattle.times.specs.Times.{figure_at, date_of, clock_of, is_dt, is_tm, is_ts};
+ghost use Rattle.forms.specs.Forms.{layout_of};
+ghost use Rattle.times.specs.Times.{date_in, clock_of, is_dt, is_time, is_tm, is_ts};
 ghost use Rattle.times.specs.Judged.{front_judged, zone_judged};
 
-use crate::figures::{offset_of, two_digits};
-use calendar::{Date, Figure};
+use crate::figures::{clock_of, date_of, offset_of};
 use forms::Form;
 
 // How many digits are looked at together.
@@ -23,13 +23,9 @@ const SECONDS: usize = 14;
 fn is_block_of_digits(bytes: &[u8]) -> bool
     ensures { result ≡ all_digits bytes.now }
 {
-    let mut all = true;
-    let mut i = 0;
-    while i < bytes.len() {
-        all = all & alphabet::is_digit(bytes[i]);
-        i += 1;
-    }
-    all
+    bytes
+        .iter()
+        .fold(true, |all, b| all & alphabet::is_digit(*b))
 }
 
 // The same, of the digits in front of a time: of up to sixteen, the first and the last eight, some of which may be the
@@ -42,51 +38,7 @@ fn is_digits(bytes: &[u8]) -> bool
     if few {
         return numbers::is_digits(bytes);
     }
-    if !is_block_of_digits(&bytes[..TOGETHER]) {
-        return false;
-    }
-    let last = n - TOGETHER;
-    is_block_of_digits(&bytes[last..])
-}
-
-// Whether there is the date that digits begin with, as far as it was sent.
-fn is_date(digits: &[u8]) -> bool
-    requires { (all_digits digits.now ≡ true) × (4 ≤ length digits.now) }
-    ensures { result ≡ valid_date (date_of digits.now) }
-{
-    let year = two_digits(digits, 0) * 100 + two_digits(digits, 2);
-    if digits.len() < 6 {
-        return calendar::is_date(Date {
-            year: Figure::Sent(year),
-            month: Figure::NotSent,
-            day: Figure::NotSent,
-        });
-    }
-    let month = two_digits(digits, 4);
-    if digits.len() < 8 {
-        return calendar::is_date(Date {
-            year: Figure::Sent(year),
-            month: Figure::Sent(month),
-            day: Figure::NotSent,
-        });
-    }
-    let day = two_digits(digits, 6);
-    calendar::is_date(Date {
-        year: Figure::Sent(year),
-        month: Figure::Sent(month),
-        day: Figure::Sent(day),
-    })
-}
-
-// Whether the figure of two digits at a place is at most so much, if it was sent.
-fn is_figure(digits: &[u8], place: usize, most: u64) -> bool
-    requires { (all_digits digits.now ≡ true) × (place ≤ 16) }
-    ensures { result ≡ in_range 0 most (figure_at digits.now place 2) }
-{
-    if digits.len() < place + 2 {
-        return true;
-    }
-    two_digits(digits, place) <= most
+    is_block_of_digits(&bytes[..TOGETHER]) && is_block_of_digits(&bytes[n - TOGETHER..])
 }
 
 // Whether there is the clock that digits say from a place on, as far as it was sent. Any fraction may stand behind it.
@@ -94,82 +46,55 @@ fn is_clock(digits: &[u8], start: usize) -> bool
     requires { (all_digits digits.now ≡ true) × (start ≤ 8) }
     ensures { result ≡ valid_clock (clock_of digits.now start []) }
 {
-    if !is_figure(digits, start, 23) {
-        return false;
-    }
-    if !is_figure(digits, start + 2, 59) {
-        return false;
-    }
-    is_figure(digits, start + 4, 59)
+    calendar::is_clock(clock_of(digits, start, &[]))
 }
 
-// The digits in front of a TM.
-fn is_tm_front(front: &[u8]) -> bool
-    ensures { result ≡ front_judged Tm front.now }
+// Whether there are the date and the clock that the digits in front of a TM or a TS say, as far as they were sent.
+fn is_moment(form: Form, front: &[u8]) -> bool
+    requires { all_digits front.now ≡ true }
+    ensures { result ≡ (valid_date (date_in form front.now) && valid_clock (clock_of front.now (layout_of form).clock [])) }
 {
-    if !forms::is_front_length(Form::Tm, front.len()) {
-        return false;
+    match form {
+        Form::Tm => is_clock(front, 0),
+        Form::Ts => calendar::is_date(date_of(front)) && is_clock(front, 8),
     }
-    if !is_digits(front) {
-        return false;
-    }
-    is_clock(front, 0)
 }
 
-// The digits in front of a TS.
-fn is_ts_front(front: &[u8]) -> bool
-    ensures { result ≡ front_judged Ts front.now }
+// The digits in front of a TM or a TS.
+fn is_front(form: Form, front: &[u8]) -> bool
+    ensures { result ≡ front_judged form front.now }
 {
-    if !forms::is_front_length(Form::Ts, front.len()) {
-        return false;
-    }
-    if !is_digits(front) {
-        return false;
-    }
-    if !is_date(front) {
-        return false;
-    }
-    is_clock(front, 8)
+    forms::is_front_length(form, front.len()) && is_digits(front) && is_moment(form, front)
 }
 
 // No zone, or one that there is.
 fn is_zone(zone: &[u8]) -> bool
     ensures { result ≡ zone_judged zone.now }
 {
-    if !forms::is_zone(zone) {
-        return false;
-    }
-    calendar::is_offset(offset_of(zone))
+    forms::is_zone(zone) && calendar::is_offset(offset_of(zone))
 }
 
 // YYYY[MM[DD]]
 pub fn is_dt(bytes: &[u8]) -> bool
     ensures { result ≡ is_dt bytes.now }
 {
-    if !forms::is_dt_length(bytes.len()) {
-        return false;
-    }
-    if !is_digits(bytes) {
-        return false;
-    }
-    is_date(bytes)
+    forms::is_dt_length(bytes.len()) && is_digits(bytes) && calendar::is_date(date_of(bytes))
+}
+
+// A TM or a TS, by its parts.
+fn is_time(form: Form, bytes: &[u8]) -> bool
+    ensures { result ≡ is_time form bytes.now }
+{
+    let parts = forms::parts_of(form, bytes);
+    let seconds = parts.front.len() == forms::to_seconds(form);
+    is_front(form, parts.front) && forms::is_fraction(seconds, parts.tail) && is_zone(parts.zone)
 }
 
 // HH[MM[SS[.S to .SSSS]]][+/-ZZZZ]
 pub fn is_tm(bytes: &[u8]) -> bool
     ensures { result ≡ is_tm bytes.now }
 {
-    let body = forms::body_of(bytes);
-    let front = forms::front_of(Form::Tm, body);
-    let point = front.len();
-    let sign = body.len();
-    if !is_tm_front(front) {
-        return false;
-    }
-    if !forms::is_fraction(point == 6, &body[point..]) {
-        return false;
-    }
-    is_zone(&bytes[sign..])
+    is_time(Form::Tm, bytes)
 }
 
 // Whether bytes are a TS as most are sent, with seconds and a zone, told at fixed places; `false` says nothing.
@@ -189,31 +114,12 @@ fn is_usual_ts(bytes: &[u8]) -> bool
     if !digits {
         return false;
     }
-    if !is_date(front) {
-        return false;
-    }
-    if !is_clock(front, TOGETHER) {
-        return false;
-    }
-    is_zone(&bytes[SECONDS..])
+    is_moment(Form::Ts, front) && is_zone(&bytes[SECONDS..])
 }
 
 // YYYY[MM[DD[HHMM[SS[.S to .SSSS]]]]][+/-ZZZZ]
 pub fn is_ts(bytes: &[u8]) -> bool
     ensures { result ≡ is_ts bytes.now }
 {
-    if is_usual_ts(bytes) {
-        return true;
-    }
-    let body = forms::body_of(bytes);
-    let front = forms::front_of(Form::Ts, body);
-    let point = front.len();
-    let sign = body.len();
-    if !is_ts_front(front) {
-        return false;
-    }
-    if !forms::is_fraction(point == 14, &body[point..]) {
-        return false;
-    }
-    is_zone(&bytes[sign..])
+    is_usual_ts(bytes) || is_time(Form::Ts, bytes)
 }

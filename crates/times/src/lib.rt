@@ -6,4 +6,4 @@ mod judging;
 mod moments;
 
 pub use judging::{is_dt, is_tm, is_ts};
-pub use moments::{ReadTime, read_dt, read_tm, read_ts};
+pub use moments::{read_dt, read_tm, read_ts};

@@ -1,31 +1,22 @@
--- Rests on the laws of an offset, case by case.
-use mathlib.Core.Path.{sym, ◌∙◌}
-use Rattle.calendar.specs.declared.figures.Sign.{Sign}
-use Rattle.times.proofs.FigureLaws.{offset_not, offset_minus, offset_plus}
+-- Rests on the digits behind the sign.
+use mathlib.Core.Path.{◌≡◌, ◌∙◌}
+use lib.ListN.{length}
 use native.Mathlib.Omega.{arith}
+use borrow.Author.Tests.{eq-eqb}
+use Rattle.alphabet.proofs.BoolLaws.{false_true}
+use Rattle.times.proofs.JudgeLaws.{zone_digits}
+use Rattle.times.proofs.figures.offset_of.Goals.{Else-is_empty}
 use Rattle.times.proofs.figures.offset_of.Goals as goal
 
-pub returns-then-zone-eq45 : goal.returns-then-zone-eq45
-returns-then-zone-eq45 c =
-    (λ i. record { sign = Sign.Minus; hours = c.pair_at-hours.ensures i; minutes = c.pair_at-minutes.ensures i })
-    ∙ sym (offset_minus c.args.zone.now c.if-zone-eq0.false c.if-zone-eq45.true)
+five : (c : Else-is_empty) → length c.args.zone.now ≡ 5
+five c = c.requires.zone_len (λ q. false_true (c.if-is_empty.ensures ∙ eq-eqb _ 0 q))
 
-pub returns : goal.returns
-returns c =
-    (λ i. record { sign = Sign.Plus; hours = c.pair_at-hours.ensures i; minutes = c.pair_at-minutes.ensures i })
-    ∙ sym (offset_plus c.args.zone.now c.if-zone-eq0.false c.if-zone-eq45.false)
+pub two_digits-requires : goal.two_digits-requires
+two_digits-requires c =
+    let n = five (goal.at.two_digits-requires c).Else-is_empty in
+    ((zone_digits c.args.zone.now c.requires.zone_value).0, omega arith)
 
-pub returns-then-zone-eq0 : goal.returns-then-zone-eq0
-returns-then-zone-eq0 c = c.no_offset.ensures ∙ sym (offset_not c.args.zone.now c.if-zone-eq0.true)
-
-pub pair_at-hours-requires-clause-zone_value : goal.pair_at-hours-requires-clause-zone_value
-pair_at-hours-requires-clause-zone_value c = (c.requires.zone_value, c.requires.zone_len c.if-zone-eq0.false)
-
-pub pair_at-hours-requires-clause-le_place : goal.pair_at-hours-requires-clause-le_place
-pair_at-hours-requires-clause-le_place c = (omega arith, omega arith)
-
-pub pair_at-minutes-requires-clause-zone_value : goal.pair_at-minutes-requires-clause-zone_value
-pair_at-minutes-requires-clause-zone_value c = (c.requires.zone_value, c.requires.zone_len c.if-zone-eq0.false)
-
-pub pair_at-minutes-requires-clause-le_place : goal.pair_at-minutes-requires-clause-le_place
-pair_at-minutes-requires-clause-le_place c = (omega arith, omega arith)
+pub two_digits-requires-2 : goal.two_digits-requires-2
+two_digits-requires-2 c =
+    let n = five (goal.at.two_digits-requires-2 c).Else-is_empty in
+    ((zone_digits c.args.zone.now c.requires.zone_value).1, omega arith)

@@ -1,21 +1,17 @@
--- Rests on `digits_step`: what was looked at is all digits.
-use mathlib.Core.Path.{ap, ◌∙◌}
-use mathlib.Core.Bool.{◌&&◌}
-use lib.Seq.{take_all}
-use native.Mathlib.Omega.{arith}
-use Rattle.alphabet.specs.Digits.{all_digits}
-use Rattle.times.proofs.JudgeLaws.{digits_none, digits_step}
+-- Rests on the fold of the bytes' tests.
+use borrow.Author.Rules.{rules}
+use borrow.Author.Tests.{tests}
+use mathlib.Core.Bool.{Bool, true, ◌&&◌}
+use mathlib.Core.Path.{◌∙◌}
+use Prim.Native.Nat.{ℕ}
+use Rattle.std.proofs.lemmas.Iterator.{YieldsList-from_slice}
+use Rattle.std.proofs.lemmas.Iterator.Consumers.{fold_from_yields_List}
+use Rattle.alphabet.specs.Bytes.{digit}
+use Rattle.times.proofs.JudgeLaws.{digits_folded}
 use Rattle.times.proofs.judging.is_block_of_digits.Goals as goal
-
-pub loop-i-preserved : goal.loop-i-preserved
-loop-i-preserved c =
-    let s = c.args.bytes.now in
-    (omega arith, (λ j. c.loop-i.invariant.1 j && c.is_digit-all.ensures j) ∙ digits_step s c.loop-i.i (omega arith))
 
 pub returns : goal.returns
 returns c =
-    let s = c.args.bytes.now in
-    c.loop-i.invariant.1 ∙ ap all_digits (take_all c.loop-i.i s (omega arith))
-
-pub loop-i-init : goal.loop-i-init
-loop-i-init c = (omega arith, digits_none c.args.bytes.now)
+    let l = c.args.bytes.now in
+    fold_from_yields_List _ (λ (all : Bool) (b : ℕ). all && digit b) true c.fold.result c.fold.ensures.ran (YieldsList-from_slice l cc) (λ a x b q k. search (rules, tests))
+    ∙ digits_folded l
