@@ -2,10 +2,13 @@
 use mathlib.Core.Path.{◌≡◌, refl, sym, ap, ◌∙◌}
 use mathlib.Core.List.{List, [], ◌∷◌, ◌++◌, append_assoc}
 use mathlib.Core.Bool.{true, false}
-use Prim.Native.Nat.{ℕ, ◌+◌, ◌/◌, ◌%◌, ◌≤◌, ◌<◌}
+use Prim.Native.Nat.{ℕ, zero, suc, ◌+◌, ◌*◌, ◌/◌, ◌%◌, ◌≤◌, ◌<◌}
+use native.Mathlib.Omega.{arith}
+use native.Mathlib.Nat.{suc-mul}
 use lib.ListN.{length, get_or, take, drop, take-append-drop, drop_of_length-le, length-append}
 use lib.Seq.{drop-drop}
 use borrow.Author.Tests.{lt-ltb, le-ltb}
+use Rattle.std.specs.Simd.{first_chunks}
 use Rattle.alphabet.proofs.ListLaws.{drop_next}
 use Rattle.alphabet.specs.Lists.{find}
 use Rattle.alphabet.specs.Bytes.{printable, hex_digit}
@@ -53,3 +56,13 @@ length_part ds s i k =
     ap (λ (l : List ℕ). length (escape_bytes ds l)) (sym (take-append-drop k (drop i s))) ∙ ap length (bytes_append ds (take k (drop i s)) (drop k (drop i s)))
     ∙ length-append (escape_bytes ds (take k (drop i s))) (escape_bytes ds (drop k (drop i s)))
     ∙ ap (λ (l : List ℕ). length (escape_bytes ds (take k (drop i s))) + length (escape_bytes ds l)) (drop-drop k i s)
+
+-- ---- the blocks of a text
+
+pub block_at : (n k : ℕ) (s : List ℕ) (i : ℕ) → i < k → get_or (first_chunks n k s) i [] ≡ take n (drop (i * n) s)
+block_at n zero s i h = absurd (omega arith)
+block_at n (suc k) s zero h = let e : 0 ≡ 0 * n = omega arith in ap (λ (m : ℕ). take n (drop m s)) e
+block_at n (suc k) s (suc i) h =
+    let m = suc-mul i n in
+    let e : n + i * n ≡ suc i * n = omega arith in
+    block_at n k (drop n s) i (omega arith) ∙ ap (take n) (drop-drop (i * n) n s ∙ ap (λ (m : ℕ). drop m s) e)

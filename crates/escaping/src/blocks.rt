@@ -24,10 +24,8 @@ pub fn block_length(delimiters: Delimiters, block: &[u8]) -> usize
     ensures { result ≡ length (escape_bytes delimiters.bytes block.now) }
 {
     let mut n: u8 = 0;
-    let mut i = 0;
-    while i < block.len() {
-        n += written_length(delimiters, block[i]);
-        i += 1;
+    for b in block {
+        n += written_length(delimiters, *b);
     }
-    n as usize
+    usize::from(n)
 }

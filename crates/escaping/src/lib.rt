@@ -2,11 +2,9 @@
 // lends, and a refusal leaves the buffer as it was.
 #![tactic(auto)]
 
-mod answers;
 mod blocks;
 mod pieces;
 mod writing;
 
-pub use answers::{Room, refused};
 pub use pieces::LETTERS;
-pub use writing::escape;
+pub use writing::{check_delimiters, escape};

@@ -2,12 +2,11 @@
 ghost use Rattle.std.specs.Prelude.{◌≡◌, ◌≤◌, leb, length};
 ghost use Rattle.escaping.specs.Escape.{escape_bytes};
 ghost use Rattle.alphabet.specs.Filling.{over};
-ghost use Rattle.escaping.specs.Outcomes.{escaping, answer, filled};
+ghost use Rattle.escaping.specs.Outcomes.{delimiters_check, escaping, answer, filled};
 
-use crate::answers::refused;
 use crate::blocks::block_length;
 use crate::pieces::put_written;
-use alphabet::{Answer, BLOCK, Delimiters, Refusal};
+use alphabet::{BLOCK, Delimiters, Fault, Refusal, fails_if};
 use plain::plain_run;
 
 // Whether a room is enough for a text as it is written. Five bytes for each of its bytes are always enough; where there are
@@ -18,17 +17,16 @@ fn is_enough(delimiters: Delimiters, text: &[u8], room: usize) -> bool
     if text.len() <= room / 5 {
         return true;
     }
+    let (blocks, rest) = text.as_chunks::<BLOCK>();
     let mut n = 0;
-    let mut i = 0;
-    while BLOCK <= text.len() - i {
-        let more = block_length(delimiters, &text[i..i + BLOCK]);
+    for block in blocks {
+        let more = block_length(delimiters, block);
         if room - n < more {
             return false;
         }
         n += more;
-        i += BLOCK;
     }
-    let last = block_length(delimiters, &text[i..]);
+    let last = block_length(delimiters, rest);
     last <= room - n
 }
 
@@ -52,38 +50,35 @@ fn write_escaped(delimiters: Delimiters, text: &[u8], buffer: &mut [u8]) -> usiz
     place
 }
 
-// Writes a text to the front of the buffer.
-pub fn escape(delimiters: Delimiters, text: &[u8], buffer: &mut [u8]) -> Answer
+// Refuses delimiters that are not permitted or not all different, as both directions of text do first.
+pub fn check_delimiters(delimiters: Delimiters) -> Result<(), Fault>
+    ensures { result ≡ delimiters_check delimiters.bytes }
+{
+    let wrong = alphabet::first_wrong_delimiter(delimiters);
+    fails_if(wrong < 5, Refusal::Delimiter, wrong)
+}
+
+// Writes a text to the front of the buffer, and gives its length there.
+#[tactic(auto, unfolding(crate::specs::Outcomes::answer, crate::specs::Outcomes::filled))]
+pub fn escape(delimiters: Delimiters, text: &[u8], buffer: &mut [u8]) -> Result<usize, Fault>
     ensures value { result ≡ answer (escaping delimiters.bytes text.now (length buffer.old)) }
     ensures buffer_after { buffer.new
         ≡ filled (escaping delimiters.bytes text.now (length buffer.old))
         buffer.old }
 {
-    let wrong = alphabet::first_wrong_delimiter(delimiters);
-    if wrong < 5 {
-        return refused(Refusal::Delimiter, wrong);
-    }
+    check_delimiters(delimiters)?;
     if alphabet::is_null(text) {
-        if buffer.len() < 7 {
-            return refused(Refusal::NoRoom, 0);
-        }
+        fails_if(buffer.len() < 7, Refusal::NoRoom, 0)?;
         let five = delimiters.bytes;
         let mark = five[3];
         let quotes = [mark, 88, 50, 50, 50, 50, mark];
         alphabet::put(buffer, 0, &quotes);
-        return Answer {
-            kind: Refusal::None,
-            place: 0,
-            length: 7,
-        };
+        return Ok(7);
     }
-    if !is_enough(delimiters, text, buffer.len()) {
-        return refused(Refusal::NoRoom, 0);
-    }
-    let n = write_escaped(delimiters, text, buffer);
-    Answer {
-        kind: Refusal::None,
-        place: 0,
-        length: n,
-    }
+    fails_if(
+        !is_enough(delimiters, text, buffer.len()),
+        Refusal::NoRoom,
+        0,
+    )?;
+    Ok(write_escaped(delimiters, text, buffer))
 }

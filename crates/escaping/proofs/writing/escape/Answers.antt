@@ -1,104 +1,101 @@
--- Rests on the laws of the outcome: each return is a case of `escaping`.
-use Prim.Native.Nat.{ℕ, ◌≤◌}
-use mathlib.Core.Path.{sym, ap, ◌∙◌}
+-- Rests on the laws of the outcome: each exit is a case of `escaping`.
+use Prim.Native.Nat.{ℕ}
+use mathlib.Core.Path.{◌≡◌, refl, sym, ap, ◌∙◌}
+use mathlib.Core.Bool.{not}
+use mathlib.Core.List.{List}
 use lib.ListN.{length}
-use native.Mathlib.Omega.{arith}
-use borrow.Author.Tests.{leb-true, leb-false}
-use Rattle.alphabet.specs.declared.answers.Refusal.TheVariants.{None, Delimiter}
-use Rattle.alphabet.specs.declared.answers.Answer.{Answer}
-use Rattle.escaping.specs.Escape.{escape_bytes}
-use Rattle.escaping.specs.Outcomes.{fault}
-use Rattle.escaping.specs.Outcomes.{answer, filled}
+use borrow.Author.Rules.{rules}
+use borrow.Author.Tests.{ltb-false}
+use Rattle.std.specs.Prelude.{Ok, Err}
+use Rattle.escaping.specs.Escape.{escape_bytes, two_quotes}
+use Rattle.escaping.specs.Outcomes.{text, fitting, escaping}
+use Rattle.alphabet.proofs.CheckLaws.{passes_not}
 use Rattle.alphabet.proofs.FillingLaws.{put_fits}
-use Rattle.escaping.proofs.OutcomeLaws.{ended, escape_null, escape_other, escaping_bad, escaping_fits, escaping_long}
-use Rattle.escaping.proofs.writing.escape.Goals.{Else-not-is_enough}
+use Rattle.escaping.proofs.OutcomeLaws.{refused, told, over_room, escape_null, escape_other, escaping_stops, escaping_goes, fitting_stops, fitting_goes}
+use Rattle.escaping.proofs.writing.escape.Goals.{After-from_residual, Then-is_null, After-from_residual-in_err-fails_if, After-put, Else-is_null, After-from_residual-in_err-fails_if-2, After-write_escaped}
 use Rattle.escaping.proofs.writing.escape.Goals as goal
 
-abbrev made : ℕ → Answer
-made n = record { kind = None; place = 0; length = n }
+-- delimiters that are refused
+wrong : (c : After-from_residual) → escaping c.args.delimiters.bytes c.args.text.now (length c.args.buffer.now) ≡ Err c.in_err-check_delimiters.field-0.0
+wrong c = escaping_stops _ _ _ (sym c.check_delimiters.ensures ∙ c.in_err-check_delimiters.was)
 
-pub returns-then-wrong-lt5-clause-value : goal.returns-then-wrong-lt5-clause-value
-unfolding answer filled
-returns-then-wrong-lt5-clause-value c =
-    let a = c.args in
-    let e = escaping_bad a.delimiters.bytes a.text.now (length a.buffer.now) (omega arith) in
-    let r = ended _ _ a.buffer.now (e ∙ ap (fault Delimiter) (sym c.first_wrong_delimiter-wrong.ensures)) in c.refused.ensures ∙ r.0
+pub returns-in_err-check_delimiters-clause-value : goal.returns-in_err-check_delimiters-clause-value
+returns-in_err-check_delimiters-clause-value c = rw ((refused c.args.buffer.now (wrong c)).0) (search rules)
 
-pub returns-then-wrong-lt5-clause-buffer_after : goal.returns-then-wrong-lt5-clause-buffer_after
-unfolding answer filled
-returns-then-wrong-lt5-clause-buffer_after c =
-    let a = c.args in
-    let e = escaping_bad a.delimiters.bytes a.text.now (length a.buffer.now) (omega arith) in
-    let r = ended _ _ a.buffer.now (e ∙ ap (fault Delimiter) (sym c.first_wrong_delimiter-wrong.ensures)) in r.1
+pub returns-in_err-check_delimiters-clause-buffer_after : goal.returns-in_err-check_delimiters-clause-buffer_after
+returns-in_err-check_delimiters-clause-buffer_after c = sym (refused c.args.buffer.now (wrong c)).1
 
-pub returns-then-buffer-lt7-clause-value : goal.returns-then-buffer-lt7-clause-value
-unfolding answer filled
-returns-then-buffer-lt7-clause-value c =
+-- two quotes, and whether there is room for them
+quotes : (c : Then-is_null) → escaping c.args.delimiters.bytes c.args.text.now (length c.args.buffer.now) ≡ fitting (length c.args.buffer.now) (text (two_quotes c.args.delimiters.bytes))
+quotes c =
     let a = c.args in
-    let z = escape_null a.delimiters.bytes a.text.now (sym c.is_null.ensures ∙ c.if-is_null.true) in
-    let r = ended _ _ a.buffer.now (escaping_long a.delimiters.bytes a.text.now _ (length a.buffer.now) (omega arith) z (omega arith)) in c.refused-then-buffer-lt7.ensures ∙ r.0
+    escaping_goes a.delimiters.bytes a.text.now _ (sym c.check_delimiters.ensures ∙ c.in_ok-check_delimiters.was)
+    ∙ ap (λ (w : List ℕ). fitting (length a.buffer.now) (text w)) (escape_null a.delimiters.bytes a.text.now (sym c.is_null.ensures ∙ c.if-is_null.true))
 
-pub returns-then-buffer-lt7-clause-buffer_after : goal.returns-then-buffer-lt7-clause-buffer_after
-unfolding answer filled
-returns-then-buffer-lt7-clause-buffer_after c =
+long : (c : After-from_residual-in_err-fails_if) → escaping c.args.delimiters.bytes c.args.text.now (length c.args.buffer.now) ≡ Err c.in_err-fails_if.field-0.0
+long c =
     let a = c.args in
-    let z = escape_null a.delimiters.bytes a.text.now (sym c.is_null.ensures ∙ c.if-is_null.true) in
-    let r = ended _ _ a.buffer.now (escaping_long a.delimiters.bytes a.text.now _ (length a.buffer.now) (omega arith) z (omega arith)) in r.1
+    quotes (goal.at.After-from_residual-in_err-fails_if c).Then-is_null ∙ fitting_stops (length a.buffer.now) (two_quotes a.delimiters.bytes) refl (sym c.fails_if.ensures ∙ c.in_err-fails_if.was)
+
+pub returns-in_err-fails_if-clause-value : goal.returns-in_err-fails_if-clause-value
+returns-in_err-fails_if-clause-value c = rw ((refused c.args.buffer.now (long c)).0) (search rules)
+
+pub returns-in_err-fails_if-clause-buffer_after : goal.returns-in_err-fails_if-clause-buffer_after
+returns-in_err-fails_if-clause-buffer_after c = sym (refused c.args.buffer.now (long c)).1
+
+short : (c : After-put) → escaping c.args.delimiters.bytes c.args.text.now (length c.args.buffer.now) ≡ text (two_quotes c.args.delimiters.bytes)
+short c =
+    let a = c.args in
+    quotes (goal.at.After-put c).Then-is_null ∙ fitting_goes (length a.buffer.now) (two_quotes a.delimiters.bytes) refl (sym c.fails_if.ensures ∙ c.in_ok-fails_if.was)
 
 pub returns-then-is_null-clause-value : goal.returns-then-is_null-clause-value
-unfolding answer filled
-returns-then-is_null-clause-value c =
-    let a = c.args in
-    let z = escape_null a.delimiters.bytes a.text.now (sym c.is_null.ensures ∙ c.if-is_null.true) in
-    let e = escaping_fits a.delimiters.bytes a.text.now _ (length a.buffer.now) (omega arith) z (omega arith) in
-    let r = ended _ _ a.buffer.now e in r.0
+returns-then-is_null-clause-value c = sym (told c.args.buffer.now (short (goal.at.returns-then-is_null-clause-value c).After-put)).0
 
 pub returns-then-is_null-clause-buffer_after : goal.returns-then-is_null-clause-buffer_after
-unfolding answer filled
 returns-then-is_null-clause-buffer_after c =
     let a = c.args in
-    let z = escape_null a.delimiters.bytes a.text.now (sym c.is_null.ensures ∙ c.if-is_null.true) in
-    let e = escaping_fits a.delimiters.bytes a.text.now _ (length a.buffer.now) (omega arith) z (omega arith) in
-    let r = ended _ _ a.buffer.now e in c.put.ensures.buffer_after ∙ (put_fits a.buffer.now _ 0 (omega arith)).1 ∙ r.1
+    let h = passes_not _ _ _ (sym c.fails_if.ensures ∙ c.in_ok-fails_if.was) in
+    let n = ltb-false (length a.buffer.now) 7 h in
+    c.put.ensures.buffer_after ∙ (put_fits a.buffer.now (two_quotes a.delimiters.bytes) 0 n).1
+    ∙ sym (told a.buffer.now (short (goal.at.returns-then-is_null-clause-buffer_after c).After-put)).1
 
--- what is written is no longer than the buffer
-room : (c : Else-not-is_enough)
-    → let a = c.args in length (escape_bytes a.delimiters.bytes a.text.now) ≤ length a.buffer.now
-room c = leb-true _ _ (sym c.is_enough.ensures ∙ c.if-not-is_enough.false)
-
-pub write_escaped-n-requires : goal.write_escaped-n-requires
-write_escaped-n-requires c = room (goal.at.write_escaped-n-requires c).Else-not-is_enough
-
-pub returns-then-not-is_enough-clause-value : goal.returns-then-not-is_enough-clause-value
-unfolding answer filled
-returns-then-not-is_enough-clause-value c =
+-- and any other text
+other : (c : Else-is_null) → escaping c.args.delimiters.bytes c.args.text.now (length c.args.buffer.now) ≡ fitting (length c.args.buffer.now) (text (escape_bytes c.args.delimiters.bytes c.args.text.now))
+other c =
     let a = c.args in
-    let z = escape_other a.delimiters.bytes a.text.now (sym c.is_null.ensures ∙ c.if-is_null.false) in
-    let l = leb-false _ _ (sym c.is_enough.ensures ∙ c.if-not-is_enough.true) in
-    let r = ended _ _ a.buffer.now (escaping_long a.delimiters.bytes a.text.now _ (length a.buffer.now) (omega arith) z l) in c.refused-then-not-is_enough.ensures ∙ r.0
+    escaping_goes a.delimiters.bytes a.text.now _ (sym c.check_delimiters.ensures ∙ c.in_ok-check_delimiters.was)
+    ∙ ap (λ (w : List ℕ). fitting (length a.buffer.now) (text w)) (escape_other a.delimiters.bytes a.text.now (sym c.is_null.ensures ∙ c.if-is_null.false))
 
-pub returns-then-not-is_enough-clause-buffer_after : goal.returns-then-not-is_enough-clause-buffer_after
-unfolding answer filled
-returns-then-not-is_enough-clause-buffer_after c =
+too_long : (c : After-from_residual-in_err-fails_if-2) → escaping c.args.delimiters.bytes c.args.text.now (length c.args.buffer.now) ≡ Err c.in_err-fails_if-2.field-0.0
+too_long c =
     let a = c.args in
-    let z = escape_other a.delimiters.bytes a.text.now (sym c.is_null.ensures ∙ c.if-is_null.false) in
-    let l = leb-false _ _ (sym c.is_enough.ensures ∙ c.if-not-is_enough.true) in
-    let r = ended _ _ a.buffer.now (escaping_long a.delimiters.bytes a.text.now _ (length a.buffer.now) (omega arith) z l) in r.1
+    let w = escape_bytes a.delimiters.bytes a.text.now in
+    other (goal.at.After-from_residual-in_err-fails_if-2 c).Else-is_null
+    ∙ fitting_stops (length a.buffer.now) w (ap not c.is_enough.ensures ∙ over_room (length w) _) (sym c.fails_if-2.ensures ∙ c.in_err-fails_if-2.was)
+
+pub returns-in_err-fails_if-2-clause-value : goal.returns-in_err-fails_if-2-clause-value
+returns-in_err-fails_if-2-clause-value c = rw ((refused c.args.buffer.now (too_long c)).0) (search rules)
+
+pub returns-in_err-fails_if-2-clause-buffer_after : goal.returns-in_err-fails_if-2-clause-buffer_after
+returns-in_err-fails_if-2-clause-buffer_after c = sym (refused c.args.buffer.now (too_long c)).1
+
+whole : (c : After-write_escaped) → escaping c.args.delimiters.bytes c.args.text.now (length c.args.buffer.now) ≡ text (escape_bytes c.args.delimiters.bytes c.args.text.now)
+whole c =
+    let a = c.args in
+    let w = escape_bytes a.delimiters.bytes a.text.now in
+    other (goal.at.After-write_escaped c).Else-is_null
+    ∙ fitting_goes (length a.buffer.now) w (ap not c.is_enough.ensures ∙ over_room (length w) _) (sym c.fails_if-2.ensures ∙ c.in_ok-fails_if-2.was)
+
+pub write_escaped-requires : goal.write_escaped-requires
+write_escaped-requires c =
+    let a = c.args in
+    let h = passes_not _ _ _ (sym c.fails_if-2.ensures ∙ c.in_ok-fails_if-2.was) in
+    ltb-false _ _ (sym (ap not c.is_enough.ensures ∙ over_room (length (escape_bytes a.delimiters.bytes a.text.now)) _) ∙ h)
 
 pub returns-clause-value : goal.returns-clause-value
-unfolding answer filled
 returns-clause-value c =
-    let a = c.args in
-    let w = c.write_escaped-n.ensures in
-    let z = escape_other a.delimiters.bytes a.text.now (sym c.is_null.ensures ∙ c.if-is_null.false) in
-    let e = escaping_fits a.delimiters.bytes a.text.now _ (length a.buffer.now) (omega arith) z (room (goal.at.returns-clause-value c).Else-not-is_enough) in
-    let r = ended _ _ a.buffer.now e in ap made w.value ∙ r.0
+    ap (λ (n : ℕ). Ok n) c.write_escaped.ensures.value ∙ sym (told c.args.buffer.now (whole (goal.at.returns-clause-value c).After-write_escaped)).0
 
 pub returns-clause-buffer_after : goal.returns-clause-buffer_after
-unfolding answer filled
 returns-clause-buffer_after c =
-    let a = c.args in
-    let w = c.write_escaped-n.ensures in
-    let z = escape_other a.delimiters.bytes a.text.now (sym c.is_null.ensures ∙ c.if-is_null.false) in
-    let e = escaping_fits a.delimiters.bytes a.text.now _ (length a.buffer.now) (omega arith) z (room (goal.at.returns-clause-buffer_after c).Else-not-is_enough) in
-    let r = ended _ _ a.buffer.now e in w.buffer_after ∙ r.1
+    c.write_escaped.ensures.buffer_after ∙ sym (told c.args.buffer.now (whole (goal.at.returns-clause-buffer_after c).After-write_escaped)).1
