@@ -1,12 +1,16 @@
--- How many words the rest of a line has, at a place of the line and at its end. Assumes nothing.
-use mathlib.Core.Path.{◌≡◌, refl, sym}
+-- How many words a line has, by its spaces. Assumes nothing.
+use Prim.Native.Nat.{ℕ, ◌+◌, ◌≤◌}
+use mathlib.Core.Path.{◌≡◌, refl, sym, ◌∙◌}
+use mathlib.Core.Bool.{Bool, true, false, cond}
 use mathlib.Core.List.{List, [], ◌∷◌}
-use Prim.Native.Nat.{ℕ, suc, ◌+◌, ◌≤◌, ◌<◌}
 use native.Mathlib.Omega.{arith}
-use lib.ListN.{length, get_or, drop, drop_of_length-le}
-use borrow.Author.Tests.{ne_eqb}
+use lib.Dec.{eqb}
+use lib.ListN.{length}
+use borrow.Author.Tests.{eq-eqb, ne_eqb}
+use Rattle.std.specs.List.{count_by}
+use Rattle.std.proofs.lemmas.Bool.{eqb-true}
+use Rattle.std.proofs.lemmas.List.Sums.{sum_by-cons}
 use Rattle.alphabet.specs.Parts.{grown, split}
-use Rattle.alphabet.proofs.ListLaws.{drop_next}
 use Rattle.alphabet.proofs.PartLaws.{split_some}
 use Rattle.asking.specs.Words.{words}
 
@@ -14,15 +18,22 @@ grown_length : (x : ℕ) (ws : List (List ℕ)) → 1 ≤ length ws → length (
 grown_length x [] h = absurd (omega arith)
 grown_length x (w ∷ ws) h = refl
 
-pub count_space : (l : List ℕ) (i : ℕ) → i < length l → get_or l i 0 ≡ 32 → length (words (drop i l)) ≡ suc (length (words (drop (i + 1) l)))
-unfolding split
-count_space l i h e = rw (drop_next l i) (rw e)
+eqb_turned : (a b : ℕ) → eqb a b ≡ eqb b a
+eqb_turned a b = at (eqb b a) refl
+  where
+    at : (t : Bool) → eqb b a ≡ t → eqb a b ≡ t
+    at true e = eq-eqb a b (sym (eqb-true b a e))
+    at false e = ne_eqb a b (λ s. let z : true ≡ false = sym (eq-eqb b a (sym s)) ∙ e in cc)
 
-pub count_other : (l : List ℕ) (i : ℕ) → i < length l → (get_or l i 0 ≡ 32 → ⊥) → length (words (drop i l)) ≡ length (words (drop (i + 1) l))
-unfolding split
-count_other l i h n =
-    rw (drop_next l i) (rw (ne_eqb 32 (get_or l i 0) (λ e. n (sym e))) (grown_length (get_or l i 0) (words (drop (i + 1) l)) (split_some 32 (drop (i + 1) l))))
+-- how many of the bytes are spaces, byte by byte
+count_more : (b : ℕ) (r : List ℕ) → count_by (λ k. eqb k 32) (b ∷ r) ≡ cond (eqb b 32) 1 0 + count_by (λ k. eqb k 32) r
+count_more b r = sum_by-cons (λ k. cond (eqb k 32) 1 0) b r
 
-pub count_end : (l : List ℕ) (i : ℕ) → length l ≤ i → length (words (drop i l)) ≡ 1
+pub word_count : (l : List ℕ) → length (words l) ≡ count_by (λ b. eqb b 32) l + 1
 unfolding split
-count_end l i h = rw (drop_of_length-le l h)
+word_count [] = refl
+word_count (b ∷ r) = at (eqb b 32) refl (word_count r)
+  where
+    at : (t : Bool) → eqb b 32 ≡ t → length (words r) ≡ count_by (λ k. eqb k 32) r + 1 → length (words (b ∷ r)) ≡ count_by (λ k. eqb k 32) (b ∷ r) + 1
+    at true e h = rw (count_more b r, eqb_turned 32 b, e) (omega (arith, h))
+    at false e h = rw (count_more b r, eqb_turned 32 b, e) (omega (arith, h, grown_length b (words r) (split_some 32 r)))

@@ -1,6 +1,5 @@
 pub mod Lists
 pub mod Cutting
-pub mod Gathering
 pub mod Pairs
 pub mod Digits
 pub mod Verbs

@@ -7,12 +7,7 @@ pub fn put(buffer: &mut [u8], at: usize, text: &[u8]) -> usize
     ensures value { result ≡ at + length text.now }
     ensures buffer_after { take result buffer.new ≡ take at buffer.old ++ text.now }
 {
-    let mut i = 0;
-    let mut next = at;
-    while i < text.len() {
-        buffer[next] = text[i];
-        next += 1;
-        i += 1;
-    }
-    next
+    let end = at + text.len();
+    buffer[at..end].copy_from_slice(text);
+    end
 }

@@ -1,66 +1,47 @@
 // A word that says bytes: `-` says none, and otherwise each pair of hex digits says one. They are decoded into a buffer
 // that the caller lends, and a word that says more than fits says nothing.
-ghost use Rattle.std.specs.Prelude.{◌/◌, ◌≤◌, ◌≡◌, true, length, take};
+ghost use Rattle.std.specs.Prelude.{◌/◌, ◌≡◌, true, length, Some, None, IfSome, IfNone, option_map};
 ghost use Rattle.alphabet.specs.Hex.{all_hex, pairs_of};
-ghost use Rattle.asking.specs.Hex.{said, fitting, Told, Reaching};
+ghost use Rattle.asking.specs.Hex.{said, fitting};
 
-// What a word says: so many bytes, which are at the front of the buffer now, or nothing.
-#[derive(Clone, Copy)]
-pub enum Decoded {
-    Length(usize),
-    Refused,
-}
-
-// Writes the bytes that pairs of hex digits say to the front of a buffer.
-fn put_pairs(word: &[u8], buffer: &mut [u8]) -> usize
+// Writes the bytes that pairs of hex digits say over a buffer of as many bytes.
+fn put_pairs(word: &[u8], buffer: &mut [u8])
     requires word_value { all_hex word.now ≡ true }
-    requires word_in_bounds { length word.now / 2 ≤ length buffer.old }
-    ensures { (result ≡ length (pairs_of word.now))
-        × (take result buffer.new ≡ pairs_of word.now) }
+    requires as_long { length word.now / 2 ≡ length buffer.old }
+    ensures { buffer.new ≡ pairs_of word.now }
 {
-    let mut i = 0;
-    let mut next = 0;
-    while i < word.len() {
-        let high = alphabet::hex_value(word[i]);
-        let low = alphabet::hex_value(word[i + 1]);
-        buffer[next] = high * 16 + low;
-        next += 1;
-        i += 2;
+    for place in 0..buffer.len() {
+        let high = alphabet::hex_value(word[2 * place]);
+        let low = alphabet::hex_value(word[2 * place + 1]);
+        buffer[place] = high * 16 + low;
     }
-    next
 }
 
-// Writes the bytes that a word says to the front of a buffer. The word is judged first, so that the writing loop has
-// nothing to refuse.
-pub fn decode(word: &[u8], buffer: &mut [u8]) -> Decoded
-    ensures { Told (fitting (length buffer.old) (said word.now)) result buffer.new }
+// The digits of a word that says bytes, of which `-` has none. They are judged here, so that the writing loop has nothing
+// to refuse.
+fn digits_of(word: &[u8]) -> Option<&[u8]>
+    ensures said { said word.now ≡ option_map (λ digits. pairs_of digits.now) result }
+    ensures pairs { IfSome result (λ digits. all_hex digits.now ≡ true) }
 {
-    if word.len() == 0 {
-        return Decoded::Refused;
+    if alphabet::same(word, b"-") {
+        return Some(&word[..0]);
     }
-    if word.len() == 1 {
-        if word[0] == b'-' {
-            return Decoded::Length(0);
-        }
-        return Decoded::Refused;
+    if word.is_empty() {
+        return None;
     }
     if !alphabet::all_hex(word) {
-        return Decoded::Refused;
+        return None;
     }
-    if buffer.len() < word.len() / 2 {
-        return Decoded::Refused;
-    }
-    Decoded::Length(put_pairs(word, buffer))
+    Some(word)
 }
 
-// Decodes a word into a buffer from place `at` on, and tells the place behind its bytes.
-pub fn decode_at(word: &[u8], buffer: &mut [u8], at: usize) -> Decoded
-    requires { at ≤ length buffer.old }
-    ensures { Reaching at (length buffer.new) result }
+// Decodes a word to the front of a buffer, and lends the bytes that it says and the buffer behind them.
+pub fn decode<'a>(word: &[u8], buffer: &'a mut [u8]) -> Option<(&'a [u8], &'a mut [u8])>
+    ensures some { IfSome result (λ lent. fitting (length buffer.old) (said word.now) ≡ Some lent.0.now) }
+    ensures none { IfNone result (fitting (length buffer.old) (said word.now) ≡ None) }
 {
-    let decoded = decode(word, &mut buffer[at..]);
-    let Decoded::Length(count) = decoded else {
-        return Decoded::Refused;
-    };
-    Decoded::Length(at + count)
+    let digits = digits_of(word)?;
+    let (bytes, behind) = buffer.split_at_mut_checked(digits.len() / 2)?;
+    put_pairs(digits, bytes);
+    Some((&*bytes, behind))
 }

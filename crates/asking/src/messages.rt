@@ -3,7 +3,7 @@
 ghost use Rattle.std.specs.Prelude.{◌≡◌, leb};
 ghost use Rattle.asking.specs.Messages.{held_of, not_held};
 
-use alphabet::{Answer, Refusal};
+use alphabet::{Fault, Refusal};
 
 // The most bytes of a message that a program holds.
 const LONGEST_HELD: usize = 65_536;
@@ -27,12 +27,11 @@ pub fn held(message: &[u8]) -> &[u8]
 }
 
 // What is answered to one that is not held by a verb that writes: 1, and nothing is written.
-pub fn not_held() -> Answer
+pub fn not_held() -> Result<usize, Fault>
     ensures { result ≡ not_held }
 {
-    Answer {
+    Err(Fault {
         kind: Refusal::Length,
         place: 0,
-        length: 0,
-    }
+    })
 }

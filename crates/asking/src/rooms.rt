@@ -1,10 +1,8 @@
 // A buffer that is lent to the library, of as many bytes as a question asks for: each is A5 before the call, so that an
 // answer that shows the whole of it tells what was written and that the rest stayed.
-ghost use Rattle.std.specs.Prelude.{ℕ, ◌<◌, ◌≡◌, get_or};
-ghost use Rattle.asking.specs.Decimals.{AtMost};
+ghost use Rattle.std.specs.Prelude.{ℕ, ◌<◌, ◌≤◌, ◌≡◌, get_or, IfSome};
 
 use crate::decimals;
-use crate::decimals::Number;
 
 // The largest buffer that is lent.
 const LARGEST_ROOM: usize = 65_536;
@@ -17,14 +15,12 @@ pub fn untouched() -> [u8; LARGEST_ROOM]
 }
 
 // The room that a word says, where a buffer of that size is lent.
-pub fn room_of(word: &[u8]) -> Number
-    ensures { AtMost 65536 result }
+pub fn room_of(word: &[u8]) -> Option<usize>
+    ensures { IfSome result (λ room. room ≤ 65536) }
 {
-    let Number::Value(number) = decimals::decode(word) else {
-        return Number::Refused;
-    };
-    if LARGEST_ROOM < number as usize {
-        return Number::Refused;
+    let room = decimals::decode(word)? as usize;
+    if LARGEST_ROOM < room {
+        return None;
     }
-    Number::Value(number)
+    Some(room)
 }

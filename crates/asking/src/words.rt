@@ -9,24 +9,15 @@ use alphabet::Part;
 pub fn count(line: &[u8]) -> usize
     ensures { result ≡ length (words line.now) }
 {
-    let mut spaces = 0;
-    let mut i = 0;
-    while i < line.len() {
-        if line[i] == b' ' {
-            spaces += 1;
-        }
-        i += 1;
-    }
-    spaces + 1
+    line.iter().filter(|byte| **byte == b' ').count() + 1
 }
 
 // The word at a place of a line, where the first is at place 0. There is an empty one at every place behind the last.
 pub fn word(line: &[u8], place: usize) -> &[u8]
     ensures { result.now ≡ get_or (words line.now) place [] }
 {
-    let part = alphabet::nth_part(line, b' ', place);
-    let Part::At { start, end } = part else {
-        return &line[..0];
-    };
-    &line[start..end]
+    match alphabet::nth_part(line, b' ', place) {
+        Some(Part { start, end }) => &line[start..end],
+        None => &line[..0],
+    }
 }

@@ -1,15 +1,13 @@
--- `asking::words::count` meets its contract: the words of the whole are the spaces passed and the words of the rest.
+-- `asking::words::count` meets its contract: the words are one more than the spaces.
 use native.Mathlib.Omega.{arith}
-use Rattle.asking.proofs.Cutting.{count_space, count_other, count_end}
-use Rattle.asking.proofs.words.count.Goals.{else-line-i-eq32, then-line-i-eq32}
+use mathlib.Core.Path.{◌≡◌}
+use lib.Dec.{eqb}
+use borrow.Author.Rules.{rules}
+use Rattle.std.specs.List.{count_by}
+use Rattle.asking.proofs.Cutting.{word_count}
 use Rattle.asking.proofs.words.count.Goals as goal
-
-pub loop-i-preserved : goal.loop-i-preserved
-loop-i-preserved c =
-    let a = c.args in
-    elim c.if-line-i-eq32.branch [ then-line-i-eq32 w ↦ omega (arith, count_space a.line.now c.loop-i.i (omega arith) w.if-line-i-eq32.true) | else-line-i-eq32 w ↦ omega (arith, count_other a.line.now c.loop-i.i (omega arith) w.if-line-i-eq32.false) ]
 
 pub returns : goal.returns
 returns c =
-    let a = c.args in
-    omega (arith, count_end a.line.now c.loop-i.i (omega arith))
+    let spaces : c.count.result ≡ count_by (λ b. eqb b 32) c.args.line.now = search rules in
+    omega (arith, spaces, word_count c.args.line.now)
