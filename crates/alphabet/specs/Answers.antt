@@ -77,6 +77,11 @@ abbrev pub given : {T : Type 0} → Check → T → Refusable T
 given (Ok _) x = Ok x
 given (Err fault) x = Err fault
 
+-- what an answer says of whether anything is refused
+abbrev pub checked : {T : Type 0} → Refusable T → Check
+checked (Ok _) = passes
+checked (Err fault) = Err fault
+
 -- the number that is given back: 0 where nothing is refused
 abbrev pub number_given : {T : Type 0} → Refusable T → ℕ
 number_given (Ok _) = 0

@@ -1,34 +1,41 @@
 -- Laws of a segment that is asked for: what the answer is in each case. Assumes nothing.
 use mathlib.Core.Path.{◌≡◌}
-use mathlib.Core.List.{List}
-use Prim.Native.Nat.{ℕ, ◌-◌}
+use mathlib.Core.List.{List, [], ◌∷◌}
+use Prim.Native.Nat.{ℕ, ◌+◌, ◌-◌, ◌≤◌}
+use native.Mathlib.Omega.{arith}
 use lib.ListN.{length, take, drop}
-use Rattle.alphabet.specs.Answers.{answered}
+use Rattle.alphabet.proofs.PartLaws.{split_some}
+use Rattle.std.specs.Prelude.{Ok, Err, None}
+use Rattle.alphabet.specs.Bytes.{carriage_return}
+use Rattle.alphabet.specs.Parts.{from_to, split}
+use Rattle.alphabet.specs.Answers.{passes, fails}
 use Rattle.alphabet.specs.declared.answers.Refusal.{Refusal}
-use Rattle.alphabet.specs.declared.answers.Check.TheVariants.{Passes, Fails}
-use Rattle.alphabet.specs.declared.parts.Part.TheVariants.{At, Absent}
-use Rattle.reading.specs.Segments.{segments, segment_at, name_of}
+use Rattle.alphabet.specs.declared.answers.Fault.{Fault}
+use Rattle.reading.specs.Segments.{all_but_last, segments, segment_at, name_of}
 use Rattle.reading.specs.Reading.{reading}
 use Rattle.reading.proofs.SegmentLaws.{segment_bytes}
-use Rattle.segments.specs.Asked.{counting, segment_asked, refused_with, segment_found}
+use Rattle.segments.specs.Asked.{segment_asked, segment_found}
 
-pub counting_unread : (m : List ℕ) (kind : Refusal) (place : ℕ) → reading m ≡ Fails kind place → answered (Fails kind place) ≡ counting m
-unfolding counting
-counting_unread m kind place e = rw e
-
-pub counting_read : (m : List ℕ) → reading m ≡ Passes → record { kind = Refusal.None; place = 0; length = length (segments m) } ≡ counting m
-unfolding counting
-counting_read m e = rw e
-
-pub asked_unread : (m : List ℕ) (k : ℕ) (kind : Refusal) (place : ℕ) → reading m ≡ Fails kind place → refused_with (Fails kind place) ≡ segment_found m k
+pub asked_unread : (m : List ℕ) (k : ℕ) (fault : Fault) → reading m ≡ Err fault → Err fault ≡ segment_found m k
 unfolding segment_found segment_asked
-asked_unread m k kind place e = rw e
+asked_unread m k fault e = rw e
 
-pub asked_missing : (m : List ℕ) (k : ℕ) → reading m ≡ Passes → segment_at m k ≡ Absent → refused_with (Fails Refusal.Address 0) ≡ segment_found m k
+pub asked_missing : (m : List ℕ) (k : ℕ) → reading m ≡ passes → segment_at m k ≡ None → fails Refusal.Address 0 ≡ segment_found m k
 unfolding segment_found segment_asked
 asked_missing m k e q = rw (e, q)
 
-pub asked_there : (m : List ℕ) (k s e : ℕ) → reading m ≡ Passes → segment_at m k ≡ At s e
-    → record { answer = answered Passes; name = name_of (take (e - s) (drop s m)); start = s; end = e } ≡ segment_found m k
+pub asked_there : (m : List ℕ) (k s e : ℕ) → reading m ≡ passes → segment_at m k ≡ from_to s e
+    → Ok (record { name = name_of (take (e - s) (drop s m)); start = s; end = e }) ≡ segment_found m k
 unfolding segment_found segment_asked
 asked_there m k s e r q = rw (r, q, (segment_bytes m k s e q).3)
+
+-- what stands behind the last CR is no segment
+but_last_count : (ps : List (List ℕ)) → 1 ≤ length ps → length (all_but_last ps) + 1 ≡ length ps
+unfolding all_but_last
+but_last_count [] h = absurd (omega arith)
+but_last_count (p ∷ []) h = omega arith
+but_last_count (p ∷ q ∷ ps) h = let n = but_last_count (q ∷ ps) (omega arith) in omega arith
+
+pub segments_count : (m : List ℕ) → length (segments m) + 1 ≡ length (split carriage_return m)
+unfolding segments
+segments_count m = but_last_count (split carriage_return m) (split_some carriage_return m)
