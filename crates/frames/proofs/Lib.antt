@@ -1,3 +1,4 @@
+pub mod ModeLaws
 pub mod StepLaws
 pub mod FeedLaws
 pub mod RunLaws

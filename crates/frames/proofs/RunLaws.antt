@@ -15,7 +15,7 @@ use Rattle.alphabet.proofs.BoolLaws.{or_neither}
 use Rattle.frames.specs.declared.state.FrameState.{FrameState}
 use Rattle.frames.specs.Wire.{most_dropped}
 use Rattle.frames.specs.Steps.{quiet, gather, inside, outside, skipping, stepped, counted}
-use Rattle.frames.specs.Feeding.{feeding, stored, stopping}
+use Rattle.frames.specs.Feeding.{feeding, stored}
 use Rattle.frames.specs.Passing.{framing, counted_on}
 use Rattle.frames.proofs.StepLaws.{counted_more, counted_most, outside_drops, inside_gathers, skipping_on, step_outside_lem, step_inside_lem, step_skipping_lem}
 use Rattle.frames.proofs.KnownLaws.{counted_within}
@@ -24,11 +24,11 @@ use Rattle.frames.proofs.KnownLaws.{counted_within}
 
 module _ (limit : ℕ) (s t : FrameState) (d : List ℕ) (used b : ℕ) (l : List ℕ) where
   feed_quiet : stepped limit s b ≡ quiet t → feeding limit s d used (b ∷ l) ≡ feeding limit t d (used + 1) l
-  unfolding feeding stored stopping
+  unfolding feeding stored
   feed_quiet e = rw e
 
   feed_gather : stepped limit s b ≡ gather t → feeding limit s d used (b ∷ l) ≡ feeding limit t (set d s.held b) (used + 1) l
-  unfolding feeding stored stopping
+  unfolding feeding stored
   feed_gather e = rw e
 
 -- the first of the bytes before the first that passes

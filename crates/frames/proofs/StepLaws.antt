@@ -3,9 +3,11 @@ use mathlib.Core.Path.{◌≡◌}
 use Prim.Native.Nat.{ℕ, ◌+◌, ◌≤◌, ◌<◌}
 use borrow.Author.Tests.{eq-eqb, ne_eqb, le-leb, lt-leb, lt-ltb, le-ltb}
 use Rattle.frames.specs.declared.state.FrameState.{FrameState}
-use Rattle.frames.specs.declared.steps.Event.TheVariants.{Frame, Broken, Long}
+use Rattle.alphabet.specs.declared.answers.Refusal.TheVariants.{BrokenFrame, FrameTooLong}
+use Rattle.frames.specs.declared.modes.Mode.TheVariants.{Outside, Inside, Ending, Skipping}
+use Rattle.frames.specs.declared.steps.Stop.TheVariants.{Frame, Drop}
 use Rattle.frames.specs.Wire.{most_dropped}
-use Rattle.frames.specs.Steps.{outside, inside, ending, skipping, skipping_end, quiet, gather, stop, counted, step_outside, step_inside, step_ending, step_skipping, step_skipping_end, stepped}
+use Rattle.frames.specs.Steps.{outside, inside, ending, skipping, skipping_end, quiet, gather, stops, counted, step_outside, step_inside, step_ending, step_skipping, step_skipping_end, stepped}
 
 pub counted_more : {n : ℕ} → n < most_dropped → counted n ≡ n + 1
 unfolding counted
@@ -23,18 +25,6 @@ module _ (n b : ℕ) where
   pub outside_drops : (b ≡ 11 → ⊥) → step_outside n b ≡ quiet (outside (counted n))
   unfolding step_outside
   outside_drops e = rw (ne_eqb b 11 e)
-
-  pub ending_frame : b ≡ 13 → step_ending n b ≡ stop Frame (outside n)
-  unfolding step_ending
-  ending_frame e = rw (eq-eqb b 13 e)
-
-  pub ending_opens : (b ≡ 13 → ⊥) → b ≡ 11 → step_ending n b ≡ stop Broken (inside 0 n)
-  unfolding step_ending
-  ending_opens f e = rw (ne_eqb b 13 f, eq-eqb b 11 e)
-
-  pub ending_breaks : (b ≡ 13 → ⊥) → (b ≡ 11 → ⊥) → step_ending n b ≡ stop Broken (outside n)
-  unfolding step_ending
-  ending_breaks f e = rw (ne_eqb b 13 f, ne_eqb b 11 e)
 
   pub skipping_opens : b ≡ 11 → step_skipping n b ≡ quiet (inside 0 n)
   unfolding step_skipping
@@ -56,8 +46,21 @@ module _ (n b : ℕ) where
   unfolding step_skipping_end
   skipped_on e = rw (ne_eqb b 11 e)
 
+module _ (h n b : ℕ) where
+  pub ending_frame : b ≡ 13 → step_ending h n b ≡ stops (Frame h) (outside n)
+  unfolding step_ending
+  ending_frame e = rw (eq-eqb b 13 e)
+
+  pub ending_opens : (b ≡ 13 → ⊥) → b ≡ 11 → step_ending h n b ≡ stops (Drop BrokenFrame) (inside 0 n)
+  unfolding step_ending
+  ending_opens f e = rw (ne_eqb b 13 f, eq-eqb b 11 e)
+
+  pub ending_breaks : (b ≡ 13 → ⊥) → (b ≡ 11 → ⊥) → step_ending h n b ≡ stops (Drop BrokenFrame) (outside n)
+  unfolding step_ending
+  ending_breaks f e = rw (ne_eqb b 13 f, ne_eqb b 11 e)
+
 module _ (limit h n b : ℕ) where
-  pub inside_opens : b ≡ 11 → step_inside limit h n b ≡ stop Broken (inside 0 n)
+  pub inside_opens : b ≡ 11 → step_inside limit h n b ≡ stops (Drop BrokenFrame) (inside 0 n)
   unfolding step_inside
   inside_opens e = rw (eq-eqb b 11 e)
 
@@ -65,7 +68,7 @@ module _ (limit h n b : ℕ) where
   unfolding step_inside
   inside_closes f e = rw (ne_eqb b 11 f, eq-eqb b 28 e)
 
-  pub inside_long : (b ≡ 11 → ⊥) → (b ≡ 28 → ⊥) → limit ≤ h → step_inside limit h n b ≡ stop Long (skipping n)
+  pub inside_long : (b ≡ 11 → ⊥) → (b ≡ 28 → ⊥) → limit ≤ h → step_inside limit h n b ≡ stops (Drop FrameTooLong) (skipping n)
   unfolding step_inside
   inside_long f g k = rw (ne_eqb b 11 f, ne_eqb b 28 g, le-leb limit h k)
 
@@ -74,22 +77,18 @@ module _ (limit h n b : ℕ) where
   inside_gathers f g k = rw (ne_eqb b 11 f, ne_eqb b 28 g, lt-leb limit h k)
 
 module _ (limit : ℕ) (s : FrameState) (b : ℕ) where
-  pub step_outside_lem : s.mode ≡ 0 → stepped limit s b ≡ step_outside s.count b
+  pub step_outside_lem : s.mode ≡ Outside → stepped limit s b ≡ step_outside s.count b
   unfolding stepped
-  step_outside_lem e = rw (eq-eqb s.mode 0 e)
+  step_outside_lem e = rw e
 
-  pub step_inside_lem : s.mode ≡ 1 → stepped limit s b ≡ step_inside limit s.held s.count b
+  pub step_inside_lem : s.mode ≡ Inside → stepped limit s b ≡ step_inside limit s.held s.count b
   unfolding stepped
   step_inside_lem e = rw e
 
-  pub step_ending_lem : s.mode ≡ 2 → stepped limit s b ≡ step_ending s.count b
+  pub step_ending_lem : s.mode ≡ Ending → stepped limit s b ≡ step_ending s.held s.count b
   unfolding stepped
   step_ending_lem e = rw e
 
-  pub step_skipping_lem : s.mode ≡ 3 → stepped limit s b ≡ step_skipping s.count b
+  pub step_skipping_lem : s.mode ≡ Skipping → stepped limit s b ≡ step_skipping s.count b
   unfolding stepped
   step_skipping_lem e = rw e
-
-  pub step_skipped : (s.mode ≡ 0 → ⊥) → (s.mode ≡ 1 → ⊥) → (s.mode ≡ 2 → ⊥) → (s.mode ≡ 3 → ⊥) → stepped limit s b ≡ step_skipping_end s.count b
-  unfolding stepped
-  step_skipped p q r t = rw (ne_eqb s.mode 0 p, ne_eqb s.mode 1 q, ne_eqb s.mode 2 r, ne_eqb s.mode 3 t)

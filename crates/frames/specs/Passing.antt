@@ -3,7 +3,6 @@
 use Rattle.std.specs.Prelude.{ℕ, ◌+◌, ◌-◌, ◌≤◌, ◌≡◌, List, Bool, true, cond, leb, length, drop}
 use Rattle.alphabet.specs.Lists.{either}
 use Rattle.frames.specs.declared.state.FrameState.{FrameState}
-use Rattle.frames.specs.declared.runs.Passed.{Passed}
 use Rattle.frames.specs.Wire.{opens, closes, most_dropped}
 use Rattle.frames.specs.Feeding.{known, feeding}
 
@@ -15,9 +14,9 @@ framing = either opens closes
 unfoldable pub counted_on : ℕ → ℕ → ℕ
 counted_on n k = cond (leb k (most_dropped - n)) (n + k) most_dropped
 
--- the state and the buffer behind a run of bytes at the front of l
-pub record PassesOver (limit : ℕ) (s : FrameState) (l d : List ℕ) (r : Passed) (x : List ℕ) : Type 0 where
-  pub within : r.run ≤ length l
+-- the state and the buffer behind a run of so many bytes at the front of l
+pub record PassesOver (limit : ℕ) (s : FrameState) (l d : List ℕ) (run : ℕ) (t : FrameState) (x : List ℕ) : Type 0 where
+  pub within : run ≤ length l
   pub size : length x ≡ length d
-  pub can : known (length d) r.state ≡ true
-  pub on : (used : ℕ) → feeding limit s d used l ≡ feeding limit r.state x (used + r.run) (drop r.run l)
+  pub can : known (length d) t ≡ true
+  pub on : (used : ℕ) → feeding limit s d used l ≡ feeding limit t x (used + run) (drop run l)

@@ -3,9 +3,12 @@
 #![tactic(auto)]
 
 mod feeding;
+mod modes;
 mod runs;
 mod state;
 mod steps;
 
-pub use feeding::{Fed, Stop};
-pub use state::{FrameState, OUTSIDE, SKIPPING, most_dropped};
+pub use feeding::Fed;
+pub use modes::Mode;
+pub use state::{FrameState, most_dropped};
+pub use steps::Stop;

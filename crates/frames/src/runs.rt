@@ -4,19 +4,14 @@ ghost use Rattle.frames.specs.Wire.{most_dropped, frame_limit};
 ghost use Rattle.frames.specs.Feeding.{known};
 ghost use Rattle.frames.specs.Passing.{counted_on, PassesOver};
 
-use crate::state::{CLOSES, FrameState, INSIDE, OPENS, OUTSIDE, SKIPPING, most_dropped};
+use crate::modes::Mode;
+use crate::state::{CLOSES, FrameState, OPENS, most_dropped};
 
 // A mask to which 0x0B and 0x1C are nearer than CR and all that is printable, so that a message is searched fast.
 const MASK: u8 = 27;
 
-// How many bytes were passed over, and the state behind them.
-#[derive(Clone, Copy)]
-pub struct Passed {
-    pub run: usize,
-    pub state: FrameState,
-}
-
 // So many bytes more, to the most that is counted.
+#[tactic(auto, unfolding(crate::specs::Passing::counted_on))]
 fn counted_on(count: u64, run: usize) -> u64
     requires { count ≤ most_dropped }
     ensures { result ≡ counted_on count run }
@@ -28,38 +23,28 @@ fn counted_on(count: u64, run: usize) -> u64
     most
 }
 
-// PassesOver over the run at the front of what is left of a piece, and gathers it where the mode is to gather.
-pub fn pass(limit: usize, state: FrameState, rest: &[u8], buffer: &mut [u8]) -> Passed
-    requires { (limit ≡ frame_limit (length buffer.old)) × (known (length buffer.old) state ≡ true) }
-    ensures { PassesOver limit state rest.now buffer.old result buffer.new }
-{
-    if state.mode == OUTSIDE {
-        let dropped = search::find_by_words(rest, OPENS);
-        return Passed {
-            run: dropped,
-            state: FrameState::of(OUTSIDE, 0, counted_on(state.count, dropped)),
-        };
-    }
-    if state.mode == INSIDE {
-        let held = state.held;
-        let mut run = search::find_either(rest, OPENS, CLOSES, MASK);
-        if limit - held < run {
-            run = limit - held;
+impl FrameState {
+    // Passes over the run at the front of what is left of a piece, gathers it where the mode is to gather, and returns
+    // its length.
+    pub(crate) fn pass(&mut self, limit: usize, rest: &[u8], buffer: &mut [u8]) -> usize
+        requires { (limit ≡ frame_limit (length buffer.old)) × (known (length buffer.old) self.old ≡ true) }
+        ensures { PassesOver limit self.old rest.now buffer.old result self.new buffer.new }
+    {
+        match self.mode {
+            Mode::Outside => {
+                let run = search::find_by_words(rest, OPENS);
+                self.count = counted_on(self.count, run);
+                run
+            }
+            Mode::Inside => {
+                let room = limit - self.held;
+                let run = search::find_either(rest, OPENS, CLOSES, MASK).min(room);
+                alphabet::put_long(buffer, self.held, &rest[..run]);
+                self.held += run;
+                run
+            }
+            Mode::Skipping => search::find_either(rest, OPENS, CLOSES, MASK),
+            Mode::Ending | Mode::SkippingEnd | Mode::Unknown => 0,
         }
-        let place = alphabet::put_long(buffer, held, &rest[..run]);
-        return Passed {
-            run: run,
-            state: FrameState::of(INSIDE, held + run, state.count),
-        };
-    }
-    if state.mode == SKIPPING {
-        return Passed {
-            run: search::find_either(rest, OPENS, CLOSES, MASK),
-            state: state,
-        };
-    }
-    Passed {
-        run: 0,
-        state: state,
     }
 }

@@ -1,182 +1,164 @@
 -- Rests on the laws of feeding, and on a run being fed as single bytes are: what is left of the piece decides, at each turn.
-use Prim.Native.Nat.{ℕ, ◌≤◌, ◌<◌, ◌+◌, ◌-◌}
+use Prim.Native.Nat.{ℕ, ◌<◌, ◌+◌, ◌-◌}
 use mathlib.Core.Path.{◌≡◌, refl, sym, ap, subst, ◌∙◌}
-use mathlib.Core.Bool.{true}
-use mathlib.Core.List.{List}
-use lib.ListN.{length, get_or, drop, length-drop}
-use lib.Seq.{drop-drop}
+use mathlib.Core.Bool.{true, false}
+use mathlib.Core.List.{List, ◌∷◌}
+use lib.ListN.{length, drop, length-drop}
 use native.Mathlib.Omega.{arith}
-use mir.Val.{Fits}
-use mir.Syntax.{w64}
+use Rattle.std.specs.Prelude.{Ok, None, Result, is_some}
+use Rattle.alphabet.specs.declared.answers.Refusal.{Refusal}
+use Rattle.std.proofs.lemmas.List.{nil_from_length}
 use Rattle.alphabet.proofs.ListLaws.{rest_of}
 use Rattle.frames.specs.declared.steps.Step.{Step}
+use Rattle.frames.specs.declared.feeding.Fed.{Fed}
 use Rattle.frames.specs.Wire.{frame_limit}
-use Rattle.frames.specs.Feeding.{Feeding, feeding, known, foreign, fed, stored}
-use Rattle.frames.proofs.FeedLaws.{frame_limit_le, gathers_below, length_stored, stored_set, stored_not, feed_end, feed_stop, feed_on, fed_known, fed_foreign}
+use Rattle.frames.specs.Feeding.{Feeding, feeding, told, known, taken, foreign, fed, stored}
+use Rattle.frames.proofs.FeedLaws.{frame_limit_le, gathers_below, length_stored, stored_set, stored_not, feed_stop, feed_on, fed_known, fed_foreign}
 use Rattle.frames.proofs.KnownLaws.{known_after}
-use Rattle.frames.proofs.state.FrameState.feed.Goals.{After-limit_of-limit, After-pass-passed, At-loop-i, Else-i-piece, Joined-step, else-step, then-step}
+use Rattle.frames.proofs.state.FrameState.feed.Goals.{After-is_known, After-limit_of-limit, After-pass-run, In_default, Joined-step, else-step, then-step}
 use Rattle.frames.proofs.state.FrameState.feed.Goals as goal
 
--- the state is known
-can : (c : After-limit_of-limit) → let a = c.args in known (length a.buffer.now) a.self ≡ true
-can c = sym c.is_known.ensures ∙ c.if-not-is_known.false
+abbrev Whole : Type 0
+Whole = Feeding (Result Fed Refusal)
 
--- so the whole piece is fed
-whole : (c : After-limit_of-limit)
-    → let a = c.args in
-    fed a.self a.piece.now a.buffer.now ≡ feeding c.limit_of-limit.result a.self a.buffer.now 0 a.piece.now
-whole c =
-    let a = c.args in
-    fed_known a.self a.piece.now a.buffer.now (can c) ∙ ap (λ (n : ℕ). feeding n a.self a.buffer.now 0 a.piece.now) (sym c.limit_of-limit.ensures)
+-- a state that cannot be
+refused : (c : After-is_known) → c.is_known.result ≡ false → let a = c.args in fed a.self a.piece.now a.buffer.now ≡ foreign a.buffer.now
+refused c e = let a = c.args in fed_foreign a.self a.piece.now a.buffer.now (sym c.is_known.ensures ∙ e)
 
 pub returns-then-not-is_known-clause-value : goal.returns-then-not-is_known-clause-value
 unfolding foreign
-returns-then-not-is_known-clause-value c =
-    let a = c.args in
-    let e = fed_foreign a.self a.piece.now a.buffer.now (sym c.is_known.ensures ∙ c.if-not-is_known.true) in c.given.ensures ∙ ap (λ (f : Feeding). f.said) (sym e)
+returns-then-not-is_known-clause-value c = ap (λ (f : Whole). f.said) (sym (refused (goal.at.returns-then-not-is_known-clause-value c).After-is_known c.if-not-is_known.true))
 
 pub returns-then-not-is_known-clause-buffer_after : goal.returns-then-not-is_known-clause-buffer_after
 unfolding foreign
-returns-then-not-is_known-clause-buffer_after c =
+returns-then-not-is_known-clause-buffer_after c = ap (λ (f : Whole). f.left) (sym (refused (goal.at.returns-then-not-is_known-clause-buffer_after c).After-is_known c.if-not-is_known.true))
+
+-- any other is fed the whole piece
+whole : (c : After-limit_of-limit)
+    → let a = c.args in
+    fed a.self a.piece.now a.buffer.now ≡ taken (feeding c.limit_of-limit.result a.self a.buffer.now 0 a.piece.now)
+whole c =
     let a = c.args in
-    let e = fed_foreign a.self a.piece.now a.buffer.now (sym c.is_known.ensures ∙ c.if-not-is_known.true) in ap (λ (f : Feeding). f.left) (sym e)
+    fed_known a.self a.piece.now a.buffer.now (sym c.is_known.ensures ∙ c.if-not-is_known.false)
+    ∙ ap (λ (n : ℕ). taken (feeding n a.self a.buffer.now 0 a.piece.now)) (sym c.limit_of-limit.ensures)
 
-pub loop-i-init : goal.loop-i-init
-loop-i-init c = (omega arith, refl, can c, refl)
+pub loop-b-init : goal.loop-b-init
+loop-b-init c = (omega arith, refl, sym c.is_known.ensures ∙ c.if-not-is_known.false, let e : 0 ≡ length c.args.piece.now - length c.args.piece.now = omega arith in ap (λ (n : ℕ). feeding c.limit_of-limit.result c.args.self c.args.buffer.now n c.args.piece.now) e)
 
-pub pass-passed-requires : goal.pass-passed-requires
-pass-passed-requires c =
-    (c.limit_of-limit.ensures ∙ ap frame_limit (sym c.loop-i.invariant.1), subst (λ (n : ℕ). known n c.loop-i.self ≡ true) (sym c.loop-i.invariant.1) c.loop-i.invariant.2)
+pub pass-run-requires : goal.pass-run-requires
+pass-run-requires c =
+    (c.limit_of-limit.ensures ∙ ap frame_limit (sym c.loop-b.invariant.1), subst (λ (n : ℕ). known n c.loop-b.self ≡ true) (sym c.loop-b.invariant.1) c.loop-b.invariant.2)
 
-abbrev Piece : At-loop-i → List ℕ
-Piece l = l.args.piece.now
+-- behind a run: the buffer, what is left of the piece, and the bytes before it
+abbrev X : After-pass-run → List ℕ
+X k = k.pass-run.new.buffer
 
-fits : (l : At-loop-i) → Fits w64 (length (Piece l))
-fits l = omega arith
+abbrev Left : After-pass-run → List ℕ
+Left k = drop k.pass-run.result k.loop-b.rest.now
 
--- the place behind the run, the buffer, and that nothing else changed
-abbrev At : After-pass-passed → ℕ
-At k = k.loop-i.i + k.pass-passed.result.run
+abbrev At : After-pass-run → ℕ
+At k = length k.args.piece.now - length k.loop-b.rest.now + k.pass-run.result
 
-abbrev X : After-pass-passed → List ℕ
-X k = k.pass-passed.new.buffer
-
-record Behind (k : After-pass-passed) : Type 0 where
-  within : At k ≤ length (Piece (goal.at.After-pass-passed k).At-loop-i)
+record Behind (k : After-pass-run) : Type 0 where
+  place : At k + length (Left k) ≡ length k.args.piece.now
   size : length (X k) ≡ length k.args.buffer.now
-  known-still : known (length k.args.buffer.now) k.pass-passed.result.state ≡ true
-  on : fed k.args.self (Piece (goal.at.After-pass-passed k).At-loop-i) k.args.buffer.now ≡ feeding k.limit_of-limit.result k.pass-passed.result.state (X k) (At k) (drop (At k) (Piece (goal.at.After-pass-passed k).At-loop-i))
+  known-still : known (length k.args.buffer.now) k.pass-run.new.self ≡ true
+  on : feeding k.limit_of-limit.result k.args.self k.args.buffer.now 0 k.args.piece.now ≡ feeding k.limit_of-limit.result k.pass-run.new.self (X k) (At k) (Left k)
 
-behind : (k : After-pass-passed) → Behind k
+behind : (k : After-pass-run) → Behind k
 behind k =
-    let s = Piece (goal.at.After-pass-passed k).At-loop-i in
-    let i = k.loop-i.i in
-    let n = k.pass-passed.result.run in
-    let p = k.pass-passed.ensures in
-    let r = rest_of s i in
+    let p = k.pass-run.ensures in
+    let v = k.loop-b.invariant in
     let w = p.within in
-    let q = ap length r in
-    let d = length-drop i s in
+    let d = length-drop k.pass-run.result k.loop-b.rest.now in
+    let l = v.0 in
     record {
-      within = omega arith;
-      size = p.size ∙ k.loop-i.invariant.1;
-      known-still = subst (λ (m : ℕ). known m k.pass-passed.result.state ≡ true) k.loop-i.invariant.1 p.can;
-      on = whole (goal.at.After-pass-passed k).After-limit_of-limit ∙ k.loop-i.invariant.3 ∙ ap (feeding k.limit_of-limit.result k.loop-i.self k.loop-i.buffer i) (sym r) ∙ p.on i
-          ∙ ap (λ (j : List ℕ). feeding k.limit_of-limit.result k.pass-passed.result.state (X k) (i + n) (drop n j)) r
-          ∙ ap (feeding k.limit_of-limit.result k.pass-passed.result.state (X k) (i + n)) (drop-drop n i s);
+      place = omega arith;
+      size = p.size ∙ v.1;
+      known-still = subst (λ (m : ℕ). known m k.pass-run.new.self ≡ true) v.1 p.can;
+      on = v.3 ∙ p.on (length k.args.piece.now - length k.loop-b.rest.now);
     }
 
-pub overflow_add-i : goal.overflow_add-i
-overflow_add-i c =
-    let w = (behind (goal.at.overflow_add-i c).After-pass-passed).within in
-    let f = fits (goal.at.overflow_add-i c).At-loop-i in
-    let h : Fits w64 (At (goal.at.overflow_add-i c).After-pass-passed) = omega arith in
-    h
+-- at the piece's end
+ended : (k : After-pass-run) → length (Left k) ≡ 0 → fed k.args.self k.args.piece.now k.args.buffer.now ≡ record { said = Ok (told None (length k.args.piece.now) k.pass-run.new.self); left = X k }
+unfolding feeding
+ended k e =
+    let b = behind k in
+    let q = b.place in
+    let p : At k ≡ length k.args.piece.now = omega arith in
+    whole (goal.at.After-pass-run k).After-limit_of-limit ∙ ap taken (b.on ∙ ap (feeding k.limit_of-limit.result k.pass-run.new.self (X k) (At k)) (nil_from_length (Left k) e))
+    ∙ ap (λ (m : ℕ). taken (record { said = told None m k.pass-run.new.self; left = X k })) p
 
-pub returns-then-i-piece-clause-value : goal.returns-then-i-piece-clause-value
-returns-then-i-piece-clause-value c =
-    let t : At (goal.at.returns-then-i-piece-clause-value c).After-pass-passed ≡ length (Piece (goal.at.returns-then-i-piece-clause-value c).At-loop-i) = c.if-i-piece.true in
-    let e = (behind (goal.at.returns-then-i-piece-clause-value c).After-pass-passed).on ∙ feed_end _ c.pass-passed.result.state (X (goal.at.returns-then-i-piece-clause-value c).After-pass-passed) (Piece (goal.at.returns-then-i-piece-clause-value c).At-loop-i) (At (goal.at.returns-then-i-piece-clause-value c).After-pass-passed) (omega arith) in c.told.ensures ∙ ap (λ (f : Feeding). f.said) (sym e)
+none_left : (c : In_default) → length (Left (goal.at.In_default c).After-pass-run) ≡ 0
+none_left c = ap length (sym (rest_of c.loop-b.rest.now c.pass-run.result)) ∙ c.in_default.ensures.cases
 
-pub returns-then-i-piece-clause-buffer_after : goal.returns-then-i-piece-clause-buffer_after
-returns-then-i-piece-clause-buffer_after c =
-    let t : At (goal.at.returns-then-i-piece-clause-buffer_after c).After-pass-passed ≡ length (Piece (goal.at.returns-then-i-piece-clause-buffer_after c).At-loop-i) = c.if-i-piece.true in
-    let e = (behind (goal.at.returns-then-i-piece-clause-buffer_after c).After-pass-passed).on ∙ feed_end _ c.pass-passed.result.state (X (goal.at.returns-then-i-piece-clause-buffer_after c).After-pass-passed) (Piece (goal.at.returns-then-i-piece-clause-buffer_after c).At-loop-i) (At (goal.at.returns-then-i-piece-clause-buffer_after c).After-pass-passed) (omega arith) in ap (λ (f : Feeding). f.left) (sym e)
+pub returns-in_default-clause-value : goal.returns-in_default-clause-value
+returns-in_default-clause-value c = ap (λ (f : Whole). f.said) (sym (ended (goal.at.returns-in_default-clause-value c).After-pass-run (none_left c)))
 
--- there is a byte behind the run
-next : (c : Else-i-piece) → At (goal.at.Else-i-piece c).After-pass-passed < length (Piece (goal.at.Else-i-piece c).At-loop-i)
-next c =
-    let w = (behind (goal.at.Else-i-piece c).After-pass-passed).within in
-    let t : At (goal.at.Else-i-piece c).After-pass-passed ≡ length (Piece (goal.at.Else-i-piece c).At-loop-i) → ⊥ = c.if-i-piece.false in
-    omega arith
+pub returns-in_default-clause-buffer_after : goal.returns-in_default-clause-buffer_after
+returns-in_default-clause-buffer_after c = ap (λ (f : Whole). f.left) (sym (ended (goal.at.returns-in_default-clause-buffer_after c).After-pass-run (none_left c)))
 
-pub bounds-piece-i : goal.bounds-piece-i
-bounds-piece-i c = next (goal.at.bounds-piece-i c).Else-i-piece
-
-pub bounds-buffer-held : goal.bounds-buffer-held
-bounds-buffer-held c =
-    let q = c.step_by-step in
-    let g = gathers_below _ _ _ (ap (λ (r : Step). r.gathers) (sym q.ensures) ∙ c.if-step.true) in
+pub bounds-buffer-self : goal.bounds-buffer-self
+bounds-buffer-self c =
+    let g = gathers_below _ _ _ (ap (λ (r : Step). r.gathers) (sym c.step-step.ensures) ∙ c.if-step.true) in
     let t = frame_limit_le (length c.args.buffer.now) in
     let e = c.limit_of-limit.ensures in
-    let n = (behind (goal.at.bounds-buffer-held c).After-pass-passed).size in
-    let h : c.pass-passed.result.state.held < length (X (goal.at.bounds-buffer-held c).After-pass-passed) = omega arith in
+    let n = (behind (goal.at.bounds-buffer-self c).After-pass-run).size in
+    let h : c.pass-run.new.self.held < length (X (goal.at.bounds-buffer-self c).After-pass-run) = omega arith in
     h
 
--- the buffer behind the byte
-after : (c : Joined-step)
-    → c.if-step.buffer ≡ stored (X (goal.at.Joined-step c).After-pass-passed) c.pass-passed.result.state.held (get_or (Piece (goal.at.Joined-step c).At-loop-i) (At (goal.at.Joined-step c).After-pass-passed) 0) c.step_by-step.result.gathers
-after c = elim c.if-step.branch [ then-step w ↦ w.buffer-is ∙ sym (stored_set _ _ _ w.if-step.true) | else-step w ↦ w.buffer-is ∙ sym (stored_not _ _ _ w.if-step.false) ]
+-- behind a byte: the buffer, what is left of the piece, and the bytes before it
+record Stepped (c : Joined-step) : Type 0 where
+  stores : c.if-step.buffer ≡ stored (X (goal.at.Joined-step c).After-pass-run) c.pass-run.new.self.held c.in-Some.b.now c.step-step.result.gathers
+  size : length c.if-step.buffer ≡ length c.args.buffer.now
+  within : length c.in-Some.behind.now < length c.loop-b.rest.now
+  place : At (goal.at.Joined-step c).After-pass-run + 1 ≡ length c.args.piece.now - length c.in-Some.behind.now
+  on : feeding c.limit_of-limit.result c.args.self c.args.buffer.now 0 c.args.piece.now ≡ feeding c.limit_of-limit.result c.pass-run.new.self (X (goal.at.Joined-step c).After-pass-run) (At (goal.at.Joined-step c).After-pass-run) (c.in-Some.b.now ∷ c.in-Some.behind.now)
 
-after-size : (c : Joined-step) → length c.if-step.buffer ≡ length c.args.buffer.now
-after-size c =
-    ap length (after c) ∙ length_stored (X (goal.at.Joined-step c).After-pass-passed) c.pass-passed.result.state.held (get_or (Piece (goal.at.Joined-step c).At-loop-i) (At (goal.at.Joined-step c).After-pass-passed) 0) c.step_by-step.result.gathers ∙ (behind (goal.at.Joined-step c).After-pass-passed).size
+stepped_on : (c : Joined-step) → Stepped c
+stepped_on c =
+    let k = (goal.at.Joined-step c).After-pass-run in
+    let b = behind k in
+    let q = b.place in
+    let v = c.loop-b.invariant.0 in
+    let r : Left k ≡ c.in-Some.b.now ∷ c.in-Some.behind.now = sym (rest_of c.loop-b.rest.now c.pass-run.result) ∙ c.in-Some.ensures.cases.0 in
+    let n = ap length r in
+    let d = length-drop c.pass-run.result c.loop-b.rest.now in
+    let s : c.if-step.buffer ≡ stored (X k) c.pass-run.new.self.held c.in-Some.b.now c.step-step.result.gathers = elim c.if-step.branch [ then-step w ↦ w.buffer-is ∙ sym (stored_set _ _ _ w.if-step.true) | else-step w ↦ w.buffer-is ∙ sym (stored_not _ _ _ w.if-step.false) ] in
+    record {
+      stores = s;
+      size = ap length s ∙ length_stored (X k) c.pass-run.new.self.held c.in-Some.b.now c.step-step.result.gathers ∙ b.size;
+      within = omega arith;
+      place = omega arith;
+      on = b.on ∙ ap (feeding c.limit_of-limit.result c.pass-run.new.self (X k) (At k)) r;
+    }
 
-pub overflow_add-i-in-loop-i : goal.overflow_add-i-in-loop-i
-overflow_add-i-in-loop-i c =
-    let w = next (goal.at.overflow_add-i-in-loop-i c).Else-i-piece in
-    let f = fits (goal.at.overflow_add-i-in-loop-i c).At-loop-i in
-    let h : Fits w64 (At (goal.at.overflow_add-i-in-loop-i c).After-pass-passed + 1) = omega arith in
-    h
+-- where the reader stops
+stopped : (c : Joined-step) → is_some c.step-step.result.stop ≡ true
+    → fed c.args.self c.args.piece.now c.args.buffer.now ≡ record { said = Ok (told c.step-step.result.stop (length c.args.piece.now - length c.in-Some.behind.now) c.step-step.result.after); left = c.if-step.buffer }
+stopped c e =
+    let s = stepped_on c in
+    let k = (goal.at.Joined-step c).After-pass-run in
+    whole (goal.at.Joined-step c).After-limit_of-limit
+    ∙ ap taken (s.on ∙ feed_stop c.limit_of-limit.result c.pass-run.new.self (X k) (At k) c.in-Some.b.now c.in-Some.behind.now c.step-step.result c.if-step.buffer c.step-step.ensures s.stores e)
+    ∙ ap (λ (n : ℕ). taken (record { said = told c.step-step.result.stop n c.step-step.result.after; left = c.if-step.buffer })) s.place
 
-pub returns-then-stopping-clause-value : goal.returns-then-stopping-clause-value
-returns-then-stopping-clause-value c =
-    let e =
-    (behind (goal.at.returns-then-stopping-clause-value c).After-pass-passed).on
-    ∙ feed_stop _ c.pass-passed.result.state (X (goal.at.returns-then-stopping-clause-value c).After-pass-passed) (Piece (goal.at.returns-then-stopping-clause-value c).At-loop-i) (At (goal.at.returns-then-stopping-clause-value c).After-pass-passed) c.step_by-step.result c.if-step.buffer (next (goal.at.returns-then-stopping-clause-value c).Else-i-piece) c.step_by-step.ensures (after (goal.at.returns-then-stopping-clause-value c).Joined-step)
-    (sym c.stopping.ensures ∙ c.if-stopping.true) in c.told-then-stopping.ensures ∙ ap (λ (f : Feeding). f.said) (sym e)
+pub returns-then-is_some-clause-value : goal.returns-then-is_some-clause-value
+returns-then-is_some-clause-value c = ap (λ (f : Whole). f.said) (sym (stopped (goal.at.returns-then-is_some-clause-value c).Joined-step (sym c.is_some.ensures ∙ c.if-is_some.true)))
 
-pub returns-then-stopping-clause-buffer_after : goal.returns-then-stopping-clause-buffer_after
-returns-then-stopping-clause-buffer_after c =
-    let e =
-    (behind (goal.at.returns-then-stopping-clause-buffer_after c).After-pass-passed).on
-    ∙ feed_stop _ c.pass-passed.result.state (X (goal.at.returns-then-stopping-clause-buffer_after c).After-pass-passed) (Piece (goal.at.returns-then-stopping-clause-buffer_after c).At-loop-i) (At (goal.at.returns-then-stopping-clause-buffer_after c).After-pass-passed) c.step_by-step.result c.if-step.buffer (next (goal.at.returns-then-stopping-clause-buffer_after c).Else-i-piece) c.step_by-step.ensures (after (goal.at.returns-then-stopping-clause-buffer_after c).Joined-step)
-    (sym c.stopping.ensures ∙ c.if-stopping.true) in ap (λ (f : Feeding). f.left) (sym e)
+pub returns-then-is_some-clause-buffer_after : goal.returns-then-is_some-clause-buffer_after
+returns-then-is_some-clause-buffer_after c = ap (λ (f : Whole). f.left) (sym (stopped (goal.at.returns-then-is_some-clause-buffer_after c).Joined-step (sym c.is_some.ensures ∙ c.if-is_some.true)))
 
-pub loop-i-smaller : goal.loop-i-smaller
-loop-i-smaller c =
-    let w = next (goal.at.loop-i-smaller c).Else-i-piece in
-    let h : length (Piece (goal.at.loop-i-smaller c).At-loop-i) - (At (goal.at.loop-i-smaller c).After-pass-passed + 1) < length (Piece (goal.at.loop-i-smaller c).At-loop-i) - c.loop-i.i = omega arith in
-    h
-
-pub loop-i-preserved : goal.loop-i-preserved
-loop-i-preserved c =
-    let w = next (goal.at.loop-i-preserved c).Else-i-piece in
-    let h : At (goal.at.loop-i-preserved c).After-pass-passed + 1 ≤ length (Piece (goal.at.loop-i-preserved c).At-loop-i) = omega arith in (
-      h,
-      after-size (goal.at.loop-i-preserved c).Joined-step,
-      known_after _ _ c.pass-passed.result.state (get_or (Piece (goal.at.loop-i-preserved c).At-loop-i) (At (goal.at.loop-i-preserved c).After-pass-passed) 0) c.step_by-step.result (behind (goal.at.loop-i-preserved c).After-pass-passed).known-still c.limit_of-limit.ensures c.step_by-step.ensures,
-      sym (whole (goal.at.loop-i-preserved c).After-limit_of-limit) ∙ (behind (goal.at.loop-i-preserved c).After-pass-passed).on
-          ∙ feed_on _ c.pass-passed.result.state (X (goal.at.loop-i-preserved c).After-pass-passed) (Piece (goal.at.loop-i-preserved c).At-loop-i) (At (goal.at.loop-i-preserved c).After-pass-passed) c.step_by-step.result c.if-step.buffer w c.step_by-step.ensures (after (goal.at.loop-i-preserved c).Joined-step)
-          (sym c.stopping.ensures ∙ c.if-stopping.false),
+-- where it goes on
+pub loop-b-preserved : goal.loop-b-preserved
+loop-b-preserved c =
+    let k = (goal.at.loop-b-preserved c).After-pass-run in
+    let s = stepped_on (goal.at.loop-b-preserved c).Joined-step in
+    let w = s.within in
+    let v = c.loop-b.invariant.0 in
+    let o = feed_on c.limit_of-limit.result c.pass-run.new.self (X k) (At k) c.in-Some.b.now c.in-Some.behind.now c.step-step.result c.if-step.buffer c.step-step.ensures s.stores (sym c.is_some.ensures ∙ c.if-is_some.false) in (
+      omega arith,
+      s.size,
+      known_after _ _ c.pass-run.new.self c.in-Some.b.now c.step-step.result (behind k).known-still c.limit_of-limit.ensures c.step-step.ensures,
+      s.on ∙ o ∙ ap (λ (n : ℕ). feeding c.limit_of-limit.result c.step-step.result.after c.if-step.buffer n c.in-Some.behind.now) s.place,
     )
-
-pub returns-clause-value : goal.returns-clause-value
-returns-clause-value c =
-    let a = c.args in
-    let e = whole (goal.at.returns-clause-value c).After-limit_of-limit ∙ c.loop-i.invariant.3 ∙ feed_end _ c.loop-i.self c.loop-i.buffer a.piece.now c.loop-i.i (omega arith) in c.told-2.ensures ∙ ap (λ (f : Feeding). f.said) (sym e)
-
-pub returns-clause-buffer_after : goal.returns-clause-buffer_after
-returns-clause-buffer_after c =
-    let a = c.args in
-    let e = whole (goal.at.returns-clause-buffer_after c).After-limit_of-limit ∙ c.loop-i.invariant.3 ∙ feed_end _ c.loop-i.self c.loop-i.buffer a.piece.now c.loop-i.i (omega arith) in ap (λ (f : Feeding). f.left) (sym e)
