@@ -6,8 +6,8 @@ use Prim.Native.Nat.{ℕ, ◌+◌, ◌*◌, ◌≤◌}
 use native.Mathlib.Omega.{arith}
 use lib.Dec.{eqb}
 use lib.ListN.{length, get_or, length-append}
+use Rattle.alphabet.specs.Answers.{passes}
 use Rattle.alphabet.specs.Parts.{split, join}
-use Rattle.alphabet.specs.declared.answers.Check.TheVariants.{Passes}
 use Rattle.alphabet.proofs.PartLaws.{join_split, split_some}
 use Rattle.reading.specs.Segments.{segments, delimiters_of}
 use Rattle.reading.specs.Reading.{reading}
@@ -78,7 +78,7 @@ module _ (ds : List ℕ) where
       omega arith
 
 -- eight numbers for each byte are enough
-pub rows_most : (m : List ℕ) → reading m ≡ Passes → length (rows (leaves_of m)) ≤ 8 * length m
+pub rows_most : (m : List ℕ) → reading m ≡ passes → length (rows (leaves_of m)) ≤ 8 * length m
 unfolding leaves_of
 rows_most m ok =
     let a = segments_most (delimiters_of m) 0 0 (segments m) in

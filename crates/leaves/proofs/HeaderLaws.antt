@@ -8,12 +8,12 @@ use lib.Dec.{eqb, ltb}
 use lib.ListN.{length, get_or, drop, length-drop, length-append, drop_of_length-le}
 use lib.Seq.{get_or-drop}
 use borrow.Author.Tests.{eq-eqb, ne_eqb, eqb-true, eqb-false, ltb-true, ltb-false}
+use Rattle.alphabet.specs.Answers.{passes}
 use Rattle.alphabet.specs.Bytes.{carriage_return}
 use Rattle.alphabet.specs.Lists.{first, find, among}
 use Rattle.alphabet.specs.Filling.{pasted}
 use Rattle.alphabet.specs.Delimiters.{permitted}
 use Rattle.alphabet.specs.Parts.{split}
-use Rattle.alphabet.specs.declared.answers.Check.TheVariants.{Passes}
 use Rattle.alphabet.proofs.BoolLaws.{false_true, and_both}
 use Rattle.alphabet.proofs.DelimiterLaws.{delimiter_permitted}
 use Rattle.alphabet.proofs.ListLaws.{drop_next, first_least}
@@ -41,7 +41,7 @@ own_end : (m : List ℕ) → among (ends_of m) carriage_return ≡ true
 unfolding first
 own_end m = refl
 
-pub rest_over : (m : List ℕ) → reading m ≡ Passes → (a : Address) (start : ℕ) → Reached m a start (length m) → rest_rows m a start ≡ []
+pub rest_over : (m : List ℕ) → reading m ≡ passes → (a : Address) (start : ℕ) → Reached m a start (length m) → rest_rows m a start ≡ []
 rest_over m ok a start r = ap (λ (l : List ℕ). rows (rest_from (delimiters_of m) a start l)) (drop_of_length-le m past) ∙ nothing_left (delimiters_of m) a start
   where
     past : length m ≤ start
@@ -61,7 +61,7 @@ rest_over m ok a start r = ap (λ (l : List ℕ). rows (rest_from (delimiters_of
 
 -- ---- where it begins
 
-module _ (m : List ℕ) (ok : reading m ≡ Passes) where
+module _ (m : List ℕ) (ok : reading m ≡ passes) where
   abbrev ds : List ℕ
   ds = delimiters_of m
 

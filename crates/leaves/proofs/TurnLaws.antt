@@ -10,11 +10,11 @@ use lib.Seq.{length-take-le, get_or-drop, get_or-take, drop-drop}
 use lib.Bits.{bit_and}
 use lib.Count.{count_trailing_zeros}
 use borrow.Author.Tests.{ne_eqb, eqb-true, eqb-false, lt-ltb, ltb-true}
+use Rattle.alphabet.specs.Answers.{passes}
 use Rattle.alphabet.specs.Bytes.{carriage_return}
 use Rattle.alphabet.specs.Lists.{first, find, among}
 use Rattle.alphabet.specs.Limits.{message_limit}
 use Rattle.alphabet.specs.Delimiters.{permitted}
-use Rattle.alphabet.specs.declared.answers.Check.TheVariants.{Passes}
 use Rattle.alphabet.proofs.BoolLaws.{false_true}
 use Rattle.alphabet.proofs.DelimiterLaws.{delimiters_differ, delimiter_permitted}
 use Rattle.alphabet.proofs.ListLaws.{drop_next, first_before, first_none, first_block, first_passes, find_own}
@@ -65,7 +65,7 @@ plain_clear m start end h k w =
 
 -- ---- what reading says
 
-module _ (m : List ℕ) (ok : reading m ≡ Passes) where
+module _ (m : List ℕ) (ok : reading m ≡ passes) where
   pub differ : (i j : ℕ) → i < 5 → j < 5 → (i ≡ j → ⊥) → eqb (get_or (delimiters_of m) i 0) (get_or (delimiters_of m) j 0) ≡ false
   differ i j h k n = ne_eqb _ _ (λ e. n (delimiters_differ (delimiters_of m) refl (accepted m ok).opened.delimiters_right i j h k e))
 
@@ -140,7 +140,7 @@ split_passed ends b a h = passed_cases (λ (x : Address). 3 ≤ x.segment * 3 + 
 
 -- ---- a turn
 
-module _ (m : List ℕ) (ok : reading m ≡ Passes) (a : Address) (start end : ℕ) (begun : start ≤ end) (inside : end < length m) (plain : Plain m start end) (stop : among (ends_of m) (get_or m end 0) ≡ true) (few : AtMost start a) (on : 3 ≤ a.segment * 3 + a.field) where
+module _ (m : List ℕ) (ok : reading m ≡ passes) (a : Address) (start end : ℕ) (begun : start ≤ end) (inside : end < length m) (plain : Plain m start end) (stop : among (ends_of m) (get_or m end 0) ≡ true) (few : AtMost start a) (on : 3 ≤ a.segment * 3 + a.field) where
   cut : drop start m ≡ between m start end ++ get_or m end 0 ∷ drop (end + 1) m
   cut =
       let e : start + (end - start) ≡ end = omega arith in

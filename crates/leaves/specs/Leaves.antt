@@ -1,14 +1,11 @@
 -- Every leaf of a message: each subcomponent of each component of each repetition of each field of each segment, with
 -- its address, its state and where it stands; and these as rows of numbers. "Each level splits the part above it at its
 -- own separator", here all of them.
-use Rattle.std.specs.Prelude.{ℕ, ◌+◌, ◌/◌, List, [], ◌∷◌, ◌++◌, cond, length, get_or, eqb, ltb}
-use Rattle.alphabet.specs.Answers.{fails_if, in_order}
+use Rattle.std.specs.Prelude.{ℕ, ◌+◌, ◌/◌, List, [], ◌∷◌, ◌++◌, cond, length, get_or, eqb, ltb, Ok, Err}
+use Rattle.alphabet.specs.Answers.{Check, fails_if, in_order}
 use Rattle.alphabet.specs.Filling.{over}
 use Rattle.alphabet.specs.Parts.{split}
-use Rattle.alphabet.specs.declared.answers.Answer.{Answer}
-use Rattle.alphabet.specs.declared.answers.Check.{Check}
-use Rattle.alphabet.specs.declared.answers.Check.TheVariants.{Passes, Fails}
-use Rattle.alphabet.specs.declared.answers.Refusal.TheVariants.{None, NoRoom}
+use Rattle.alphabet.specs.declared.answers.Refusal.TheVariants.{NoRoom}
 use Rattle.reading.specs.Segments.{segments, delimiters_of}
 use Rattle.reading.specs.Reading.{reading}
 use Rattle.element.specs.States.{state_of}
@@ -87,12 +84,7 @@ rows (l ∷ ls) = row l ++ rows ls
 unfoldable pub listing : List ℕ → ℕ → Check
 listing m room = in_order (reading m ∷ fails_if (ltb (room / 8) (length m)) NoRoom 0 ∷ [])
 
--- the refusal, or how many leaves there are
-abbrev pub counted : Check → List Leaf → Answer
-counted Passes ls = record { kind = None; place = 0; length = length ls }
-counted (Fails kind place) ls = record { kind = kind; place = place; length = 0 }
-
 -- the buffer afterwards: the rows fill its front; a refusal writes nothing
 abbrev pub filled : Check → List Leaf → List ℕ → List ℕ
-filled Passes ls d = over (rows ls) d
-filled (Fails kind place) ls d = d
+filled (Ok _) ls d = over (rows ls) d
+filled (Err fault) ls d = d

@@ -7,34 +7,22 @@ mod marks;
 mod walking;
 
 ghost use Rattle.std.specs.Prelude.{◌≡◌, length};
-ghost use Rattle.leaves.specs.Leaves.{leaves_of, listing, counted, filled};
+ghost use Rattle.alphabet.specs.Answers.{given};
+ghost use Rattle.leaves.specs.Leaves.{leaves_of, listing, filled};
 
-use alphabet::{Answer, Check, Refusal};
+use alphabet::{Fault, Refusal};
 
 // Lists every leaf of a message: a row of eight numbers for each, in the message's order, at the front of the buffer.
-// The answer's length is the number of leaves. A buffer of eight numbers for each byte of the message is asked for, and
-// always has room; one that is shorter is 14, and a refusal writes nothing.
-pub fn list(message: &[u8], buffer: &mut [u64]) -> Answer
-    ensures value { result ≡ counted (listing message.now (length buffer.old))
-        (leaves_of message.now) }
+// The answer is the number of leaves. A buffer of eight numbers for each byte of the message is asked for, and always has
+// room; one that is shorter is 14, and a refusal writes nothing.
+pub fn list(message: &[u8], buffer: &mut [u64]) -> Result<usize, Fault>
+    ensures value { result ≡ given (listing message.now (length buffer.old))
+        (length (leaves_of message.now)) }
     ensures buffer_after { buffer.new ≡ filled (listing message.now (length buffer.old))
         (leaves_of message.now) buffer.old }
 {
-    let read = reading::check_message(message);
-    let Check::Passes = read else {
-        return alphabet::answer_of(read);
-    };
-    if buffer.len() / 8 < message.len() {
-        return Answer {
-            kind: Refusal::NoRoom,
-            place: 0,
-            length: 0,
-        };
-    }
+    reading::read(message)?;
+    alphabet::fails_if(buffer.len() / 8 < message.len(), Refusal::NoRoom, 0)?;
     let numbers = walking::list_all(message, buffer);
-    Answer {
-        kind: Refusal::None,
-        place: 0,
-        length: numbers / 8,
-    }
+    Ok(numbers / 8)
 }

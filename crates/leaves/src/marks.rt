@@ -13,15 +13,13 @@ fn weights_of(block: &[u8], ends: [u8; 5]) -> [u8; 48]
     ensures { Weighs (among ends) block.now 48 result × (length result ≡ 48) }
 {
     let mut weights: [u8; 48] = [0; 48];
-    let mut i = 0;
-    while i < MARKED {
+    for i in 0..MARKED {
         let weight = 1u8 << (i % 8);
         weights[i] = if search::is_among(ends, block[i]) {
             weight
         } else {
             0
         };
-        i += 1;
     }
     weights
 }

@@ -2,7 +2,7 @@
 // one leaf and says what the next one's address is.
 ghost use Rattle.std.specs.Prelude.{◌≡◌, List, [], ◌∷◌, ◌++◌, ◌+◌, ◌*◌, ◌≤◌, ◌<◌, length, take};
 ghost use Rattle.alphabet.specs.Filling.{over, pasted};
-ghost use Rattle.alphabet.specs.declared.answers.Check.TheVariants.{Passes};
+ghost use Rattle.alphabet.specs.Answers.{passes};
 ghost use Rattle.reading.specs.Segments.{delimiters_of};
 ghost use Rattle.reading.specs.Reading.{reading};
 ghost use Rattle.leaves.specs.Leaves.{addressed, rows, leaves_of};
@@ -72,11 +72,11 @@ fn address_of(
     ensures { result ≡ addressed segment field repetition component subcomponent }
 {
     Address {
-        segment: segment,
-        field: field,
-        repetition: repetition,
-        component: component,
-        subcomponent: subcomponent,
+        segment,
+        field,
+        repetition,
+        component,
+        subcomponent,
     }
 }
 
@@ -84,11 +84,7 @@ fn address_of(
 fn walk_from(address: Address, start: usize, at: usize) -> Walk
     ensures { (result.address ≡ address) × (result.start ≡ start) × (result.at ≡ at) }
 {
-    Walk {
-        address: address,
-        start: start,
-        at: at,
-    }
+    Walk { address, start, at }
 }
 
 // The walk behind a byte at `end` that ends the leaf at an address.
@@ -137,7 +133,7 @@ fn pass_name(ends: [u8; 5], b: u8, walk: Walk, end: usize) -> Walk
 fn turn(message: &[u8], buffer: &mut [u64], ends: [u8; 5], walk: Walk, end: usize) -> Walk
     requires { Ends message.now end
         × Stands message.now buffer.old walk.address walk.start walk.at end
-        × (ends ≡ ends_of message.now) × (reading message.now ≡ Passes) }
+        × (ends ≡ ends_of message.now) × (reading message.now ≡ passes) }
     ensures stands { Stands message.now buffer.new result.address result.start result.at (end + 1) }
     ensures writes { Writes message.now buffer.old walk.address walk.start walk.at
         buffer.new result.address result.start result.at }
@@ -162,7 +158,7 @@ fn list_block(
 ) -> Walk
     requires { Marks message.now place marks
         × Stands message.now buffer.old walk.address walk.start walk.at place
-        × (ends ≡ ends_of message.now) × (reading message.now ≡ Passes) }
+        × (ends ≡ ends_of message.now) × (reading message.now ≡ passes) }
     ensures stands { Stands message.now buffer.new result.address result.start result.at
         (place + 48) }
     ensures writes { Writes message.now buffer.old walk.address walk.start walk.at
@@ -182,7 +178,7 @@ fn list_block(
 fn step(message: &[u8], buffer: &mut [u64], ends: [u8; 5], walk: Walk, place: usize) -> Walk
     requires { (place < length message.now)
         × Stands message.now buffer.old walk.address walk.start walk.at place
-        × (ends ≡ ends_of message.now) × (reading message.now ≡ Passes) }
+        × (ends ≡ ends_of message.now) × (reading message.now ≡ passes) }
     ensures stands { Stands message.now buffer.new result.address result.start result.at (place + 1) }
     ensures writes { Writes message.now buffer.old walk.address walk.start walk.at
         buffer.new result.address result.start result.at }
@@ -198,15 +194,13 @@ fn step(message: &[u8], buffer: &mut [u64], ends: [u8; 5], walk: Walk, place: us
 fn list_few(message: &[u8], buffer: &mut [u64], ends: [u8; 5], walk: Walk, from: usize) -> usize
     requires { (from ≤ length message.now)
         × Stands message.now buffer.old walk.address walk.start walk.at from
-        × (ends ≡ ends_of message.now) × (reading message.now ≡ Passes) }
+        × (ends ≡ ends_of message.now) × (reading message.now ≡ passes) }
     ensures { WritesAll message.now buffer.old walk.address walk.start walk.at
         buffer.new result }
 {
-    let mut i = from;
     let mut here = walk;
-    while i < message.len() {
+    for i in from..message.len() {
         here = step(message, buffer, ends, here, i);
-        i += 1;
     }
     here.at
 }
@@ -232,7 +226,7 @@ fn ends_of(message: &[u8]) -> [u8; 5]
 fn list_rest(message: &[u8], buffer: &mut [u64], walk: Walk, from: usize) -> usize
     requires { (from ≤ length message.now)
         × Stands message.now buffer.old walk.address walk.start walk.at from
-        × (reading message.now ≡ Passes) }
+        × (reading message.now ≡ passes) }
     ensures { WritesAll message.now buffer.old walk.address walk.start walk.at
         buffer.new result }
 {
@@ -250,7 +244,7 @@ fn list_rest(message: &[u8], buffer: &mut [u64], walk: Walk, from: usize) -> usi
 // The rows of all leaves of a message, at the front of the buffer, and how many numbers they have. The two fields of MSH
 // that are not split come first; behind byte 8 the walk begins.
 pub fn list_all(message: &[u8], buffer: &mut [u64]) -> usize
-    requires { (length (rows (leaves_of message.now)) ≤ length buffer.old) × (reading message.now ≡ Passes) }
+    requires { (length (rows (leaves_of message.now)) ≤ length buffer.old) × (reading message.now ≡ passes) }
     ensures value { result ≡ length (rows (leaves_of message.now)) }
     ensures buffer_after { buffer.new ≡ over (rows (leaves_of message.now)) buffer.old }
 {
