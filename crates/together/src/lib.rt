@@ -7,24 +7,19 @@ ghost use Rattle.alphabet.specs.Filling.{over};
 ghost use Rattle.escaping.specs.Outcomes.{room_for};
 ghost use Rattle.together.specs.Together.{together, least, fitted};
 
-use escaping::Room;
-
 // The length of all pieces, where that is at most `room`. It is counted against the room, since a sum of lengths need
 // not be a usize.
-fn measure(pieces: &[&[u8]], room: usize) -> Room
+fn measure(pieces: &[&[u8]], room: usize) -> Option<usize>
     ensures { result ≡ room_for room (length (together (map (λ x. x.now) pieces.now))) }
 {
     let mut n = 0;
-    let mut i = 0;
-    while i < pieces.len() {
-        let piece = pieces[i];
+    for piece in pieces {
         if room - n < piece.len() {
-            return Room::Short;
+            return None;
         }
         n += piece.len();
-        i += 1;
     }
-    Room::Takes(n)
+    Some(n)
 }
 
 // Writes all pieces to the front of the buffer.
@@ -33,39 +28,21 @@ fn copy(pieces: &[&[u8]], buffer: &mut [u8])
     ensures { buffer.new ≡ over (together (map (λ x. x.now) pieces.now)) buffer.old }
 {
     let mut place = 0;
-    let mut i = 0;
-    while i < pieces.len() {
-        let piece = pieces[i];
+    for piece in pieces {
         place = alphabet::put(buffer, place, piece);
-        i += 1;
     }
-}
-
-// The smaller of two lengths.
-fn smaller(a: usize, b: usize) -> usize
-    ensures { result ≡ least a b }
-{
-    if a < b {
-        return a;
-    }
-    b
 }
 
 // Writes all pieces to the front of the buffer, where they fit into it and are at most `most` bytes; tells how many
 // these are, or that there is no room, and then the buffer stays as it was.
-pub fn put(pieces: &[&[u8]], most: usize, buffer: &mut [u8]) -> Room
+pub fn put(pieces: &[&[u8]], most: usize, buffer: &mut [u8]) -> Option<usize>
     ensures value { result ≡ room_for (least (length buffer.old) most)
         (length (together (map (λ x. x.now) pieces.now))) }
     ensures buffer_after { buffer.new ≡ fitted (least (length buffer.old) most)
         (together (map (λ x. x.now) pieces.now)) buffer.old }
 {
-    let room = smaller(buffer.len(), most);
-    let size = measure(pieces, room);
-    match size {
-        Room::Short => Room::Short,
-        Room::Takes(n) => {
-            copy(pieces, buffer);
-            Room::Takes(n)
-        }
-    }
+    let room = buffer.len().min(most);
+    let size = measure(pieces, room)?;
+    copy(pieces, buffer);
+    Some(size)
 }

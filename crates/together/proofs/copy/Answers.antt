@@ -6,20 +6,20 @@ use Rattle.alphabet.proofs.FillingLaws.{fill_start, fill_more, fill_room, fill_l
 use Rattle.together.proofs.PieceLaws.{none, pieces_next, pieces_end, count_next}
 use Rattle.together.proofs.copy.Goals as goal
 
-pub loop-i-init : goal.loop-i-init
-loop-i-init c = (omega arith, fill_start _ _)
+pub loop-piece-init : goal.loop-piece-init
+loop-piece-init c = fill_start _ _
 
-pub loop-i-preserved : goal.loop-i-preserved
-loop-i-preserved c =
+pub loop-piece-preserved : goal.loop-piece-preserved
+loop-piece-preserved c =
     let a = c.args in
     let ps = a.pieces.now in
-    let i = c.loop-i.i in
-    let f = c.loop-i.invariant.1 in
+    let i = c.loop-piece.piece-index in
+    let f = c.loop-piece.invariant in
     let p = c.put-place in
     let n = count_next ps i (omega arith) in
-    let w = put_fits c.loop-i.buffer (get_or ps i none).now c.loop-i.place (omega (arith, fill_room f, fill_length f c.requires)) in
-    (omega arith, fill_more _ _ _ _ f (pieces_next ps i (omega arith)) (p.ensures.buffer_after ∙ w.1) (p.ensures.value ∙ w.0))
+    let w = put_fits c.loop-piece.buffer (get_or ps i none).now c.loop-piece.place (omega (arith, fill_room f, fill_length f c.requires)) in
+    fill_more _ _ _ _ f (pieces_next ps i (omega arith)) (p.ensures.buffer_after ∙ w.1) (p.ensures.value ∙ w.0)
 
 pub returns : goal.returns
 returns c =
-    fill_end c.loop-i.invariant.1 (pieces_end c.args.pieces.now c.loop-i.i (omega arith))
+    fill_end c.loop-piece.invariant (pieces_end c.args.pieces.now c.loop-piece.piece-index (omega arith))

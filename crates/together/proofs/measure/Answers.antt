@@ -8,23 +8,23 @@ use Rattle.escaping.proofs.OutcomeLaws.{room_takes, room_short}
 use Rattle.together.proofs.PieceLaws.{count_next, pieces_end}
 use Rattle.together.proofs.measure.Goals as goal
 
-pub loop-i-init : goal.loop-i-init
-loop-i-init c = (omega arith, omega arith, sym (zero-add _))
+pub loop-piece-init : goal.loop-piece-init
+loop-piece-init c = (omega arith, sym (zero-add _))
 
 pub returns-then-room-n : goal.returns-then-room-n
 returns-then-room-n c =
     let a = c.args in
-    let n = count_next a.pieces.now c.loop-i.i (omega arith) in
+    let n = count_next a.pieces.now c.loop-piece.piece-index (omega arith) in
     room_short a.room _ (omega arith)
 
-pub loop-i-preserved : goal.loop-i-preserved
-loop-i-preserved c =
+pub loop-piece-preserved : goal.loop-piece-preserved
+loop-piece-preserved c =
     let a = c.args in
-    let n = count_next a.pieces.now c.loop-i.i (omega arith) in
+    let n = count_next a.pieces.now c.loop-piece.piece-index (omega arith) in
     omega arith
 
 pub returns : goal.returns
 returns c =
     let a = c.args in
-    let n = ap length (pieces_end a.pieces.now c.loop-i.i (omega arith)) in
-    room_takes a.room c.loop-i.n (omega arith) ∙ ap (room_for a.room) (omega arith)
+    let n = ap length (pieces_end a.pieces.now c.loop-piece.piece-index (omega arith)) in
+    room_takes a.room c.loop-piece.n (omega arith) ∙ ap (room_for a.room) (omega arith)
