@@ -1,19 +1,19 @@
 -- The question `read MSG`: what it asks, and what is answered. Assumes nothing.
-use Rattle.std.specs.Prelude.{ℕ, ◌≡◌, List, [], ◌∷◌, ◌++◌}
+use Rattle.std.specs.Prelude.{ℕ, ◌≡◌, List, [], ◌∷◌, ◌++◌, Option, Some, None}
 use Rattle.io.specs.Digits.{last_digits, IsDigitCount}
 use Rattle.answering.specs.Answers.{no_question}
-use Rattle.asking.specs.Hex.{Said, bytes, nothing, said}
+use Rattle.asking.specs.Hex.{said}
 
 -- the verb `read`
 abbrev pub read_verb : List ℕ
 read_verb = 114 ∷ 101 ∷ 97 ∷ 100 ∷ []
 
 -- the message of `read MSG`, where there are just these two words
-unfoldable pub read_asked : List (List ℕ) → Said
-read_asked [] = nothing
-read_asked (verb ∷ []) = nothing
+unfoldable pub read_asked : List (List ℕ) → Option (List ℕ)
+read_asked [] = None
+read_asked (verb ∷ []) = None
 read_asked (verb ∷ message ∷ []) = said message
-read_asked (verb ∷ message ∷ more ∷ rest) = nothing
+read_asked (verb ∷ message ∷ more ∷ rest) = None
 
 -- `NUMBER PLACE`: two numbers in decimal, each of the fewest digits that hold it, and how many digits those are
 pub record TwoNumbers (answer : List ℕ) : Type 0 where
@@ -25,6 +25,6 @@ pub record TwoNumbers (answer : List ℕ) : Type 0 where
   pub line : answer ≡ (last_digits 10 first number ++ (32 ∷ [])) ++ (last_digits 10 second place ++ (10 ∷ []))
 
 -- the answer to `read MSG`: two numbers, and which they are is for the library to say; or that it is no question
-pub data ReadAnswer : Said → List ℕ → Type 0 where
-  numbers : {message answer : List ℕ} → TwoNumbers answer → ReadAnswer (bytes message) answer
-  unknown : ReadAnswer nothing no_question
+pub data ReadAnswer : Option (List ℕ) → List ℕ → Type 0 where
+  numbers : {message answer : List ℕ} → TwoNumbers answer → ReadAnswer (Some message) answer
+  unknown : ReadAnswer None no_question

@@ -6,5 +6,5 @@
 mod judges;
 mod readings;
 
-pub use judges::{Judge, Meaning, answer, meaning_of};
+pub use judges::Judge;
 pub use readings::answer_read;

@@ -1,40 +1,23 @@
 // The question `read MSG`: the number of the refusal and its place.
-ghost use Rattle.std.specs.Prelude.{◌≡◌, length, take};
-ghost use Rattle.io.specs.Counts.{IsPrefixLen};
-ghost use Rattle.answering.specs.Answers.{Roomy};
+ghost use Rattle.std.specs.Prelude.{◌≡◌, length, is_some, OnSome};
 ghost use Rattle.asking.specs.Words.{words as Words·words};
 ghost use Rattle.asking.specs.Hex.{fitting};
-ghost use Rattle.judge_questions.specs.Readings.{read_asked, TwoNumbers, ReadAnswer};
+ghost use Rattle.judge_questions.specs.Readings.{read_asked, TwoNumbers};
 
-use answering::answers;
-use asking::hex::Decoded;
+use answering::Answer;
 use asking::{hex, messages, words};
 
-// Puts what reading a message comes to into the answer: the number of the refusal, and its place.
-fn put_reading(message: &[u8], answer: &mut [u8]) -> usize
-    requires { Roomy answer.old }
-    ensures prefix_len { IsPrefixLen result answer.new }
-    ensures two_numbers { TwoNumbers (take result answer.new) }
-{
-    let found = reading::read(messages::held(message));
-    let kind = found.kind;
-    let next = answers::put_number(answer, 0, alphabet::number(kind) as u64, b' ');
-    answers::put_number(answer, next, found.place as u64, b'\n')
-}
-
-// Answers `read MSG`.
-pub fn answer_read(line: &[u8], message: &mut [u8], answer: &mut [u8]) -> usize
-    requires { Roomy answer.old }
-    ensures prefix_len { IsPrefixLen result answer.new }
-    ensures read_answer { ReadAnswer (fitting (length message.old) (read_asked (Words·words line.now)))
-        (take result answer.new) }
+// Puts the answer to `read MSG`, unless the line is no question. `said` is lent for the bytes of the message.
+pub fn answer_read(line: &[u8], said: &mut [u8], answer: &mut Answer) -> Option<()>
+    requires { length answer.old ≡ 0 }
+    ensures asked { is_some result ≡ is_some (fitting (length said.old) (read_asked (Words·words line.now))) }
+    ensures numbers { OnSome result (TwoNumbers answer.new) }
 {
     if words::count(line) != 2 {
-        return answers::no_question(answer);
+        return None;
     }
-    let decoded = hex::decode(words::word(line, 1), message);
-    let Decoded::Length(length) = decoded else {
-        return answers::no_question(answer);
-    };
-    put_reading(&message[..length], answer)
+    let (message, _) = hex::decode(words::word(line, 1), said)?;
+    let read = reading::read(messages::held(message));
+    answer.put_fault(read.err(), b'\n');
+    Some(())
 }
