@@ -9,13 +9,13 @@ use borrow.Author.Tests.{not-true, leb-true, leb-false, le-leb, lt-leb, eqb-true
 use lib.Dec.{leb, eqb}
 use lib.ListN.{length, get_or, take, drop, length-drop}
 use lib.Seq.{get_or-drop, drop-drop}
+use Rattle.std.specs.Prelude.{Ok, Err}
+use Rattle.alphabet.specs.Answers.{Check, passes}
 use Rattle.alphabet.specs.Bytes.{ascii, digit}
 use Rattle.alphabet.specs.Delimiters.{permitted}
 use Rattle.alphabet.specs.Digits.{all_digits}
 use Rattle.alphabet.specs.Lists.{first, find, same}
 use Rattle.alphabet.specs.Parts.{split}
-use Rattle.alphabet.specs.declared.answers.Check.{Check}
-use Rattle.alphabet.specs.declared.answers.Check.TheVariants.{Passes, Fails}
 use Rattle.alphabet.specs.declared.answers.Refusal.TheVariants.{BreaksForm}
 use Rattle.alphabet.proofs.BoolLaws.{false_true, and_both, both_and, neither_or, from_to_lem}
 use Rattle.alphabet.proofs.ListLaws.{find_is, same_is}
@@ -159,7 +159,7 @@ unfolding nm_form unsigned first
 nm_some [] e = absurd (false_true e)
 nm_some (b ∷ r) e = omega arith
 
-pub nm_plain : (l : List ℕ) → nm_check l ≡ Passes → Plain l
+pub nm_plain : (l : List ℕ) → nm_check l ≡ passes → Plain l
 nm_plain l e = (
   nm_some l (nm_form_lem l e),
   unsigned_plain l
@@ -232,9 +232,9 @@ listed_plain values l e = member_plain l (values_of values) (values_plain values
 -- ---- the types that another field can say
 
 module _ (l : List ℕ) where
-  check_plain : (c : Check) → passing c ≡ true → c ≡ Passes
-  check_plain Passes e = refl
-  check_plain (Fails kind place) e = absurd (false_true e)
+  check_plain : (c : Check) → passing c ≡ true → c ≡ passes
+  check_plain (Ok _) e = refl
+  check_plain (Err fault) e = absurd (false_true e)
 
   kinds_plain : (a b c d : Bool) → is_any (cond a Nm (cond b Dt (cond c Tm (cond d Ts Any)))) ≡ false → passing (form_check (cond a Nm (cond b Dt (cond c Tm (cond d Ts Any)))) l) ≡ true → Plain l
   unfolding form_check

@@ -7,12 +7,11 @@ use native.Mathlib.Omega.{arith}
 use borrow.Author.Tests.{not-true, not-false, ltb-true, ltb-false, le-leb, lt-leb}
 use lib.Dec.{leb, ltb}
 use lib.ListN.{get_or, take}
+use Rattle.std.specs.Prelude.{Ok, Err}
 use Rattle.alphabet.specs.Bytes.{ascii}
 use Rattle.alphabet.specs.Lists.{find, same}
-use Rattle.alphabet.specs.Answers.{fails_if}
+use Rattle.alphabet.specs.Answers.{fails_if, Check, passes}
 use Rattle.alphabet.specs.Parts.{split}
-use Rattle.alphabet.specs.declared.answers.Check.{Check}
-use Rattle.alphabet.specs.declared.answers.Check.TheVariants.{Passes, Fails}
 use Rattle.alphabet.specs.declared.answers.Refusal.{Refusal}
 use Rattle.alphabet.specs.declared.answers.Refusal.TheVariants.{ValueWithoutType}
 use Rattle.element.specs.States.{state_of, is_present}
@@ -59,14 +58,14 @@ passing_most most n kind place = at (ltb most n) refl
     at false e = sym (le-leb n most (ltb-false most n e))
 
 -- and where it passes there is no fault to be placed
-pub passing_placed : (number : ℕ) (c : Check) → passing c ≡ true → placed number c ≡ Passes
-passing_placed number Passes e = refl
-passing_placed number (Fails kind place) e = absurd (false_true e)
+pub passing_placed : (number : ℕ) (c : Check) → passing c ≡ true → placed number c ≡ passes
+passing_placed number (Ok _) e = refl
+passing_placed number (Err fault) e = absurd (false_true e)
 
 -- ---- one repetition
 
 module _ (ds : List ℕ) (component : ℕ) (kind : Kind) (number : ℕ) (r part : List ℕ) (judged : part ≡ judged_part ds component r) where
-  pub repetition_other : is_present (state_of ds part) ≡ false → repetition_check ds component kind number r ≡ Passes
+  pub repetition_other : is_present (state_of ds part) ≡ false → repetition_check ds component kind number r ≡ passes
   unfolding repetition_check
   repetition_other e = rw (sym judged, e)
 
@@ -90,7 +89,7 @@ unfolding some_present
 present_none ds = refl
 
 module _ (ds : List ℕ) (kind : Kind) (said : List ℕ) (rs : List (List ℕ)) (s p : Bool) (is_said : s ≡ is_said kind) (present : p ≡ is_present (state_of ds said)) where
-  pub said_typed : not (s && not p) ≡ true → said_check ds kind said rs ≡ Passes
+  pub said_typed : not (s && not p) ≡ true → said_check ds kind said rs ≡ passes
   said_typed e = rw (sym is_said, sym present, not-true (s && not p) e)
 
   pub said_untyped : not (s && not p) ≡ false → said_check ds kind said rs ≡ fails_if (some_present ds rs) ValueWithoutType 1

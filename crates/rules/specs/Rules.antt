@@ -1,14 +1,13 @@
 -- What a row asks of the repetitions of its field, by document 01, 'Fields judged': "House cut, judged on raw bytes.
 -- 'Whole' is one repetition." `ds` are the five delimiters. Checks give the number and, as their place, the repetition:
 -- "31, 34, 35, 36: repetition 1".
-use Rattle.std.specs.Prelude.{ℕ, zero, suc, ◌+◌, List, [], ◌∷◌, Bool, true, false, cond, not, ◌&&◌, ◌||◌, length, get_or, eqb, ltb}
+use Rattle.std.specs.Prelude.{ℕ, zero, suc, ◌+◌, List, [], ◌∷◌, Bool, true, false, cond, not, ◌&&◌, ◌||◌, length, get_or, eqb, ltb, Ok, Err}
+use Rattle.std.specs.Result.{is_ok}
 use Rattle.alphabet.specs.Bytes.{ascii}
-use Rattle.alphabet.specs.Answers.{fails_if, in_order, or_else}
+use Rattle.alphabet.specs.Answers.{fails_if, in_order, or_else, Check, passes, fails}
 use Rattle.alphabet.specs.Limits.{id_limit}
 use Rattle.alphabet.specs.Lists.{same}
 use Rattle.alphabet.specs.Parts.{split}
-use Rattle.alphabet.specs.declared.answers.Check.{Check}
-use Rattle.alphabet.specs.declared.answers.Check.TheVariants.{Passes, Fails}
 use Rattle.alphabet.specs.declared.answers.Refusal.TheVariants.{RequiredMissing, RequiredNull, BreaksForm, NotListed, ValueWithoutType, Repeated, ValueTooLong}
 use Rattle.element.specs.States.{state_of, is_present}
 use Rattle.element.specs.declared.states.State.{State}
@@ -24,7 +23,7 @@ use Rattle.field_table.specs.declared.Row.{Row}
 
 -- 32: "breaks its type's form"; 33: "not in its list"; 37: "over 199 bytes; well formed, but over 18 digits"
 unfoldable pub form_check : Kind → List ℕ → Check
-form_check Any bytes = Passes
+form_check Any bytes = passes
 form_check Identifier bytes = fails_if (ltb id_limit (length bytes)) ValueTooLong 0
 form_check Ts bytes = fails_if (not (is_ts bytes)) BreaksForm 0
 form_check Si bytes = fails_if (not (is_si bytes)) BreaksForm 0
@@ -32,12 +31,11 @@ form_check Nm bytes = nm_check bytes
 form_check Dt bytes = fails_if (not (is_dt bytes)) BreaksForm 0
 form_check Tm bytes = fails_if (not (is_tm bytes)) BreaksForm 0
 form_check (OneOf values) bytes = fails_if (not (member bytes (values_of values))) NotListed 0
-form_check (AsField f) bytes = Passes
+form_check (AsField f) bytes = passes
 
 -- whether a check passes
 abbrev pub passing : Check → Bool
-passing Passes = true
-passing (Fails kind place) = false
+passing check = is_ok check
 
 -- ---- one repetition
 
@@ -51,13 +49,13 @@ part_state ds component repetition = state_of ds (judged_part ds component repet
 
 -- a fault in the repetition of a number
 abbrev pub placed : ℕ → Check → Check
-placed number Passes = Passes
-placed number (Fails kind place) = Fails kind number
+placed number (Ok _) = passes
+placed number (Err fault) = fails fault.kind number
 
 -- "Empty and null pass where not R"; where R, repetition 1 is present before it comes to this
 unfoldable pub repetition_check : List ℕ → ℕ → Kind → ℕ → List ℕ → Check
 repetition_check ds component kind number repetition =
-    cond (is_present (part_state ds component repetition)) (placed number (form_check kind (judged_part ds component repetition))) Passes
+    cond (is_present (part_state ds component repetition)) (placed number (form_check kind (judged_part ds component repetition))) passes
 
 -- "the repetitions in turn"
 unfoldable pub repetition_checks : List ℕ → ℕ → Kind → ℕ → List (List ℕ) → List Check
@@ -77,7 +75,7 @@ abbrev pub required_check : Bool → State → Check
 required_check required Absent = fails_if required RequiredMissing 1
 required_check required Empty = fails_if required RequiredMissing 1
 required_check required Null = fails_if required RequiredNull 1
-required_check required Present = Passes
+required_check required Present = passes
 
 -- 36: "more than one repetition, empty ones counted, where no Y"
 abbrev pub repeated_check : Bool → List (List ℕ) → Check

@@ -3,9 +3,8 @@
 // list, so that a field of such a form is one repetition, its component 1 is the whole, and it is present.
 ghost use Rattle.std.specs.Prelude.{◌≡◌, true, false, ◌||◌, List, [], ℕ, ◌≤◌, eqb, length, get_or};
 ghost use Rattle.alphabet.specs.Bytes.{byte_of};
-ghost use Rattle.alphabet.specs.Answers.{in_order};
+ghost use Rattle.alphabet.specs.Answers.{in_order, passes};
 ghost use Rattle.alphabet.specs.Parts.{split};
-ghost use Rattle.alphabet.specs.declared.answers.Check.TheVariants.{Passes};
 ghost use Rattle.element.specs.States.{blank};
 ghost use Rattle.field_table.specs.declared.Kind.TheVariants.{Identifier};
 ghost use Rattle.rules.specs.Rules.{form_check, passing, repetition_checks, row_check, is_said};
@@ -40,8 +39,8 @@ fn is_open(delimiters: Delimiters, b: u8) -> bool
 fn is_sent(delimiters: Delimiters, row: Row, field: &[u8]) -> bool
     requires { 1 ≤ length field.now }
     ensures { result ≡ true → is_said row.kind ≡ false
-        → in_order (repetition_checks delimiters.bytes 0 row.kind 1 (split (get_or delimiters.bytes 2 0) field.now)) ≡ Passes
-        → (said : List ℕ) → row_check delimiters.bytes row said (split (get_or delimiters.bytes 2 0) field.now) ≡ Passes }
+        → in_order (repetition_checks delimiters.bytes 0 row.kind 1 (split (get_or delimiters.bytes 2 0) field.now)) ≡ passes
+        → (said : List ℕ) → row_check delimiters.bytes row said (split (get_or delimiters.bytes 2 0) field.now) ≡ passes }
 {
     if row.component != 0 {
         return false;
@@ -60,7 +59,7 @@ fn is_sent(delimiters: Delimiters, row: Row, field: &[u8]) -> bool
 fn is_plain_identifier(delimiters: Delimiters, row: Row, field: &[u8]) -> bool
     requires { 1 ≤ length field.now }
     ensures { result ≡ true → row.kind ≡ Identifier → (said : List ℕ)
-        → row_check delimiters.bytes row said (split (get_or delimiters.bytes 2 0) field.now) ≡ Passes }
+        → row_check delimiters.bytes row said (split (get_or delimiters.bytes 2 0) field.now) ≡ passes }
 {
     let most = alphabet::id_limit();
     if most < field.len() {
@@ -72,7 +71,7 @@ fn is_plain_identifier(delimiters: Delimiters, row: Row, field: &[u8]) -> bool
 // Whether a field is seen at once to pass what a row asks that says its own type; `false` says nothing.
 pub fn is_plain(delimiters: Delimiters, row: Row, field: &[u8]) -> bool
     ensures { result ≡ true → Permitted delimiters.bytes → is_said row.kind ≡ false → (said : List ℕ)
-        → row_check delimiters.bytes row said (split (get_or delimiters.bytes 2 0) field.now) ≡ Passes }
+        → row_check delimiters.bytes row said (split (get_or delimiters.bytes 2 0) field.now) ≡ passes }
 {
     if field.len() == 0 {
         return !row.required;
@@ -80,18 +79,17 @@ pub fn is_plain(delimiters: Delimiters, row: Row, field: &[u8]) -> bool
     if 1 < row.component {
         return false;
     }
-    let kind = row.kind;
-    match kind {
+    match row.kind {
         Kind::Any => is_sent(delimiters, row, field),
         Kind::Identifier => is_plain_identifier(delimiters, row, field),
-        _ => is_plain_form(kind, field),
+        kind => is_plain_form(kind, field),
     }
 }
 
 // The same of a row whose type another field says, with all bytes of that field.
 pub fn is_plain_said(row: Row, said: &[u8], field: &[u8]) -> bool
     ensures { result ≡ true → (ds : List ℕ) → Permitted ds → is_said row.kind ≡ true
-        → row_check ds row (get_or (split (get_or ds 2 0) said.now) 0 []) (split (get_or ds 2 0) field.now) ≡ Passes }
+        → row_check ds row (get_or (split (get_or ds 2 0) said.now) 0 []) (split (get_or ds 2 0) field.now) ≡ passes }
 {
     if row.component != 0 {
         return false;

@@ -35,7 +35,7 @@ pub returns-in-Nm : goal.returns-in-Nm
 unfolding form_check
 returns-in-Nm c =
     let a = c.args in
-    c.is_passed.ensures ∙ ap passing c.check_nm.ensures ∙ sym (ap (λ (k : Kind). passing (form_check k a.bytes.now)) c.in-Nm.is)
+    c.is_ok.ensures.value ∙ ap passing c.check_nm.ensures ∙ sym (ap (λ (k : Kind). passing (form_check k a.bytes.now)) c.in-Nm.is)
 
 pub returns-in-Dt : goal.returns-in-Dt
 unfolding form_check

@@ -7,9 +7,8 @@ use native.Mathlib.Omega.{arith}
 use borrow.Author.Tests.{eqb-true}
 use lib.Dec.{eqb}
 use lib.ListN.{length, get_or}
-use Rattle.alphabet.specs.Answers.{in_order}
+use Rattle.alphabet.specs.Answers.{in_order, passes}
 use Rattle.alphabet.specs.Parts.{split}
-use Rattle.alphabet.specs.declared.answers.Check.TheVariants.{Passes}
 use Rattle.alphabet.proofs.BoolLaws.{false_true, or_neither}
 use Rattle.element.specs.States.{blank}
 use Rattle.rules.specs.Rules.{is_said, repeated_check, repetition_checks, row_check}
@@ -20,9 +19,9 @@ use Rattle.rules.proofs.plain.is_sent.Goals as goal
 -- the first byte is neither a quote nor a separator: what is left is that the field repeats only where it may
 begun : (c : Else-is_open)
     → let a = c.args in
-    repeated_check a.row.repeats (split (get_or a.delimiters.bytes 2 0) a.field.now) ≡ Passes → is_said a.row.kind ≡ false
-    → in_order (repetition_checks a.delimiters.bytes 0 a.row.kind 1 (split (get_or a.delimiters.bytes 2 0) a.field.now)) ≡ Passes
-    → (said : List ℕ) → row_check a.delimiters.bytes a.row said (split (get_or a.delimiters.bytes 2 0) a.field.now) ≡ Passes
+    repeated_check a.row.repeats (split (get_or a.delimiters.bytes 2 0) a.field.now) ≡ passes → is_said a.row.kind ≡ false
+    → in_order (repetition_checks a.delimiters.bytes 0 a.row.kind 1 (split (get_or a.delimiters.bytes 2 0) a.field.now)) ≡ passes
+    → (said : List ℕ) → row_check a.delimiters.bytes a.row said (split (get_or a.delimiters.bytes 2 0) a.field.now) ≡ passes
 begun c r k f said =
     let a = c.args in
     let b = or_neither (eqb (get_or a.field.now 0 0) 34) (blank a.delimiters.bytes (get_or a.field.now 0 0)) (sym c.is_open.ensures ∙ c.if-is_open.false) in
