@@ -4,7 +4,8 @@ use mathlib.Core.Bool.{Bool, true, false}
 use Prim.Native.Nat.{ℕ, ◌≤◌}
 use Rattle.std.specs.Prelude.{Ok, Err, IsOk}
 use native.Mathlib.Omega.{arith}
-use Rattle.alphabet.specs.Answers.{Check, Refusable, passes, fails, number_of, number_given, fails_if, or_else}
+use Rattle.alphabet.specs.Answers.{Check, Refusable, passes, fails, given, checked, number_of, number_given, fails_if, or_else}
+use Rattle.alphabet.specs.declared.answers.Fault.{Fault}
 use Rattle.alphabet.specs.declared.answers.Refusal.{Refusal}
 use Rattle.alphabet.specs.declared.answers.Refusal.TheVariants.{Length, Header, Delimiter, NotAllowed, NotEnded, SegmentName, SecondHeader, TooManySegments, NotAcknowledgeable, AcknowledgementTooLong, Separator, UnknownEscape, UnclosedEscape, NoRoom, NullText, CallersTime, CallersId, Address, NoStructure, SegmentMisplaced, EndedEarly, RequiredMissing, BreaksForm, NotListed, RequiredNull, ValueWithoutType, Repeated, ValueTooLong, StructureName, BrokenFrame, FrameTooLong, Layout, BookVersion, BookMalformed, BookHeader, WrongCount, BrokenBatch}
 
@@ -129,3 +130,20 @@ number_positive BrokenBatch = omega arith
 pub none_given : {T : Type 0} (r : Refusable T) → number_given r ≡ 0 → IsOk r
 none_given (Ok _) e = refl
 none_given (Err fault) e = absurd (let n = number_positive fault.kind in omega arith)
+
+-- ---- an answer, and whether it refuses
+
+-- what is given is refused as the check says
+pub checked_given : {T : Type 0} (c : Check) (x : T) → checked (given c x) ≡ c
+checked_given (Err fault) x = refl
+checked_given (Ok _) x = refl
+
+pub given_passes : {T : Type 0} {c : Check} → c ≡ passes → (x : T) → given c x ≡ Ok x
+given_passes e x = rw e
+
+pub given_fails : {T : Type 0} {c : Check} {fault : Fault} → c ≡ Err fault → (x : T) → given c x ≡ Err fault
+given_fails e x = rw e
+
+pub number_checked : {T : Type 0} (r : Refusable T) → number_given r ≡ number_given (checked r)
+number_checked (Ok _) = refl
+number_checked (Err fault) = refl

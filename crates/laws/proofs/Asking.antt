@@ -9,14 +9,12 @@ use native.Mathlib.Omega.{arith}
 use lib.Dec.{eqb, leb}
 use lib.ListN.{length}
 use borrow.Author.Tests.{eqb-true, leb-true, le-leb}
-use Rattle.alphabet.specs.Answers.{number_of, fails_if, or_else, answered}
-use Rattle.alphabet.specs.declared.answers.Check.{Check}
-use Rattle.alphabet.specs.declared.answers.Check.TheVariants.{Passes, Fails}
-use Rattle.alphabet.specs.declared.answers.Refusal.TheVariants.{None, Address as BadAddress}
+use Rattle.std.specs.Prelude.{None, Err, Ok, Some, Option}
+use Rattle.alphabet.specs.Answers.{fails_if, or_else, Check, passes, checked, number_given}
+use Rattle.alphabet.specs.declared.answers.Refusal.TheVariants.{Address as BadAddress}
 use Rattle.alphabet.specs.declared.parts.Part.{Part}
-use Rattle.alphabet.specs.declared.parts.Part.TheVariants.{At, Absent}
 use Rattle.alphabet.proofs.BoolLaws.{false_true, and_both}
-use Rattle.alphabet.proofs.CheckLaws.{Numbered}
+use Rattle.alphabet.proofs.CheckLaws.{Numbered, never_both, checked_given, number_checked}
 use Rattle.alphabet.proofs.PartLaws.{standing_absent}
 use Rattle.reading.specs.Reading.{reading}
 use Rattle.reading.specs.Segments.{segments, segment_at}
@@ -61,19 +59,23 @@ asks_exactly a = (well_formed_asks a, asks_well_formed)
 -- ---- lookups
 
 -- the checks of a lookup, by what each gave
-abbrev checks : Check → Bool → Part → Check
-checks read formed part = or_else read (or_else (fails_if (not formed) BadAddress 0) (or_else (fails_if (is_absent part) BadAddress 0) Passes))
+abbrev checks : Check → Bool → Option Part → Check
+checks read formed part = or_else read (or_else (fails_if (not formed) BadAddress 0) (or_else (fails_if (is_absent part) BadAddress 0) passes))
 
 lookup_checks : (m : List ℕ) (a : Address) → lookup_check m a ≡ checks (reading m) (well_formed a) (segment_at m a.segment)
 unfolding lookup_check
 lookup_checks m a = refl
 
 module _ (m : List ℕ) (a : Address) where
-  given : {c : Check} {w : Bool} {p : Part} → reading m ≡ c → well_formed a ≡ w → segment_at m a.segment ≡ p → (found m a).answer.kind ≡ (answered (checks c w p)).kind
+  told : {c : Check} {w : Bool} {p : Option Part} → reading m ≡ c → well_formed a ≡ w → segment_at m a.segment ≡ p → checked (found m a) ≡ checks c w p
   unfolding found
-  given e f g = ap (λ (x : Check). (answered x).kind) (lookup_checks m a) ∙ rw (e, f, g)
+  told e f g = checked_given (lookup_check m a) _ ∙ lookup_checks m a ∙ rw (e, f, g)
 
-  no_segment : length (segments m) ≤ a.segment → segment_at m a.segment ≡ Absent
+  -- so the number is what the checks give
+  numbered : {c : Check} {w : Bool} {p : Option Part} → reading m ≡ c → well_formed a ≡ w → segment_at m a.segment ≡ p → number_given (found m a) ≡ number_given (checks c w p)
+  numbered e f g = number_checked (found m a) ∙ ap (λ (x : Check). number_given x) (told e f g)
+
+  no_segment : length (segments m) ≤ a.segment → segment_at m a.segment ≡ None
   unfolding segment_at
   no_segment h = standing_absent 0 (segments m) a.segment h
 
@@ -81,46 +83,43 @@ module _ (m : List ℕ) (a : Address) where
   Nothing = (Asks a → ⊥) ⊎ (length (segments m) ≤ a.segment)
 
   -- 19, "bad address, or no such segment"
-  pub refused_exactly : (number_of (found m a).answer.kind ≡ 19) ↔ ((reading m ≡ Passes) × ((Asks a → ⊥) ⊎ (length (segments m) ≤ a.segment)))
+  pub refused_exactly : (number_given (found m a) ≡ 19) ↔ ((reading m ≡ passes) × ((Asks a → ⊥) ⊎ (length (segments m) ≤ a.segment)))
   refused_exactly = (at (reading m) refl (well_formed a) refl (segment_at m a.segment) refl, λ h. back h.0 h.1 (well_formed a) refl)
     where
-      at : (c : Check) → reading m ≡ c → (w : Bool) → well_formed a ≡ w → (p : Part) → segment_at m a.segment ≡ p → number_of (found m a).answer.kind ≡ 19 → (reading m ≡ Passes) × Nothing
-      at (Fails kind place) e w f p g q =
+      at : (c : Check) → reading m ≡ c → (w : Bool) → well_formed a ≡ w → (p : Option Part) → segment_at m a.segment ≡ p → number_given (found m a) ≡ 19 → (reading m ≡ passes) × Nothing
+      at (Err fault) e w f p g q =
           let n = subst (Numbered 1 8) e (reading_numbered m) in
           let l = n.1 in
-          let z = ap number_of (sym (given e f g)) ∙ q in
+          let z = sym (numbered e f g) ∙ q in
           absurd (omega arith)
-      at Passes e false f p g q = (e, inl (λ asks. false_true (sym f ∙ asks_well_formed asks)))
-      at Passes e true f Absent g q = (e, inr (segment_past m a.segment g))
-      at Passes e true f (At s t) g q = absurd (let z = ap number_of (sym (given e f g)) ∙ q in omega arith)
+      at (Ok _) e false f p g q = (e, inl (λ asks. false_true (sym f ∙ asks_well_formed asks)))
+      at (Ok _) e true f None g q = (e, inr (segment_past m a.segment g))
+      at (Ok _) e true f (Some part) g q = absurd (let z = sym (numbered e f g) ∙ q in omega arith)
 
-      back : reading m ≡ Passes → Nothing → (w : Bool) → well_formed a ≡ w → number_of (found m a).answer.kind ≡ 19
-      back e h false f = ap number_of (given e f refl)
-      back e h true f = ⊎_elim (λ n. absurd (n (well_formed_asks a f))) (λ l. ap number_of (given e f (no_segment l))) h
+      back : reading m ≡ passes → Nothing → (w : Bool) → well_formed a ≡ w → number_given (found m a) ≡ 19
+      back e h false f = numbered e f refl
+      back e h true f = ⊎_elim (λ n. absurd (n (well_formed_asks a f))) (λ l. numbered e f (no_segment l)) h
 
   -- nothing is refused where the message was read, the address asks for something and the segment is there
-  pub answered_exactly : ((found m a).answer.kind ≡ None) ↔ ((reading m ≡ Passes) × Asks a × (a.segment < length (segments m)))
+  pub answered_exactly : (checked (found m a) ≡ passes) ↔ ((reading m ≡ passes) × Asks a × (a.segment < length (segments m)))
   answered_exactly = (at (reading m) refl (well_formed a) refl (segment_at m a.segment) refl, λ h. back h (segment_at m a.segment) refl)
     where
-      at : (c : Check) → reading m ≡ c → (w : Bool) → well_formed a ≡ w → (p : Part) → segment_at m a.segment ≡ p → (found m a).answer.kind ≡ None
-          → (reading m ≡ Passes) × Asks a × (a.segment < length (segments m))
-      at (Fails kind place) e w f p g q =
-          let n = subst (Numbered 1 8) e (reading_numbered m) in
-          let l = n.0 in
-          let z = ap number_of (sym (given e f g) ∙ q) in
-          absurd (omega arith)
-      at Passes e false f p g q = absurd (let z = ap number_of (sym (given e f g) ∙ q) in omega arith)
-      at Passes e true f Absent g q = absurd (let z = ap number_of (sym (given e f g) ∙ q) in omega arith)
-      at Passes e true f (At s t) g q = (e, well_formed_asks a f, (segment_bytes m a.segment s t g).0)
+      at : (c : Check) → reading m ≡ c → (w : Bool) → well_formed a ≡ w → (p : Option Part) → segment_at m a.segment ≡ p → checked (found m a) ≡ passes
+          → (reading m ≡ passes) × Asks a × (a.segment < length (segments m))
+      at (Err fault) e w f p g q =
+          absurd (never_both (sym (sym (told e f g) ∙ q)))
+      at (Ok _) e false f p g q = absurd (never_both (sym (sym (told e f g) ∙ q)))
+      at (Ok _) e true f None g q = absurd (never_both (sym (sym (told e f g) ∙ q)))
+      at (Ok _) e true f (Some part) g q = (e, well_formed_asks a f, (segment_bytes m a.segment part.start part.end g).0)
 
-      back : (reading m ≡ Passes) × Asks a × (a.segment < length (segments m)) → (p : Part) → segment_at m a.segment ≡ p → (found m a).answer.kind ≡ None
-      back h Absent g = absurd (let l = segment_past m a.segment g in let k = h.2 in omega arith)
-      back h (At s e) g = given h.0 (asks_well_formed h.1) g
+      back : (reading m ≡ passes) × Asks a × (a.segment < length (segments m)) → (p : Option Part) → segment_at m a.segment ≡ p → checked (found m a) ≡ passes
+      back h None g = absurd (let l = segment_past m a.segment g in let k = h.2 in omega arith)
+      back h (Some part) g = told h.0 (asks_well_formed h.1) g
 
   -- such a lookup passes all its checks
-  pub lookup_passes : (found m a).answer.kind ≡ None → lookup_check m a ≡ Passes
+  pub lookup_passes : checked (found m a) ≡ passes → lookup_check m a ≡ passes
   lookup_passes done = at (answered_exactly.0 done) (segment_at m a.segment) refl
     where
-      at : (reading m ≡ Passes) × Asks a × (a.segment < length (segments m)) → (p : Part) → segment_at m a.segment ≡ p → lookup_check m a ≡ Passes
-      at h Absent g = absurd (let l = segment_past m a.segment g in let k = h.2 in omega arith)
-      at h (At s e) g = lookup_checks m a ∙ rw (h.0, asks_well_formed h.1, g)
+      at : (reading m ≡ passes) × Asks a × (a.segment < length (segments m)) → (p : Option Part) → segment_at m a.segment ≡ p → lookup_check m a ≡ passes
+      at h None g = absurd (let l = segment_past m a.segment g in let k = h.2 in omega arith)
+      at h (Some part) g = lookup_checks m a ∙ rw (h.0, asks_well_formed h.1, g)

@@ -8,11 +8,11 @@ use native.Mathlib.Omega.{arith}
 use lib.Dec.{eqb, leb}
 use lib.ListN.{length, get_or}
 use borrow.Author.Tests.{eqb-true, eq-eqb, not-false}
+use Rattle.std.specs.Prelude.{None, Some, Option}
 use Rattle.alphabet.specs.Lists.{first, find}
 use Rattle.alphabet.specs.Bytes.{is_null}
-use Rattle.alphabet.specs.Parts.{split, part_at}
+use Rattle.alphabet.specs.Parts.{split, part_at, from_to}
 use Rattle.alphabet.specs.declared.parts.Part.{Part}
-use Rattle.alphabet.specs.declared.parts.Part.TheVariants.{At, Absent}
 use Rattle.alphabet.proofs.BoolLaws.{false_true}
 use Rattle.alphabet.proofs.NullLaws.{two_quotes_lem, not_quotes}
 use Rattle.alphabet.proofs.ListLaws.{first_before, first_none}
@@ -84,14 +84,14 @@ one_state ds bytes _ _ (present p q) (present r s) = refl
 
 -- ---- absent means past the last part
 
-pub means_absent : (sep : ℕ) (m : List ℕ) (s e k : ℕ) → length (split sep (between m s e)) ≤ k → part_in sep m (At s e) k ≡ Absent
+pub means_absent : (sep : ℕ) (m : List ℕ) (s e k : ℕ) → length (split sep (between m s e)) ≤ k → part_in sep m (from_to s e) k ≡ None
 unfolding part_in part_at
 means_absent sep m s e k h = rw (standing_absent 0 (split sep (between m s e)) k h)
 
 -- ---- the whole of a level that has one part is that part
 
 pub whole_is_part : (sep : ℕ) (m : List ℕ) (s e : ℕ) → s ≤ e → e ≤ length m → find sep (between m s e) ≡ length (between m s e)
-    → below sep m (At s e) 1 ≡ below sep m (At s e) 0
+    → below sep m (from_to s e) 1 ≡ below sep m (from_to s e) 0
 unfolding below part_in part_at
 whole_is_part sep m s e h k n =
     let l = between_length m s e h k in
@@ -102,57 +102,57 @@ whole_is_part sep m s e h k n =
 -- ---- an element lies inside its segment
 
 -- q lies inside p; what is absent lies anywhere
-abbrev pub Inside : Part → Part → Type 0
-Inside p Absent = Unit {0}
-Inside Absent (At b f) = ⊥
-Inside (At s e) (At b f) = (s ≤ b) × (b ≤ f) × (f ≤ e)
+abbrev pub Inside : Option Part → Option Part → Type 0
+Inside p None = Unit {0}
+Inside None (Some part) = ⊥
+Inside (Some part) (Some part2) = (part.start ≤ part2.start) × (part2.start ≤ part2.end) × (part2.end ≤ part.end)
 
-inside_in : (sep : ℕ) (m : List ℕ) (p q : Part) (k : ℕ) → Within m q → Inside p q → Inside p (part_in sep m q k)
-inside_in sep m p Absent k w h = subst (Inside p) (sym (in_absent sep m Absent k refl)) tt
-inside_in sep m Absent (At s e) k w h = absurd h
-inside_in sep m (At a z) (At s e) k w h = at (part_in sep m (At s e) k) refl
+inside_in : (sep : ℕ) (m : List ℕ) (p q : Option Part) (k : ℕ) → Within m q → Inside p q → Inside p (part_in sep m q k)
+inside_in sep m p None k w h = subst (Inside p) (sym (in_absent sep m None k refl)) tt
+inside_in sep m None (Some part) k w h = absurd h
+inside_in sep m (Some part) (Some part2) k w h = at (part_in sep m (from_to part2.start part2.end) k) refl
   where
-    at : (r : Part) → part_in sep m (At s e) k ≡ r → Inside (At a z) r
-    at Absent q = tt
-    at (At b f) q =
-        let g = part_means sep m s e k b f w.0 w.1 q in
+    at : (r : Option Part) → part_in sep m (from_to part2.start part2.end) k ≡ r → Inside (from_to part.start part.end) r
+    at None q = tt
+    at (Some piece) q =
+        let g = part_means sep m part2.start part2.end k piece.start piece.end w.0 w.1 q in
         let g0 = g.0 in
         let g2 = g.2 in
         let h0 = h.0 in
         let h2 = h.2 in
         (omega arith, g.1, omega arith)
 
-inside_either : (p : Part) (t : Bool) (q r : Part) → Inside p q → Inside p r → Inside p (cond t q r)
+inside_either : (p : Option Part) (t : Bool) (q r : Option Part) → Inside p q → Inside p r → Inside p (cond t q r)
 inside_either p true q r a b = a
 inside_either p false q r a b = b
 
-inside_below : (sep : ℕ) (m : List ℕ) (p q : Part) (k : ℕ) → Within m q → Inside p q → Inside p (below sep m q k)
+inside_below : (sep : ℕ) (m : List ℕ) (p q : Option Part) (k : ℕ) → Within m q → Inside p q → Inside p (below sep m q k)
 unfolding below
 inside_below sep m p q zero w h = h
 inside_below sep m p q (suc k) w h = inside_in sep m p q k w h
 
-inside_own : (m : List ℕ) (p : Part) → Within m p → Inside p p
-inside_own m Absent w = tt
-inside_own m (At s e) w = (omega arith, w.0, omega arith)
+inside_own : (m : List ℕ) (p : Option Part) → Within m p → Inside p p
+inside_own m None w = tt
+inside_own m (Some part) w = (omega arith, w.0, omega arith)
 
 inside_field : (m : List ℕ) → Message m → (k f : ℕ) → Inside (segment_at m k) (field_in m k (segment_at m k) f)
 unfolding field_in
 inside_field m g k f = at (eqb k 0) refl
   where
-    p : Part
+    p : Option Part
     p = segment_at m k
 
     in_part : (i : ℕ) → Inside p (part_in (field_separator m) m p i)
     in_part i = inside_in (field_separator m) m p p i (within_segment m k) (inside_own m p (within_segment m k))
 
-    separator : k ≡ 0 → Inside p (At 3 4)
+    separator : k ≡ 0 → Inside p (from_to 3 4)
     separator e =
         let s = first_segment m g in
         let l = s.1 in
-        subst (λ (q : Part). Inside q (At 3 4)) (sym (ap (segment_at m) e ∙ s.0)) (omega arith, omega arith, omega arith)
+        subst (λ (q : Option Part). Inside q (from_to 3 4)) (sym (ap (segment_at m) e ∙ s.0)) (omega arith, omega arith, omega arith)
 
-    at : (t : Bool) → eqb k 0 ≡ t → Inside p (cond t (cond (eqb f 1) (At 3 4) (part_in (field_separator m) m p (f - 1))) (part_in (field_separator m) m p f))
-    at true e = inside_either p (eqb f 1) (At 3 4) _ (separator (eqb-true k 0 e)) (in_part (f - 1))
+    at : (t : Bool) → eqb k 0 ≡ t → Inside p (cond t (cond (eqb f 1) (from_to 3 4) (part_in (field_separator m) m p (f - 1))) (part_in (field_separator m) m p f))
+    at true e = inside_either p (eqb f 1) (from_to 3 4) _ (separator (eqb-true k 0 e)) (in_part (f - 1))
     at false e = in_part f
 
 pub element_inside : (m : List ℕ) → Message m → (a : Address) → Inside (segment_at m a.segment) (element_at m a)
@@ -165,6 +165,6 @@ element_inside m g a =
     let inside = inside_field m g a.segment a.field in
     let one = leb a.repetition 1 && (leb a.component 1 && leb a.subcomponent 1) in
     inside_either (segment_at m a.segment) (fixed a.segment a.field) (unsplit (field_at m a) a) (subcomponent_at m a)
-    (inside_either (segment_at m a.segment) one (field_at m a) Absent inside tt)
+    (inside_either (segment_at m a.segment) one (field_at m a) None inside tt)
     (inside_below _ m _ _ a.subcomponent component
     (inside_below _ m _ _ a.component repetition (inside_below _ m _ _ a.repetition field inside)))

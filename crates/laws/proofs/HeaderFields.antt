@@ -10,12 +10,12 @@ use lib.Dec.{eqb}
 use lib.ListN.{length, get_or, take, drop, length-drop}
 use lib.Seq.{get_or-take, get_or-drop, length-take-le}
 use borrow.Author.Tests.{eqb-true, eq-eqb, ne_eqb}
+use Rattle.std.specs.Prelude.{Option}
 use Rattle.alphabet.specs.Bytes.{carriage_return}
 use Rattle.alphabet.specs.Delimiters.{permitted}
 use Rattle.alphabet.specs.Lists.{find}
-use Rattle.alphabet.specs.Parts.{part_at}
+use Rattle.alphabet.specs.Parts.{part_at, from_to}
 use Rattle.alphabet.specs.declared.parts.Part.{Part}
-use Rattle.alphabet.specs.declared.parts.Part.TheVariants.{At}
 use Rattle.alphabet.proofs.BoolLaws.{and_both, false_true}
 use Rattle.alphabet.proofs.DelimiterLaws.{delimiter_permitted, delimiters_differ}
 use Rattle.alphabet.proofs.ListLaws.{drop_next, first_le, first_before, first_reached, first_next}
@@ -100,21 +100,21 @@ module _ (m : List ℕ) (g : Message m) where
           let u = first_le (eqb sep) (drop 4 line) in
           omega (arith, h)
 
-  second_part : part_at sep line 1 ≡ At 4 8
+  second_part : part_at sep line 1 ≡ from_to 4 8
   unfolding part_at
   second_part =
       let long = (first_segment m g).1 in
       let n = size in
-      standing_walk sep line 0 3 0 (sym name_ends) (omega arith) ∙ standing_first sep 4 (drop 4 line) ∙ ap (λ (k : ℕ). At 4 (4 + k)) encoding_ends
+      standing_walk sep line 0 3 0 (sym name_ends) (omega arith) ∙ standing_first sep 4 (drop 4 line) ∙ ap (λ (k : ℕ). from_to 4 (4 + k)) encoding_ends
 
   -- where the two fields stand
-  pub second_field : field_in m 0 (segment_at m 0) 2 ≡ At 4 8
+  pub second_field : field_in m 0 (segment_at m 0) 2 ≡ from_to 4 8
   unfolding field_in part_in
   second_field =
-      ap (λ (p : Part). part_in sep m p 1) (first_segment m g).0
+      ap (λ (p : Option Part). part_in sep m p 1) (first_segment m g).0
       ∙ ap (λ (n : ℕ). moved 0 (part_at sep (take n m) 1)) (sub-zero end) ∙ ap (moved 0) second_part
 
-pub first_field : (m : List ℕ) → field_in m 0 (segment_at m 0) 1 ≡ At 3 4
+pub first_field : (m : List ℕ) → field_in m 0 (segment_at m 0) 1 ≡ from_to 3 4
 unfolding field_in
 first_field m = refl
 

@@ -10,8 +10,7 @@ use borrow.Author.Tests.{eqb-true, leb-true, leb-false}
 use Rattle.alphabet.specs.Bytes.{carriage_return}
 use Rattle.alphabet.specs.Delimiters.{permitted}
 use Rattle.alphabet.specs.Lists.{find}
-use Rattle.alphabet.specs.Parts.{part_at}
-use Rattle.alphabet.specs.declared.parts.Part.TheVariants.{At}
+use Rattle.alphabet.specs.Parts.{part_at, from_to}
 use Rattle.alphabet.proofs.BoolLaws.{false_true, and_both}
 use Rattle.alphabet.proofs.DelimiterLaws.{delimiter_permitted}
 use Rattle.alphabet.proofs.ListLaws.{find_is, find_own}
@@ -56,7 +55,7 @@ module _ (m : List ℕ) (o : Opened m) where
       at false e = absurd (early_not (find carriage_return m) (leb-false 8 (find carriage_return m) e) (find_is carriage_return m h))
 
 -- the first segment begins the message and has eight bytes or more
-pub first_segment : (m : List ℕ) → Message m → (segment_at m 0 ≡ At 0 (find carriage_return m)) × (8 ≤ find carriage_return m) × (find carriage_return m < length m)
+pub first_segment : (m : List ℕ) → Message m → (segment_at m 0 ≡ from_to 0 (find carriage_return m)) × (8 ≤ find carriage_return m) × (find carriage_return m < length m)
 unfolding part_at
 first_segment m g =
     let o = g.opened in
@@ -65,5 +64,5 @@ first_segment m g =
     let last = ap (λ (b : ℕ). find b m) (message_last m g) in
     let h : find carriage_return m < length m = omega arith in
     let e : 0 + find carriage_return m ≡ find carriage_return m = omega arith in
-    let s = segment_some m 0 0 (find carriage_return m) (standing_first carriage_return 0 m ∙ ap (At 0) e) (λ q. omega arith) in
+    let s = segment_some m 0 0 (find carriage_return m) (standing_first carriage_return 0 m ∙ ap (from_to 0) e) (λ q. omega arith) in
     (s, header_long m o h, h)

@@ -8,11 +8,10 @@ use native.Mathlib.Omega.{arith}
 use lib.Dec.{eqb}
 use lib.ListN.{length, get_or}
 use borrow.Author.Tests.{eqb-true, eqb-false, ne_eqb, lt-leb}
-use Rattle.alphabet.specs.Answers.{answered}
-use Rattle.alphabet.specs.Parts.{split, standing, part_at}
-use Rattle.alphabet.specs.declared.answers.Check.TheVariants.{Passes}
+use Rattle.std.specs.Prelude.{Ok, Option}
+use Rattle.alphabet.specs.Answers.{passes}
+use Rattle.alphabet.specs.Parts.{split, standing, part_at, from_to}
 use Rattle.alphabet.specs.declared.parts.Part.{Part}
-use Rattle.alphabet.specs.declared.parts.Part.TheVariants.{At}
 use Rattle.reading.specs.Reading.{reading}
 use Rattle.reading.specs.Segments.{delimiters_of, field_separator, segments, segment_at}
 use Rattle.reading.proofs.Accepted.{accepted}
@@ -56,7 +55,7 @@ all_append P (l ∷ ks) ls h k = (h.0, all_append P ks ls h.1 k)
 
 -- of each of some parts, with its number and where it stands
 each_all : (P : Leaf → Type 0) (inner : ℕ → ℕ → List ℕ → List Leaf) (k at : ℕ) (ps : List (List ℕ))
-    → ((j s : ℕ) → standing at ps j ≡ At s (s + length (get_or ps j [])) → All P (inner (k + j) s (get_or ps j []))) → All P (each inner k at ps)
+    → ((j s : ℕ) → standing at ps j ≡ from_to s (s + length (get_or ps j [])) → All P (inner (k + j) s (get_or ps j []))) → All P (each inner k at ps)
 unfolding All each standing
 each_all P inner k at [] h = tt
 each_all P inner k at (p ∷ ps) h =
@@ -69,27 +68,27 @@ each_all P inner k at (p ∷ ps) h =
 standing_moved : (by at : ℕ) (ps : List (List ℕ)) (k : ℕ) → standing (by + at) ps k ≡ moved by (standing at ps k)
 unfolding standing
 standing_moved by at [] k = refl
-standing_moved by at (p ∷ ps) zero = let n : by + at + length p ≡ by + (at + length p) = omega arith in ap (At (by + at)) n
+standing_moved by at (p ∷ ps) zero = let n : by + at + length p ≡ by + (at + length p) = omega arith in ap (from_to (by + at)) n
 standing_moved by at (p ∷ ps) (suc k) =
     let n : by + at + length p + 1 ≡ by + (at + length p + 1) = omega arith in
     ap (λ (i : ℕ). standing i ps k) n ∙ standing_moved by (at + length p + 1) ps k
 
 -- a part of the message stands at s and has these bytes
-pub record Stands (m : List ℕ) (p : Part) (s : ℕ) (bytes : List ℕ) : Type 0 where
-  pub place : p ≡ At s (s + length bytes)
+pub record Stands (m : List ℕ) (p : Option Part) (s : ℕ) (bytes : List ℕ) : Type 0 where
+  pub place : p ≡ from_to s (s + length bytes)
   pub within : Within m p
   pub holds : part_bytes m p ≡ bytes
 
 module _ (m : List ℕ) where
   -- a part of it stands where the split says
-  pub part_standing : (sep : ℕ) {p : Part} {s : ℕ} {bytes : List ℕ} → Stands m p s bytes → (j : ℕ) → part_in sep m p j ≡ standing s (split sep bytes) j
+  pub part_standing : (sep : ℕ) {p : Option Part} {s : ℕ} {bytes : List ℕ} → Stands m p s bytes → (j : ℕ) → part_in sep m p j ≡ standing s (split sep bytes) j
   unfolding part_in part_at
   part_standing sep {p} {s} {bytes} h j =
       let inside : between m s (s + length bytes) ≡ bytes = ap (part_bytes m) (sym h.place) ∙ h.holds in
-      ap (λ (q : Part). part_in sep m q j) h.place ∙ ap (λ (b : List ℕ). moved s (standing 0 (split sep b) j)) inside ∙ sym (standing_moved s 0 (split sep bytes) j)
+      ap (λ (q : Option Part). part_in sep m q j) h.place ∙ ap (λ (b : List ℕ). moved s (standing 0 (split sep b) j)) inside ∙ sym (standing_moved s 0 (split sep bytes) j)
       ∙ ap (λ (i : ℕ). standing i (split sep bytes) j) (add-zero s)
 
-  stands_in : (sep : ℕ) {p : Part} {s : ℕ} {bytes : List ℕ} → Stands m p s bytes → (j t : ℕ) → standing s (split sep bytes) j ≡ At t (t + length (get_or (split sep bytes) j []))
+  stands_in : (sep : ℕ) {p : Option Part} {s : ℕ} {bytes : List ℕ} → Stands m p s bytes → (j t : ℕ) → standing s (split sep bytes) j ≡ from_to t (t + length (get_or (split sep bytes) j []))
       → Stands m (part_in sep m p j) t (get_or (split sep bytes) j [])
   stands_in sep {p} {s} {bytes} h j t e = record {
     place = part_standing sep h j ∙ e;
@@ -98,18 +97,18 @@ module _ (m : List ℕ) where
   }
 
   -- the same by its number, from 1
-  stands_below : (sep : ℕ) (p : Part) {t : ℕ} {q : List ℕ} (j : ℕ) → Stands m (part_in sep m p j) t q → Stands m (below sep m p (1 + j)) t q
+  stands_below : (sep : ℕ) (p : Option Part) {t : ℕ} {q : List ℕ} (j : ℕ) → Stands m (part_in sep m p j) t q → Stands m (below sep m p (1 + j)) t q
   stands_below sep p {t} {q} j h =
       let n : 1 + j - 1 ≡ j = omega arith in
-      subst (λ (x : Part). Stands m x t q) (sym (below_split sep m p (1 + j) (λ z. omega arith) ∙ ap (part_in sep m p) n)) h
+      subst (λ (x : Option Part). Stands m x t q) (sym (below_split sep m p (1 + j) (λ z. omega arith) ∙ ap (part_in sep m p) n)) h
 
-  level_all : (P : Leaf → Type 0) (inner : ℕ → ℕ → List ℕ → List Leaf) (sep : ℕ) {p : Part} {s : ℕ} {bytes : List ℕ} → Stands m p s bytes
+  level_all : (P : Leaf → Type 0) (inner : ℕ → ℕ → List ℕ → List Leaf) (sep : ℕ) {p : Option Part} {s : ℕ} {bytes : List ℕ} → Stands m p s bytes
       → ((k t : ℕ) (q : List ℕ) → 1 ≤ k → Stands m (below sep m p k) t q → All P (inner k t q)) → All P (each inner 1 s (split sep bytes))
   level_all P inner sep {p} {s} {bytes} h f =
       each_all P inner 1 s (split sep bytes)
       (λ j t e. f (1 + j) t (get_or (split sep bytes) j []) (omega arith) (stands_below sep p j (stands_in sep h j t e)))
 
-module _ (m : List ℕ) (ok : reading m ≡ Passes) where
+module _ (m : List ℕ) (ok : reading m ≡ passes) where
   abbrev ds : List ℕ
   ds = delimiters_of m
 
@@ -117,7 +116,7 @@ module _ (m : List ℕ) (ok : reading m ≡ Passes) where
   unfolding element_of
   leaf_right a at bytes asks deep stood h = record {
     full = deep;
-    looked_up = sym (found_passes m a Passes (sym (lookup_passes m a ((answered_exactly m a).1 (ok, asks, stood)))) refl) ∙ ap (λ (x : Element). record { answer = answered Passes; element = x }) element_is;
+    looked_up = sym (found_passes m a passes (sym (lookup_passes m a ((answered_exactly m a).1 (ok, asks, stood)))) refl) ∙ ap (λ (x : Element). Ok x) element_is;
     not_absent = means_there (delimiters_of m) bytes (state_of (delimiters_of m) bytes) (state_means (delimiters_of m) bytes);
   }
     where
@@ -130,13 +129,13 @@ module _ (m : List ℕ) (ok : reading m ≡ Passes) where
   -- ---- of a field that is split further
 
   module _ (s f : ℕ) (stood : s < length (segments m)) (one : 1 ≤ f) (further : fixed s f ≡ false) where
-    abbrev field_part : Part
+    abbrev field_part : Option Part
     field_part = field_in m s (segment_at m s) f
 
-    abbrev repetition_part : ℕ → Part
+    abbrev repetition_part : ℕ → Option Part
     repetition_part r = below (get_or (delimiters_of m) 2 0) m field_part r
 
-    abbrev component_part : ℕ → ℕ → Part
+    abbrev component_part : ℕ → ℕ → Option Part
     component_part r c = below (get_or (delimiters_of m) 1 0) m (repetition_part r) c
 
     element_part : (r c u : ℕ) → element_at m (addressed s f r c u) ≡ below (get_or (delimiters_of m) 4 0) m (component_part r c) u
@@ -148,7 +147,7 @@ module _ (m : List ℕ) (ok : reading m ≡ Passes) where
     component_right r c at bytes hr hc h =
         level_all m (FoundAt m) (subcomponent_leaf ds s f r c) (get_or (delimiters_of m) 4 0) h
         (λ u t q hu k. all_one (FoundAt m) (leaf_at ds (addressed s f r c u) t q)
-        (leaf_right (addressed s f r c u) t q (subcomponent s f r c u one hr hc hu) hu stood (subst (λ (p : Part). Stands m p t q) (sym (element_part r c u)) k)))
+        (leaf_right (addressed s f r c u) t q (subcomponent s f r c u one hr hc hu) hu stood (subst (λ (p : Option Part). Stands m p t q) (sym (element_part r c u)) k)))
 
     repetition_right : (r at : ℕ) (bytes : List ℕ) → 1 ≤ r → Stands m (repetition_part r) at bytes → All (FoundAt m) (in_repetition ds s f r at bytes)
     unfolding in_repetition
@@ -168,7 +167,7 @@ module _ (m : List ℕ) (ok : reading m ≡ Passes) where
       go true e = tt
       go false e =
           let d = eqb-false f 0 e in
-          field_right s f stood (omega arith) (rw (ne_eqb s 0 ne)) at bytes (subst (λ (p : Part). Stands m p at bytes) (sym (field_other m s (segment_at m s) f ne)) h)
+          field_right s f stood (omega arith) (rw (ne_eqb s 0 ne)) at bytes (subst (λ (p : Option Part). Stands m p at bytes) (sym (field_other m s (segment_at m s) f ne)) h)
 
   pub four : 4 ≤ length m
   four = let n = (accepted m ok).opened.nine_bytes in omega arith
@@ -198,7 +197,7 @@ module _ (m : List ℕ) (ok : reading m ≡ Passes) where
           let k = eqb-false f 2 g in
           let i : j ≡ f - 1 = omega arith in
           field_right 0 f stood (omega arith) (lt-leb f 2 (omega arith)) at bytes
-          (subst (λ (p : Part). Stands m p at bytes) (ap (part_in (field_separator m) m (segment_at m 0)) i ∙ sym (field_header m 0 (segment_at m 0) f refl d)) h)
+          (subst (λ (p : Option Part). Stands m p at bytes) (ap (part_in (field_separator m) m (segment_at m 0)) i ∙ sym (field_header m 0 (segment_at m 0) f refl d)) h)
 
   segment_right : (s at : ℕ) (bytes : List ℕ) → s < length (segments m) → Stands m (segment_at m s) at bytes → All (FoundAt m) (in_segment ds s at bytes)
   unfolding in_segment
@@ -226,9 +225,9 @@ module _ (m : List ℕ) (ok : reading m ≡ Passes) where
       subst (λ (i : ℕ). All (FoundAt m) (in_segment ds i t (get_or (segments m) j []))) n
       (segment_right j t (get_or (segments m) j []) b.0 (record { place = e; within = within_segment m j; holds = ap (part_bytes m) e ∙ b.3 })))
 
-pub leaf_found_at : (m : List ℕ) → reading m ≡ Passes → (l : Leaf) → In l (leaves_of m) → FoundAt m l
+pub leaf_found_at : (m : List ℕ) → reading m ≡ passes → (l : Leaf) → In l (leaves_of m) → FoundAt m l
 leaf_found_at m ok l i = all_in (FoundAt m) (leaves_of m) (all_right m ok) i
 
 -- each leaf of a message is what a lookup finds at its address
-pub leaf_found : (m : List ℕ) → reading m ≡ Passes → (l : Leaf) → In l (leaves_of m) → found m l.address ≡ record { answer = answered Passes; element = l.element }
+pub leaf_found : (m : List ℕ) → reading m ≡ passes → (l : Leaf) → In l (leaves_of m) → found m l.address ≡ Ok l.element
 leaf_found m ok l i = (leaf_found_at m ok l i).looked_up

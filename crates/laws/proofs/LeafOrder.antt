@@ -9,10 +9,9 @@ use native.Mathlib.Omega.{arith}
 use lib.Dec.{eqb}
 use lib.ListN.{length, get_or}
 use borrow.Author.Tests.{eqb-true, ne_eqb}
-use Rattle.alphabet.specs.Parts.{grown, split, standing}
-use Rattle.alphabet.specs.declared.answers.Check.TheVariants.{Passes}
-use Rattle.alphabet.specs.declared.parts.Part.TheVariants.{At}
-use Rattle.alphabet.proofs.PartLaws.{split_some}
+use Rattle.alphabet.specs.Answers.{passes}
+use Rattle.alphabet.specs.Parts.{grown, split, standing, from_to}
+use Rattle.alphabet.proofs.PartLaws.{part_same, split_some}
 use Rattle.reading.specs.Reading.{reading}
 use Rattle.reading.specs.Segments.{delimiters_of, field_separator, segments, segment_at}
 use Rattle.reading.proofs.Accepted.{accepted}
@@ -57,7 +56,7 @@ unfolding Spans
 spans_none from to h = h
 
 each_spans : (inner : ℕ → ℕ → List ℕ → List Leaf) (k at : ℕ) (ps : List (List ℕ))
-    → ((j s : ℕ) → standing at ps j ≡ At s (s + length (get_or ps j [])) → Spans s (s + length (get_or ps j []) + 1) (inner (k + j) s (get_or ps j []))) → Spans at (at + spanned ps) (each inner k at ps)
+    → ((j s : ℕ) → standing at ps j ≡ from_to s (s + length (get_or ps j [])) → Spans s (s + length (get_or ps j []) + 1) (inner (k + j) s (get_or ps j []))) → Spans at (at + spanned ps) (each inner k at ps)
 unfolding each standing spanned
 each_spans inner k at [] h = spans_none at (at + 0) (omega arith)
 each_spans inner k at (p ∷ ps) h =
@@ -83,7 +82,7 @@ split_spanned sep (b ∷ r) = go (eqb sep b) (split_spanned sep r)
     go false e = let n = grow (split sep r) (split_some sep r) in omega arith
 
 level_spans : (inner : ℕ → ℕ → List ℕ → List Leaf) (k at sep : ℕ) (bytes : List ℕ)
-    → ((j s : ℕ) → standing at (split sep bytes) j ≡ At s (s + length (get_or (split sep bytes) j [])) → Spans s (s + length (get_or (split sep bytes) j []) + 1) (inner (k + j) s (get_or (split sep bytes) j [])))
+    → ((j s : ℕ) → standing at (split sep bytes) j ≡ from_to s (s + length (get_or (split sep bytes) j [])) → Spans s (s + length (get_or (split sep bytes) j []) + 1) (inner (k + j) s (get_or (split sep bytes) j [])))
     → Spans at (at + length bytes + 1) (each inner k at (split sep bytes))
 level_spans inner k at sep bytes h =
     let n = split_spanned sep bytes in
@@ -125,16 +124,16 @@ header_spans ds f at bytes h = go (eqb f 1) (eqb f 2) refl
     go false false e = field_spans ds 0 f at bytes
 
 -- where the second of some parts begins, the first has ended
-first_ends : (at : ℕ) (ps : List (List ℕ)) (t u v : ℕ) → standing at ps 0 ≡ At t (t + length (get_or ps 0 [])) → standing at ps 1 ≡ At u v → (t ≡ at) × (t + length (get_or ps 0 []) + 1 ≡ u)
+first_ends : (at : ℕ) (ps : List (List ℕ)) (t u v : ℕ) → standing at ps 0 ≡ from_to t (t + length (get_or ps 0 [])) → standing at ps 1 ≡ from_to u v → (t ≡ at) × (t + length (get_or ps 0 []) + 1 ≡ u)
 unfolding standing
 first_ends at [] t u v e g = absurd (let z : ◌≡◌ {A = ℕ} 0 1 = cc in omega arith)
 first_ends at (p ∷ []) t u v e g = absurd (let z : ◌≡◌ {A = ℕ} 0 1 = cc in omega arith)
 first_ends at (p ∷ q ∷ ps) t u v e g =
-    let a : at ≡ t = cc in
-    let b : at + length p + 1 ≡ u = cc in
+    let a : at ≡ t = (part_same e).0 in
+    let b : at + length p + 1 ≡ u = (part_same g).0 in
     (sym a, omega arith)
 
-module _ (m : List ℕ) (ok : reading m ≡ Passes) where
+module _ (m : List ℕ) (ok : reading m ≡ passes) where
   abbrev ds : List ℕ
   ds = delimiters_of m
 
@@ -144,13 +143,13 @@ module _ (m : List ℕ) (ok : reading m ≡ Passes) where
       level_spans (in_part ds 0) 1 at (get_or ds 0 0) bytes
       (λ j t e. header_spans ds (1 + j) t (get_or (split (get_or ds 0 0) bytes) j []) (λ n. let z : j ≡ 0 = omega arith in named j t e z))
     where
-      second : standing at (split (get_or ds 0 0) bytes) 1 ≡ At 4 8
+      second : standing at (split (get_or ds 0 0) bytes) 1 ≡ from_to 4 8
       second = sym (part_standing m (field_separator m) h 1) ∙ sym (field_header m 0 (segment_at m 0) 2 refl (λ z. omega arith)) ∙ second_field m (accepted m ok)
 
       begun : at ≡ 0
-      begun = let e = sym h.place ∙ (first_segment m (accepted m ok)).0 in cc
+      begun = (part_same (sym h.place ∙ (first_segment m (accepted m ok)).0)).0
 
-      named : (j t : ℕ) → standing at (split (get_or ds 0 0) bytes) j ≡ At t (t + length (get_or (split (get_or ds 0 0) bytes) j [])) → j ≡ 0 → (t ≤ 3) × (3 ≤ t + length (get_or (split (get_or ds 0 0) bytes) j []))
+      named : (j t : ℕ) → standing at (split (get_or ds 0 0) bytes) j ≡ from_to t (t + length (get_or (split (get_or ds 0 0) bytes) j [])) → j ≡ 0 → (t ≤ 3) × (3 ≤ t + length (get_or (split (get_or ds 0 0) bytes) j []))
       named zero t e z =
           let x = first_ends at (split (get_or ds 0 0) bytes) t 4 8 e second in
           let x0 = x.0 in
@@ -163,7 +162,7 @@ module _ (m : List ℕ) (ok : reading m ≡ Passes) where
       (level_spans (in_part ds (suc s)) 0 at (get_or ds 0 0) bytes (λ j t e. other_spans ds (suc s) (0 + j) t (get_or (split (get_or ds 0 0) bytes) j []) (λ z. omega arith)))
 
 -- the leaves of a message that was read are listed in the order in which they begin, each once
-pub leaves_rising : (m : List ℕ) → reading m ≡ Passes → Rising 0 (leaves_of m)
+pub leaves_rising : (m : List ℕ) → reading m ≡ passes → Rising 0 (leaves_of m)
 unfolding leaves_of segment_at
 leaves_rising m ok =
     spans_rising 0 (0 + spanned (segments m)) (each (in_segment (delimiters_of m)) 0 0 (segments m))
@@ -221,7 +220,7 @@ same_leaves from (k ∷ ks) (l ∷ ls) h g same =
     ap₂ (λ (x : Leaf) (xs : List Leaf). x ∷ xs) e rest
 
 -- a list in this order, of exactly what lookups find at full addresses, is the list of the message's leaves
-pub leaves_only : (m : List ℕ) → reading m ≡ Passes → (ls : List Leaf) → Rising 0 ls → ((l : Leaf) → In l ls ↔ FoundAt m l) → ls ≡ leaves_of m
+pub leaves_only : (m : List ℕ) → reading m ≡ passes → (ls : List Leaf) → Rising 0 ls → ((l : Leaf) → In l ls ↔ FoundAt m l) → ls ≡ leaves_of m
 leaves_only m ok ls rising exactly =
     same_leaves 0 ls (leaves_of m) rising (leaves_rising m ok)
     (λ l. ((λ i. (leaf_exactly m ok l).1 ((exactly l).0 i)), (λ i. (exactly l).1 ((leaf_exactly m ok l).0 i))))

@@ -9,9 +9,9 @@ use native.Mathlib.Omega.{arith}
 use lib.Dec.{eqb}
 use lib.ListN.{length, get_or}
 use borrow.Author.Tests.{eqb-true, eqb-false, ne_eqb, lt-leb}
+use Rattle.std.specs.Prelude.{None, Some, Option}
 use Rattle.alphabet.specs.Parts.{split}
 use Rattle.alphabet.specs.declared.parts.Part.{Part}
-use Rattle.alphabet.specs.declared.parts.Part.TheVariants.{At, Absent}
 use Rattle.reading.specs.Segments.{delimiters_of, field_separator, segment_at}
 use Rattle.element.specs.Finding.{part_bytes}
 use Rattle.element.specs.Levels.{fixed, part_in, field_in, below, repetition_at, component_at, subcomponent_at, element_at}
@@ -26,7 +26,7 @@ use Rattle.element.proofs.RawLaws.{absent_means, part_in_bytes, segment_part_byt
 
 module _ (m : List ℕ) (sep : ℕ) where
   -- the bytes of a part below another
-  below_bytes : (p : Part) (k : ℕ) → Within m p → part_bytes m (below sep m p k) ≡ level sep k (part_bytes m p)
+  below_bytes : (p : Option Part) (k : ℕ) → Within m p → part_bytes m (below sep m p k) ≡ level sep k (part_bytes m p)
   unfolding below
   below_bytes p zero w = refl
   below_bytes p (suc k) w =
@@ -34,20 +34,20 @@ module _ (m : List ℕ) (sep : ℕ) where
       rw (ne_eqb (suc k) 0 (λ z. omega arith), e) (part_in_bytes sep m p k w)
 
   -- a part of a part that is there is absent past the last one
-  in_past : (p : Part) (k : ℕ) → part_in sep m p k ≡ Absent → (p ≡ Absent) ⊎ (length (split sep (part_bytes m p)) ≤ k)
-  in_past Absent k q = inl refl
-  in_past (At s e) k q = inr (absent_means sep m s e k q)
+  in_past : (p : Option Part) (k : ℕ) → part_in sep m p k ≡ None → (p ≡ None) ⊎ (length (split sep (part_bytes m p)) ≤ k)
+  in_past None k q = inl refl
+  in_past (Some part) k q = inr (absent_means sep m part.start part.end k q)
 
-  past_in : (p : Part) (k : ℕ) → (p ≡ Absent) ⊎ (length (split sep (part_bytes m p)) ≤ k) → part_in sep m p k ≡ Absent
-  past_in Absent k h = in_absent sep m Absent k refl
-  past_in (At s e) k h = ⊎_elim (λ q. absurd (let z : ◌≡◌ {A = ℕ} 0 1 = cc in omega arith)) (means_absent sep m s e k) h
+  past_in : (p : Option Part) (k : ℕ) → (p ≡ None) ⊎ (length (split sep (part_bytes m p)) ≤ k) → part_in sep m p k ≡ None
+  past_in None k h = in_absent sep m None k refl
+  past_in (Some part) k h = ⊎_elim (λ q. absurd (let z : ◌≡◌ {A = ℕ} 0 1 = cc in omega arith)) (means_absent sep m part.start part.end k) h
 
-  below_past : (p : Part) (k : ℕ) → below sep m p k ≡ Absent → (p ≡ Absent) ⊎ (length (split sep (part_bytes m p)) < k)
+  below_past : (p : Option Part) (k : ℕ) → below sep m p k ≡ None → (p ≡ None) ⊎ (length (split sep (part_bytes m p)) < k)
   unfolding below
   below_past p zero q = inl q
   below_past p (suc k) q = ⊎_elim inl (λ n. inr (omega arith)) (in_past p k q)
 
-  past_below : (p : Part) (k : ℕ) → (p ≡ Absent) ⊎ (length (split sep (part_bytes m p)) < k) → below sep m p k ≡ Absent
+  past_below : (p : Option Part) (k : ℕ) → (p ≡ None) ⊎ (length (split sep (part_bytes m p)) < k) → below sep m p k ≡ None
   unfolding below
   past_below p zero h = ⊎_elim (λ q. q) (λ n. absurd (omega arith)) h
   past_below p (suc k) h = past_in p k (⊎_elim inl (λ n. inr (omega arith)) h)
@@ -62,19 +62,19 @@ split_further a h = at (eqb a.segment 0) refl
     at true e = let l = h (eqb-true a.segment 0 e) in rw (e, lt-leb a.field 2 (omega arith))
 
 module _ (m : List ℕ) (a : Address) (four : 4 ≤ length m) (further : SplitFurther a) where
-  abbrev segment_part : Part
+  abbrev segment_part : Option Part
   segment_part = segment_at m a.segment
 
-  abbrev field_part : Part
+  abbrev field_part : Option Part
   field_part = field_in m a.segment segment_part a.field
 
-  abbrev repetition_part : Part
+  abbrev repetition_part : Option Part
   repetition_part = below (get_or (delimiters_of m) 2 0) m field_part a.repetition
 
-  abbrev component_part : Part
+  abbrev component_part : Option Part
   component_part = below (get_or (delimiters_of m) 1 0) m repetition_part a.component
 
-  abbrev subcomponent_part : Part
+  abbrev subcomponent_part : Option Part
   subcomponent_part = below (get_or (delimiters_of m) 4 0) m component_part a.subcomponent
 
   element_part : element_at m a ≡ subcomponent_part
@@ -145,42 +145,42 @@ module _ (m : List ℕ) (a : Address) (four : 4 ≤ length m) (further : SplitFu
   count : (sep : ℕ) {b c : List ℕ} → b ≡ c → length (split sep b) ≡ length (split sep c)
   count sep e = ap (λ (x : List ℕ). length (split sep x)) e
 
-  module _ (stands : segment_part ≡ Absent → ⊥) where
-    past_field : field_part ≡ Absent → Past m a
+  module _ (stands : segment_part ≡ None → ⊥) where
+    past_field : field_part ≡ None → Past m a
     past_field q =
         ⊎_elim
         (λ s. absurd (stands s))
         (λ n. no_field (let c = count (field_separator m) segment_is in omega arith))
         (in_past m (field_separator m) segment_part (field_place a) (sym field_part_lem ∙ q))
 
-    past_repetition : repetition_part ≡ Absent → Past m a
+    past_repetition : repetition_part ≡ None → Past m a
     past_repetition q =
         ⊎_elim past_field
         (λ n. no_repetition (let c = count (get_or (delimiters_of m) 2 0) field_is in omega arith))
         (below_past m (get_or (delimiters_of m) 2 0) field_part a.repetition q)
 
-    past_component : component_part ≡ Absent → Past m a
+    past_component : component_part ≡ None → Past m a
     past_component q =
         ⊎_elim past_repetition
         (λ n. no_component (let c = count (get_or (delimiters_of m) 1 0) repetition_is in omega arith))
         (below_past m (get_or (delimiters_of m) 1 0) repetition_part a.component q)
 
-    past_element : element_at m a ≡ Absent → Past m a
+    past_element : element_at m a ≡ None → Past m a
     past_element q =
         ⊎_elim past_component
         (λ n. no_subcomponent (let c = count (get_or (delimiters_of m) 4 0) component_is in omega arith))
         (below_past m (get_or (delimiters_of m) 4 0) component_part a.subcomponent (sym element_part ∙ q))
 
-    absent_component : component_part ≡ Absent → element_at m a ≡ Absent
+    absent_component : component_part ≡ None → element_at m a ≡ None
     absent_component q = element_part ∙ past_below m (get_or (delimiters_of m) 4 0) component_part a.subcomponent (inl q)
 
-    absent_repetition : repetition_part ≡ Absent → element_at m a ≡ Absent
+    absent_repetition : repetition_part ≡ None → element_at m a ≡ None
     absent_repetition q = absent_component (past_below m (get_or (delimiters_of m) 1 0) repetition_part a.component (inl q))
 
-    absent_field : field_part ≡ Absent → element_at m a ≡ Absent
+    absent_field : field_part ≡ None → element_at m a ≡ None
     absent_field q = absent_repetition (past_below m (get_or (delimiters_of m) 2 0) field_part a.repetition (inl q))
 
-    element_past : Past m a → element_at m a ≡ Absent
+    element_past : Past m a → element_at m a ≡ None
     element_past (no_field n) =
         let c = count (field_separator m) segment_is in
         absent_field (field_part_lem ∙ past_in m (field_separator m) segment_part (field_place a) (inr (omega arith)))
@@ -195,5 +195,5 @@ module _ (m : List ℕ) (a : Address) (four : 4 ≤ length m) (further : SplitFu
         element_part ∙ past_below m (get_or (delimiters_of m) 4 0) component_part a.subcomponent (inr (omega arith))
 
     -- it is absent exactly where a level has too few parts
-    pub past_exactly : (element_at m a ≡ Absent) ↔ Past m a
+    pub past_exactly : (element_at m a ≡ None) ↔ Past m a
     past_exactly = (past_element, element_past)

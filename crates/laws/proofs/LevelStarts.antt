@@ -6,10 +6,10 @@ use native.Mathlib.Nat.{add-zero, zero-add}
 use native.Mathlib.Omega.{arith}
 use lib.ListN.{length, take, length-append}
 use borrow.Author.Tests.{ne_eqb}
+use Rattle.std.specs.Prelude.{None, Some, Option}
 use Rattle.alphabet.specs.Bytes.{carriage_return}
-use Rattle.alphabet.specs.Parts.{split, standing, part_at}
+use Rattle.alphabet.specs.Parts.{split, standing, part_at, from_to}
 use Rattle.alphabet.specs.declared.parts.Part.{Part}
-use Rattle.alphabet.specs.declared.parts.Part.TheVariants.{At, Absent}
 use Rattle.reading.specs.Message.{ended}
 use Rattle.reading.specs.Segments.{segments, segment_at}
 use Rattle.element.specs.Finding.{part_bytes}
@@ -17,9 +17,9 @@ use Rattle.element.specs.Levels.{between, moved, part_in, below}
 use Rattle.laws.specs.Elements.{spanned, before, before_level}
 
 -- a part that is there begins at n
-abbrev pub Begins : Part → ℕ → Type 0
-Begins Absent n = Unit {0}
-Begins (At s e) n = s ≡ n
+abbrev pub Begins : Option Part → ℕ → Type 0
+Begins None n = Unit {0}
+Begins (Some part) n = part.start ≡ n
 
 standing_begins : (at : ℕ) (ps : List (List ℕ)) (k : ℕ) → Begins (standing at ps k) (at + spanned (take k ps))
 unfolding standing spanned
@@ -48,22 +48,22 @@ begins_segment m k = subst (Begins (standing 0 (segments m) k)) (sym (ended_leng
 -- ---- one level
 
 module _ (sep : ℕ) (m : List ℕ) where
-  moved_begins : (s n : ℕ) (p : Part) → Begins p n → Begins (moved s p) (s + n)
-  moved_begins s n Absent h = tt
-  moved_begins s n (At b f) h = ap (λ (i : ℕ). s + i) h
+  moved_begins : (s n : ℕ) (p : Option Part) → Begins p n → Begins (moved s p) (s + n)
+  moved_begins s n None h = tt
+  moved_begins s n (Some part) h = ap (λ (i : ℕ). s + i) h
 
   part_begins : (l : List ℕ) (k : ℕ) → Begins (part_at sep l k) (before sep k l)
   unfolding part_at
   part_begins l k = first_begins (split sep l) k
 
-  pub begins_in : (p : Part) (k n : ℕ) → Begins p n → Begins (part_in sep m p k) (n + before sep k (part_bytes m p))
+  pub begins_in : (p : Option Part) (k n : ℕ) → Begins p n → Begins (part_in sep m p k) (n + before sep k (part_bytes m p))
   unfolding part_in
-  begins_in Absent k n h = tt
-  begins_in (At s e) k n h =
-      subst (λ (i : ℕ). Begins (part_in sep m (At s e) k) (i + before sep k (between m s e))) h
-      (moved_begins s (before sep k (between m s e)) (part_at sep (between m s e) k) (part_begins (between m s e) k))
+  begins_in None k n h = tt
+  begins_in (Some part) k n h =
+      subst (λ (i : ℕ). Begins (part_in sep m (from_to part.start part.end) k) (i + before sep k (between m part.start part.end))) h
+      (moved_begins part.start (before sep k (between m part.start part.end)) (part_at sep (between m part.start part.end) k) (part_begins (between m part.start part.end) k))
 
-  pub begins_below : (p : Part) (k n : ℕ) → Begins p n → Begins (below sep m p k) (n + before_level sep k (part_bytes m p))
+  pub begins_below : (p : Option Part) (k n : ℕ) → Begins p n → Begins (below sep m p k) (n + before_level sep k (part_bytes m p))
   unfolding below
   begins_below p zero n h = subst (Begins p) (sym (add-zero n)) h
   begins_below p (suc k) n h =

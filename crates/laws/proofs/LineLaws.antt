@@ -9,12 +9,12 @@ use lib.Dec.{eqb}
 use lib.ListN.{length, get_or, drop, length-append, get_or-append}
 use lib.Seq.{get_or_at}
 use borrow.Author.Tests.{eq-eqb, eqb-true, eqb-false}
+use Rattle.alphabet.specs.Answers.{passes}
 use Rattle.alphabet.specs.Bytes.{carriage_return, printable, allowed}
 use Rattle.alphabet.specs.Delimiters.{first_wrong_delimiter}
 use Rattle.alphabet.specs.Limits.{message_limit, segment_limit}
 use Rattle.alphabet.specs.Lists.{find}
 use Rattle.alphabet.specs.Parts.{split, join}
-use Rattle.alphabet.specs.declared.answers.Check.TheVariants.{Passes}
 use Rattle.alphabet.proofs.BoolLaws.{false_true}
 use Rattle.alphabet.proofs.PartLaws.{split_join}
 use Rattle.reading.specs.Segments.{segments, delimiters_of, field_separator, named, is_header}
@@ -173,7 +173,7 @@ lines_message {ds = ds} {ls = []} x fits = none x
 lines_message {ds = ds} {ls = l ∷ rest} x fits = is_message ds l rest x fits
 
 -- "reads back through our reader"
-pub lines_read : {ds : List ℕ} {ls : List (List ℕ)} → Lines ds ls → length (ended ls) ≤ message_limit → reading (ended ls) ≡ Passes
+pub lines_read : {ds : List ℕ} {ls : List (List ℕ)} → Lines ds ls → length (ended ls) ≤ message_limit → reading (ended ls) ≡ passes
 lines_read {ls = ls} x fits = accepting (ended ls) (lines_message x fits)
 
 -- ---- lines that are joined of parts

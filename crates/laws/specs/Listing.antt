@@ -1,8 +1,6 @@
 -- What it is to be one of a message's leaves, said by a lookup: so that the list of all leaves, which splits level by
 -- level, is not its own meaning.
-use Rattle.std.specs.Prelude.{◌≡◌, List, [], ◌∷◌, ℕ, ◌+◌, ◌≤◌}
-use Rattle.alphabet.specs.Answers.{answered}
-use Rattle.alphabet.specs.declared.answers.Check.TheVariants.{Passes}
+use Rattle.std.specs.Prelude.{◌≡◌, List, [], ◌∷◌, ℕ, ◌+◌, ◌≤◌, Ok}
 use Rattle.element.specs.Finding.{found}
 use Rattle.element.specs.declared.states.State.TheVariants.{Absent}
 use Rattle.leaves.specs.Leaves.{Leaf}
@@ -16,7 +14,7 @@ pub data In (l : Leaf) : List Leaf → Type 0 where
 -- find it absent
 pub record FoundAt (m : List ℕ) (l : Leaf) : Type 0 where
   pub full : 1 ≤ l.address.subcomponent
-  pub looked_up : found m l.address ≡ record { answer = answered Passes; element = l.element }
+  pub looked_up : found m l.address ≡ Ok l.element
   pub not_absent : l.element.state ≡ Absent → ⊥
 
 -- none begins before `from`, and each begins behind the place where the one before it does: they stand in the message's
