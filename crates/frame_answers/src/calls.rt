@@ -1,38 +1,42 @@
 // One call of the frame reader, with all that it gives back.
-ghost use Rattle.std.specs.Prelude.{◌+◌, ◌≤◌, length};
-ghost use Rattle.answering.specs.Answers.{Roomy};
+ghost use Rattle.std.specs.Prelude.{◌+◌, ◌≤◌, ◌≡◌, length};
+ghost use Rattle.answering.specs.Answers.{Fits};
 
 use crate::states;
-use answering::printing;
+use crate::states::Numbers;
+use answering::Answer;
 use frames::{FrameState, Stop};
 
-// Puts what the reader stopped at.
-fn put_stop(answer: &mut [u8], at: usize, stop: Stop, end: u8) -> usize
-    requires { at + 22 ≤ length answer.old }
-    ensures { result ≤ at + 22 }
+// Puts the number of a refusal, the bytes used, what the reader stopped at and the frame's length.
+fn put_fed(answer: &mut Answer, number: u8, used: usize, stopped_at: &[u8], size: usize)
+    requires short { length stopped_at.now ≤ 5 }
+    requires room { Fits answer.old 69 }
+    ensures { length answer.new ≤ length answer.old + 69 }
 {
-    match stop {
-        Stop::More => printing::put_text(answer, at, b"more", end),
-        Stop::Frame => printing::put_text(answer, at, b"frame", end),
-        Stop::Drop => printing::put_text(answer, at, b"drop", end),
-        Stop::Refused => printing::put_nothing(answer, at, end),
-    }
+    answer.put_number(u64::from(number), b' ');
+    answer.put_number(used as u64, b' ');
+    answer.put_word(stopped_at, b' ');
+    answer.put_number(size as u64, b' ');
 }
 
-// Calls the reader once, and puts what came back: the number, the bytes used, what it stopped at and the frame's
-// length, then the state and the buffer.
-pub fn put_call(state: FrameState, piece: &[u8], buffer: &mut [u8], answer: &mut [u8]) -> usize
+// Calls the reader once, and puts what came back, then the state and the buffer. Where it refuses the state it hands
+// nothing back, and the state stays.
+pub fn put_call(answer: &mut Answer, begun: Numbers, piece: &[u8], buffer: &mut [u8])
     requires buffer_len_bound { length buffer.old ≤ 65536 }
-    requires roomy { Roomy answer.old }
-    ensures { result ≤ length answer.new }
+    requires blank { length answer.old ≡ 0 }
 {
-    let fed = state.feed(piece, buffer);
-    let found = fed.answer;
-    let kind = found.kind;
-    let stop = fed.stop;
-    let second = printing::put_plain(answer, 0, alphabet::number(kind) as u64, b' ');
-    let third = printing::put_plain(answer, second, fed.used as u64, b' ');
-    let fourth = put_stop(answer, third, stop, b' ');
-    let fifth = printing::put_plain(answer, fourth, found.length as u64, b' ');
-    states::put_state(answer, fifth, fed.state, buffer)
+    match FrameState::from(begun).feed(piece, buffer) {
+        Ok(fed) => {
+            match fed.stop {
+                None => put_fed(answer, 0, fed.used, b"more", 0),
+                Some(Stop::Frame(size)) => put_fed(answer, 0, fed.used, b"frame", size),
+                Some(Stop::Drop(kind)) => put_fed(answer, u8::from(kind), fed.used, b"drop", 0),
+            }
+            states::put_state(answer, Numbers::from(fed.state), buffer);
+        }
+        Err(kind) => {
+            put_fed(answer, u8::from(kind), 0, b"-", 0);
+            states::put_state(answer, begun, buffer);
+        }
+    }
 }

@@ -2,96 +2,63 @@
 // behind it. An event is put where there is room for it and for the end of the answer. There always is: an event takes
 // at most three bytes of the answer for two of the question's, so all of them at most 450,000 of its 600,000. Were
 // there none, the line would be no question; so no proof has to count what all events take.
-ghost use Rattle.std.specs.Prelude.{◌+◌, ◌≤◌, length};
-ghost use Rattle.answering.specs.Answers.{Roomy};
-ghost use Rattle.frame_answers.specs.Rooms.{ending, Reaching};
+ghost use Rattle.std.specs.Prelude.{◌≤◌, length, OnSome};
+ghost use Rattle.answering.specs.Answers.{Fits};
+ghost use Rattle.frame_answers.specs.Rooms.{ending};
 
-use answering::{hex, printing};
-use asking::bytes;
-use frames::{Fed, FrameState, Stop};
+use alphabet::Refusal;
+use answering::Answer;
+use frames::Stop;
 
-// The room that the end of an answer takes: three numbers of at most 22 bytes each, the buffer, and the line's end.
+// The room that the end of an answer takes: three numbers of at most 21 bytes each, the buffer, and the line's end.
 const ENDING: usize = 131_140;
 
-// How far the pieces have come: the reader's state, and the place behind the events that were put; or no answer is to
-// be given.
-#[derive(Drop)]
-pub enum Progress {
-    Reached { state: FrameState, place: usize },
-    Refused,
-}
-
-// The frame at the front of a buffer. The reader never says that it is longer than the buffer.
-fn front_of(buffer: &[u8], size: usize) -> &[u8]
-    ensures { length result.now ≤ length buffer.now }
+// Puts a frame.
+fn put_frame(answer: &mut Answer, frame: &[u8]) -> Option<()>
+    requires { length frame.now ≤ 65536 }
+    ensures { OnSome result (Fits answer.new ending) }
 {
-    if buffer.len() < size {
-        return buffer;
+    if answer.room() < 2 * frame.len() + 3 + ENDING {
+        return None;
     }
-    &buffer[..size]
-}
-
-// Puts a frame, behind which the reader is in a state.
-fn put_frame(state: FrameState, frame: &[u8], answer: &mut [u8], at: usize) -> Progress
-    requires frame_len_bound { length frame.now ≤ 65536 }
-    requires at_in_bounds { at ≤ length answer.old }
-    ensures { Reaching (length answer.new) result }
-{
-    if answer.len() - at < 2 * frame.len() + 3 + ENDING {
-        return Progress::Refused;
-    }
-    let first = bytes::put(answer, at, b"f");
-    let behind = hex::encode(answer, first, frame);
-    Progress::Reached {
-        state: state,
-        place: bytes::put(answer, behind, b","),
-    }
+    answer.put(b"f");
+    answer.put_bytes(frame, b',');
+    Some(())
 }
 
 // Puts the number of a dropped frame, likewise.
-fn put_dropped(state: FrameState, number: u64, answer: &mut [u8], at: usize) -> Progress
-    requires { at ≤ length answer.old }
-    ensures { Reaching (length answer.new) result }
+fn put_dropped(answer: &mut Answer, kind: Refusal) -> Option<()>
+    ensures { OnSome result (Fits answer.new ending) }
 {
-    if answer.len() - at < 22 + ENDING {
-        return Progress::Refused;
+    if answer.room() < 21 + ENDING {
+        return None;
     }
-    Progress::Reached {
-        state: state,
-        place: printing::put_plain(answer, at, number, b','),
-    }
+    answer.put_number(u64::from(u8::from(kind)), b',');
+    Some(())
 }
 
-// Puts what the reader stopped at, if it is an event. The reader refuses no state that it handed back itself.
-pub fn put_event(fed: Fed, buffer: &[u8], answer: &mut [u8], at: usize) -> Progress
+// Puts what the reader stopped at, if it did. A frame stands at the front of the buffer; the reader never says that it
+// is longer than the buffer.
+pub fn put_event(answer: &mut Answer, stop: Option<Stop>, buffer: &[u8]) -> Option<()>
     requires buffer_len_bound { length buffer.now ≤ 65536 }
-    requires ending_in_bounds { at + ending ≤ length answer.old }
-    ensures { Reaching (length answer.new) result }
+    requires room { Fits answer.old ending }
+    ensures { OnSome result (Fits answer.new ending) }
 {
-    let found = fed.answer;
-    let kind = found.kind;
-    let stop = fed.stop;
-    let state = fed.state;
     match stop {
-        Stop::More => Progress::Reached {
-            state: state,
-            place: at,
-        },
-        Stop::Frame => put_frame(state, front_of(buffer, found.length), answer, at),
-        Stop::Drop => put_dropped(state, alphabet::number(kind) as u64, answer, at),
-        Stop::Refused => Progress::Refused,
+        None => Some(()),
+        Some(Stop::Frame(size)) => put_frame(answer, &buffer[..size.min(buffer.len())]),
+        Some(Stop::Drop(kind)) => put_dropped(answer, kind),
     }
 }
 
 // Ends the word of the events with a space, in the place of the last comma; where there is none the word is `-`.
-pub fn end_events(answer: &mut [u8], at: usize) -> usize
-    requires roomy { Roomy answer.old }
-    requires ending_in_bounds { at + ending ≤ length answer.old }
-    ensures { result + ending ≤ length answer.new }
+pub fn end_events(answer: &mut Answer)
+    requires { Fits answer.old ending }
+    ensures { Fits answer.new ending }
 {
-    if at == 0 {
-        return printing::put_nothing(answer, at, b' ');
+    if answer.is_empty() {
+        answer.put_nothing(b' ');
+    } else {
+        answer.end_with(b' ');
     }
-    answer[at - 1] = b' ';
-    at
 }

@@ -1,20 +1,48 @@
 // The state that the frame reader handed back, and the buffer: every answer about frames ends with them.
-ghost use Rattle.std.specs.Prelude.{◌+◌, ◌≤◌, length};
+ghost use Rattle.std.specs.Prelude.{◌≤◌, length};
+ghost use Rattle.answering.specs.Answers.{Fits};
 ghost use Rattle.frame_answers.specs.Rooms.{ending};
 
-use answering::{hex, printing};
-use asking::bytes;
-use frames::FrameState;
+use answering::Answer;
+use frames::{FrameState, Mode};
+
+// The three numbers of a state. A question may hand in a mode that is none, and is shown it again.
+#[derive(Clone, Copy)]
+pub struct Numbers {
+    pub mode: u64,
+    pub held: u64,
+    pub count: u64,
+}
+
+// The numbers of a state.
+impl From<FrameState> for Numbers {
+    fn from(state: FrameState) -> Numbers {
+        Numbers {
+            mode: u64::from(state.mode),
+            held: state.held as u64,
+            count: state.count,
+        }
+    }
+}
+
+// The state that numbers say.
+impl From<Numbers> for FrameState {
+    fn from(numbers: Numbers) -> FrameState {
+        FrameState {
+            mode: Mode::from(numbers.mode),
+            held: numbers.held as usize,
+            count: numbers.count,
+        }
+    }
+}
 
 // Puts the mode, the bytes held and the count, and the whole buffer.
-pub fn put_state(answer: &mut [u8], at: usize, state: FrameState, buffer: &[u8]) -> usize
-    requires ending_in_bounds { at + ending ≤ length answer.old }
+pub fn put_state(answer: &mut Answer, state: Numbers, buffer: &[u8])
+    requires room { Fits answer.old ending }
     requires buffer_len_bound { length buffer.now ≤ 65536 }
-    ensures { result ≤ length answer.new }
 {
-    let second = printing::put_plain(answer, at, state.mode, b' ');
-    let third = printing::put_plain(answer, second, state.held as u64, b' ');
-    let fourth = printing::put_plain(answer, third, state.count, b' ');
-    let end = hex::encode(answer, fourth, buffer);
-    bytes::put(answer, end, b"\n")
+    answer.put_number(state.mode, b' ');
+    answer.put_number(state.held, b' ');
+    answer.put_number(state.count, b' ');
+    answer.put_bytes(buffer, b'\n');
 }

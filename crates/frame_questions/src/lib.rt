@@ -7,4 +7,4 @@ mod calls;
 mod pieces;
 mod verbs;
 
-pub use verbs::{Asked, Meaning, answer, meaning_of};
+pub use verbs::Asked;
