@@ -9,12 +9,12 @@ use lib.Dec.{leb, eqb}
 use lib.ListN.{length, get_or, take, drop, length-append}
 use lib.Seq.{take_all, take-add, take_at, drop_at, drop-drop}
 use borrow.Author.Tests.{leb-true, le-leb, eq-eqb}
+use Rattle.std.specs.Prelude.{Some, None, Option}
 use Rattle.alphabet.specs.Bytes.{from_to}
 use Rattle.alphabet.specs.Digits.{all_digits, decimal}
 use Rattle.alphabet.proofs.BoolLaws.{false_true, and_both, both_and, from_to_lem}
 use Rattle.alphabet.proofs.DigitLaws.{digits_append}
 use Rattle.calendar.specs.Calendar.{valid_clock, valid_offset}
-use Rattle.calendar.specs.declared.figures.Figure.TheVariants.{NotSent, Sent}
 use Rattle.calendar.specs.declared.figures.Sign.{Sign}
 use Rattle.calendar.specs.declared.figures.Clock.{Clock}
 use Rattle.calendar.specs.declared.figures.Offset.{Offset}
@@ -47,9 +47,9 @@ pub record IsClock (n : ℕ) (l : List ℕ) (c : Clock) : Type 0 where
 record IsSeconds (l : List ℕ) (h m s : ℕ) : Type 0 where
   digits : all_digits l ≡ true
   long : length l ≡ 6
-  hour : figure_at l 0 2 ≡ Sent h
-  minute : figure_at l 2 2 ≡ Sent m
-  second : figure_at l 4 2 ≡ Sent s
+  hour : figure_at l 0 2 ≡ Some h
+  minute : figure_at l 2 2 ≡ Some m
+  second : figure_at l 4 2 ≡ Some s
 
 is_seconds : {hh mm ss : List ℕ} {h m s : ℕ} → Hour hh h → Minute mm m → Second ss s → IsSeconds (hh ++ (mm ++ ss)) h m s
 is_seconds {hh} {mm} {ss} hour minute second =
@@ -91,7 +91,6 @@ is_minutes (to_minute {hh} {mm} hour minute) =
             minute = (figure_past hh mm 2 0 2 a1 ∙ figure_alone minute.0) i;
             second = figure_not (hh ++ mm) 4 2 (omega arith) i;
             fraction = fraction_not [] refl i;
-            digits = 0;
           };
       valid = both_and (within hour.1 hour.2) (both_and (within minute.1 minute.2) refl);
     })
@@ -105,7 +104,7 @@ is_minutes (to_second {hh} {mm} {ss} hour minute second) =
       long = f.long;
       pointed = no_point;
       formed = fraction_none true [] refl;
-      figures = λ i. record { hour = f.hour i; minute = f.minute i; second = f.second i; fraction = fraction_not [] refl i; digits = 0 };
+      figures = λ i. record { hour = f.hour i; minute = f.minute i; second = f.second i; fraction = fraction_not [] refl i };
       valid = both_and (within hour.1 hour.2) (both_and (within minute.1 minute.2) (within second.1 second.2));
     })
 is_minutes (to_fraction {hh} {mm} {ss} {behind} {count = count} hour minute second fraction least most) =
@@ -127,13 +126,12 @@ is_minutes (to_fraction {hh} {mm} {ss} {behind} {count = count} hour minute seco
             hour = f.hour i;
             minute = f.minute i;
             second = f.second i;
-            fraction = (fraction_sent (46 ∷ behind) some ∙ ap Sent d.2) i;
-            digits = k i;
+            fraction = (fraction_sent (46 ∷ behind) some ∙ (λ j. Some (record { value = d.2 j; digits = k j }))) i;
           };
       valid = both_and (within hour.1 hour.2) (both_and (within minute.1 minute.2) (within second.1 second.2));
     })
 
-pub is_hour : {hh : List ℕ} {h : ℕ} → Hour hh h → IsClock 2 hh (record { hour = Sent h; minute = NotSent; second = NotSent; fraction = NotSent; digits = 0 })
+pub is_hour : {hh : List ℕ} {h : ℕ} → Hour hh h → IsClock 2 hh (record { hour = Some h; minute = None; second = None; fraction = None })
 unfolding clock_of valid_clock
 is_hour {hh} hour =
     let a = says_decimal hour.0 in
@@ -152,7 +150,6 @@ is_hour {hh} hour =
             minute = figure_not hh 2 2 (omega arith) i;
             second = figure_not hh 4 2 (omega arith) i;
             fraction = fraction_not [] refl i;
-            digits = 0;
           };
       valid = both_and (within hour.1 hour.2) refl;
     }
@@ -167,8 +164,8 @@ pub hour_spells : (f t : List ℕ) → all_digits f ≡ true → length f ≡ 2 
 unfolding clock_of valid_clock
 hour_spells f [] e n k v =
     let h = decimal (take 2 f) in
-    let q : clock_of f 0 [] ≡ record { hour = Sent h; minute = NotSent; second = NotSent; fraction = NotSent; digits = 0 } =
-    λ i. record { hour = figure_sent f 0 2 (omega arith) i; minute = figure_not f 2 2 (omega arith) i; second = figure_not f 4 2 (omega arith) i; fraction = fraction_not [] refl i; digits = 0 } in
+    let q : clock_of f 0 [] ≡ record { hour = Some h; minute = None; second = None; fraction = None } =
+    λ i. record { hour = figure_sent f 0 2 (omega arith) i; minute = figure_not f 2 2 (omega arith) i; second = figure_not f 4 2 (omega arith) i; fraction = fraction_not [] refl i } in
     let hour = from_to_lem 0 23 h (and_both (from_to 0 23 h) _ (ap valid_clock (sym q) ∙ v)).0 in
     subst (λ (x : List ℕ). SpeltClock x (clock_of f 0 [])) (take_all 2 f (omega arith) ∙ sym (append-nil f))
     (subst (SpeltClock _) (sym q) (to_hour (piece_says f 0 2 e (omega arith), hour.0, hour.1)))
@@ -179,8 +176,8 @@ unfolding clock_of valid_clock
 minute_spells f [] e n k v =
     let h = decimal (take 2 f) in
     let m = decimal (take 2 (drop 2 f)) in
-    let q : clock_of f 0 [] ≡ record { hour = Sent h; minute = Sent m; second = NotSent; fraction = NotSent; digits = 0 } =
-    λ i. record { hour = figure_sent f 0 2 (omega arith) i; minute = figure_sent f 2 2 (omega arith) i; second = figure_not f 4 2 (omega arith) i; fraction = fraction_not [] refl i; digits = 0 } in
+    let q : clock_of f 0 [] ≡ record { hour = Some h; minute = Some m; second = None; fraction = None } =
+    λ i. record { hour = figure_sent f 0 2 (omega arith) i; minute = figure_sent f 2 2 (omega arith) i; second = figure_not f 4 2 (omega arith) i; fraction = fraction_not [] refl i } in
     let w = and_both (from_to 0 23 h) _ (ap valid_clock (sym q) ∙ v) in
     let hour = from_to_lem 0 23 h w.0 in
     let minute = from_to_lem 0 59 m (and_both (from_to 0 59 m) _ w.1).0 in
@@ -212,8 +209,8 @@ second_spells f t e n k begins v = at t k begins (both (ap valid_clock (sym (clo
     s : ℕ
     s = decimal (take 2 (drop 4 f))
 
-    clock : (t : List ℕ) → clock_of f 0 t ≡ record { hour = Sent h; minute = Sent m; second = Sent s; fraction = fraction_of t; digits = length t - 1 }
-    clock t = λ i. record { hour = figure_sent f 0 2 (omega arith) i; minute = figure_sent f 2 2 (omega arith) i; second = figure_sent f 4 2 (omega arith) i; fraction = fraction_of t; digits = length t - 1 }
+    clock : (t : List ℕ) → clock_of f 0 t ≡ record { hour = Some h; minute = Some m; second = Some s; fraction = fraction_of t }
+    clock t = λ i. record { hour = figure_sent f 0 2 (omega arith) i; minute = figure_sent f 2 2 (omega arith) i; second = figure_sent f 4 2 (omega arith) i; fraction = fraction_of t }
 
     both : (from_to 0 23 h && (from_to 0 59 m && from_to 0 59 s)) ≡ true → Hour (take 2 f) h × Minute (take 2 (drop 2 f)) m × Second (take 2 (drop 4 f)) s
     both w =
@@ -226,7 +223,7 @@ second_spells f t e n k begins v = at t k begins (both (ap valid_clock (sym (clo
 
     at : (t : List ℕ) → fraction_form true t ≡ true → ((length t ≡ 0 → ⊥) → get_or t 0 0 ≡ 46) → Hour (take 2 f) h × Minute (take 2 (drop 2 f)) m × Second (take 2 (drop 4 f)) s → SpeltMinutes (f ++ t) (clock_of f 0 t)
     at [] k begins g =
-        let q = clock [] ∙ (λ i. record { hour = Sent h; minute = Sent m; second = Sent s; fraction = fraction_not [] refl i; digits = 0 }) in
+        let q = clock [] ∙ (λ i. record { hour = Some h; minute = Some m; second = Some s; fraction = fraction_not [] refl i }) in
         subst (λ (x : List ℕ). SpeltMinutes x (clock_of f 0 []))
         (ap (λ (x : List ℕ). take 2 f ++ (take 2 (drop 2 f) ++ x)) (sym (append-nil (take 2 (drop 4 f)))) ∙ six f [] n)
         (subst (SpeltMinutes _) (sym q) (to_second g.0 g.1 g.2))
@@ -238,7 +235,7 @@ second_spells f t e n k begins v = at t k begins (both (ap valid_clock (sym (clo
         let u0 = u.0 in
         let u1 = u.1 in
         let j : suc (length r) - 1 ≡ length r = omega arith in
-        let q = clock (b ∷ r) ∙ (λ i. record { hour = Sent h; minute = Sent m; second = Sent s; fraction = fraction_sent (b ∷ r) some i; digits = j i }) in
+        let q = clock (b ∷ r) ∙ (λ i. record { hour = Some h; minute = Some m; second = Some s; fraction = (fraction_sent (b ∷ r) some ∙ (λ k. Some (record { value = decimal r; digits = j k }))) i }) in
         subst (λ (x : List ℕ). SpeltMinutes x (clock_of f 0 (b ∷ r))) (ap (λ (x : ℕ). take 2 f ++ (take 2 (drop 2 f) ++ (take 2 (drop 4 f) ++ (x ∷ r)))) (sym p) ∙ six f (b ∷ r) n)
         (subst (SpeltMinutes _) (sym q) (to_fraction g.0 g.1 g.2 (decimal_says r w.1) (omega arith) (omega arith)))
 
@@ -249,7 +246,7 @@ pub data Zone : List ℕ → Type 0 where
   plus_sign : {r : List ℕ} → all_digits r ≡ true → Zone (43 ∷ r)
   minus_sign : {r : List ℕ} → all_digits r ≡ true → Zone (45 ∷ r)
 
-pub record IsOffset (z : List ℕ) (o : Offset) : Type 0 where
+pub record IsOffset (z : List ℕ) (o : Option Offset) : Type 0 where
   pub signed : Zone z
   pub formed : zone_form z ≡ true
   pub figures : offset_of z ≡ o
@@ -279,15 +276,15 @@ is_four b {hh} {mm} {h} {m} hour minute =
       valid = both_and (le-leb h 14 hour.2) (le-leb m 59 minute.2);
     }
 
-pub is_offset : {z : List ℕ} {o : Offset} → SpeltOffset z o → IsOffset z o
+pub is_offset : {z : List ℕ} {o : Option Offset} → SpeltOffset z o → IsOffset z o
 is_offset nothing = record { signed = no_sign; formed = zone_none [] refl; figures = offset_not [] refl; valid = refl }
 is_offset (plus {hh} {mm} hour minute) =
     let f = is_four 43 hour minute in
-    let q = offset_plus (43 ∷ (hh ++ mm)) (λ x. omega arith) (λ x. omega arith) ∙ (λ i. record { sign = Sign.Plus; hours = f.hours i; minutes = f.minutes i }) in
+    let q = offset_plus (43 ∷ (hh ++ mm)) (λ x. omega arith) (λ x. omega arith) ∙ (λ i. Some (record { sign = Sign.Plus; hours = f.hours i; minutes = f.minutes i })) in
     record { signed = plus_sign f.digits; formed = zone_some (43 ∷ (hh ++ mm)) (λ x. omega arith) ∙ f.formed; figures = q; valid = f.valid }
 is_offset (minus {hh} {mm} hour minute) =
     let f = is_four 45 hour minute in
-    let q = offset_minus (45 ∷ (hh ++ mm)) (λ x. omega arith) refl ∙ (λ i. record { sign = Sign.Minus; hours = f.hours i; minutes = f.minutes i }) in
+    let q = offset_minus (45 ∷ (hh ++ mm)) (λ x. omega arith) refl ∙ (λ i. Some (record { sign = Sign.Minus; hours = f.hours i; minutes = f.minutes i })) in
     record { signed = minus_sign f.digits; formed = zone_some (45 ∷ (hh ++ mm)) (λ x. omega arith) ∙ f.formed; figures = q; valid = f.valid }
 
 pub offset_spells : (z : List ℕ) → zone_form z ≡ true → valid_offset (offset_of z) ≡ true → ((length z ≡ 0 → ⊥) → (get_or z 0 0 ≡ 43) ⊎ (get_or z 0 0 ≡ 45)) → SpeltOffset z (offset_of z)

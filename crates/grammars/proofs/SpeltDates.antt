@@ -9,12 +9,12 @@ use lib.Dec.{leb, eqb}
 use lib.ListN.{length, take, drop, length-append, length-drop}
 use lib.Seq.{take_all, take-add, take_at, drop-drop, drop-append-add, length-take-le}
 use borrow.Author.Tests.{leb-true, leb-false, le-leb, eqb-true, eq-eqb}
+use Rattle.std.specs.Prelude.{Some, None}
 use Rattle.alphabet.specs.Bytes.{from_to}
 use Rattle.alphabet.specs.Digits.{all_digits, decimal}
 use Rattle.alphabet.proofs.BoolLaws.{false_true, and_both, both_and, from_to_lem}
 use Rattle.alphabet.proofs.DigitLaws.{digits_append, digits_take, digits_drop}
-use Rattle.calendar.specs.Calendar.{leap, days_in, valid_date, valid_clock, valid_offset, valid_time, no_clock, no_offset}
-use Rattle.calendar.specs.declared.figures.Figure.TheVariants.{NotSent, Sent}
+use Rattle.calendar.specs.Calendar.{leap, days_in, valid_date, valid_clock, valid_offset, valid_time, no_clock}
 use Rattle.calendar.specs.declared.figures.Date.{Date}
 use Rattle.calendar.specs.declared.figures.Time.{Time}
 use Rattle.forms.specs.Forms.{dt_length, dt_form}
@@ -100,14 +100,14 @@ pub within : {least most n : ℕ} → least ≤ n → n ≤ most → from_to lea
 within {least} {most} {n} h k = both_and (le-leb least n h) (le-leb n most k)
 
 -- a figure at the front, and one behind so many bytes
-pub figure_here : {w n : ℕ} {l : List ℕ} (r : List ℕ) → Says w l n → figure_at (l ++ r) 0 w ≡ Sent n
+pub figure_here : {w n : ℕ} {l : List ℕ} (r : List ℕ) → Says w l n → figure_at (l ++ r) 0 w ≡ Some n
 figure_here {w} {n} {l} r s =
     let d = says_decimal s in
     let k = d.1 in
     let a = length-append l r in
-    figure_sent (l ++ r) 0 w (omega arith) ∙ ap (λ (x : List ℕ). Sent (decimal x)) (take_at l r w k) ∙ ap Sent d.2
+    figure_sent (l ++ r) 0 w (omega arith) ∙ ap (λ (x : List ℕ). Some (decimal x)) (take_at l r w k) ∙ ap Some d.2
 
-pub figure_alone : {w n : ℕ} {l : List ℕ} → Says w l n → figure_at l 0 w ≡ Sent n
+pub figure_alone : {w n : ℕ} {l : List ℕ} → Says w l n → figure_at l 0 w ≡ Some n
 figure_alone {w} {n} {l} s = ap (λ (x : List ℕ). figure_at x 0 w) (sym (append-nil l)) ∙ figure_here [] s
 
 pub figure_past : (a r : List ℕ) (k s w : ℕ) → length a ≡ k → figure_at (a ++ r) (k + s) w ≡ figure_at r s w
@@ -118,7 +118,7 @@ figure_past a r k s w e = at (leb (s + w) (length r)) refl
         let h = leb-true (s + w) (length r) q in
         let n = length-append a r in
         let d = ap (λ (i : ℕ). drop (i + s) (a ++ r)) (sym e) ∙ drop-append-add a r s in
-        figure_sent (a ++ r) (k + s) w (omega arith) ∙ ap (λ (x : List ℕ). Sent (decimal (take w x))) d ∙ sym (figure_sent r s w h)
+        figure_sent (a ++ r) (k + s) w (omega arith) ∙ ap (λ (x : List ℕ). Some (decimal (take w x))) d ∙ sym (figure_sent r s w h)
     at false q =
         let h = leb-false (s + w) (length r) q in
         let n = length-append a r in
@@ -176,7 +176,7 @@ day_spells l e h v =
     let y = decimal (take 4 l) in
     let m = decimal (take 2 (drop 4 l)) in
     let d = decimal (take 2 (drop 6 l)) in
-    let q : date_of l ≡ record { year = Sent y; month = Sent m; day = Sent d } =
+    let q : date_of l ≡ record { year = Some y; month = Some m; day = Some d } =
     λ i. record { year = figure_sent l 0 4 (omega arith) i; month = figure_sent l 4 2 (omega arith) i; day = figure_sent l 6 2 (omega arith) i } in
     let w = and_both (from_to 1 9999 y) _ (ap valid_date (sym q) ∙ v) in
     let w1 = and_both (from_to 1 12 m) (from_to 1 (days_in y m) d) w.1 in
@@ -235,7 +235,7 @@ date_spells l e long v = at (three (length l) 4 6 8 long)
     at : (length l ≡ 4) ⊎ ((length l ≡ 6) ⊎ (length l ≡ 8)) → SpeltDate l (date_of l)
     at (inl n) =
         let y = decimal (take 4 l) in
-        let q : date_of l ≡ record { year = Sent y; month = NotSent; day = NotSent } =
+        let q : date_of l ≡ record { year = Some y; month = None; day = None } =
         λ i. record { year = figure_sent l 0 4 (omega arith) i; month = figure_not l 4 2 (omega arith) i; day = figure_not l 6 2 (omega arith) i } in
         let year = from_to_lem 1 9999 y (and_both (from_to 1 9999 y) _ (ap valid_date (sym q) ∙ v)).0 in
         let s = to_year (piece_says l 0 4 e (omega arith), year.0, year.1) in
@@ -243,7 +243,7 @@ date_spells l e long v = at (three (length l) 4 6 8 long)
     at (inr (inl n)) =
         let y = decimal (take 4 l) in
         let m = decimal (take 2 (drop 4 l)) in
-        let q : date_of l ≡ record { year = Sent y; month = Sent m; day = NotSent } =
+        let q : date_of l ≡ record { year = Some y; month = Some m; day = None } =
         λ i. record { year = figure_sent l 0 4 (omega arith) i; month = figure_sent l 4 2 (omega arith) i; day = figure_not l 6 2 (omega arith) i } in
         let w = and_both (from_to 1 9999 y) _ (ap valid_date (sym q) ∙ v) in
         let year = from_to_lem 1 9999 y w.0 in
@@ -259,14 +259,14 @@ unfolding dt_form
 dt_made l d n = both_and d n
 
 -- a clock and an offset that were not sent are none that there are not
-nothing_valid : (valid_clock no_clock && valid_offset no_offset) ≡ true
+nothing_valid : (valid_clock no_clock && valid_offset None) ≡ true
 nothing_valid = unfold valid_clock in refl
 
 pub dt_spelt : {l : List ℕ} {t : Time} → Dt l t → (is_dt l ≡ true) × (dt_time l ≡ t)
 unfolding is_dt dt_time
 dt_spelt (dt {l} s) =
     let d = is_date s in
-    (both_and (dt_made l d.digits d.long) (both_and (ap valid_date d.figures ∙ d.valid) nothing_valid), λ i. record { date = d.figures i; clock = no_clock; offset = no_offset })
+    (both_and (dt_made l d.digits d.long) (both_and (ap valid_date d.figures ∙ d.valid) nothing_valid), λ i. record { date = d.figures i; clock = no_clock; offset = None })
 
 pub dt_spells : (l : List ℕ) → is_dt l ≡ true → Dt l (dt_time l)
 unfolding is_dt dt_time

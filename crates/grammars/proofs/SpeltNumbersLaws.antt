@@ -10,17 +10,19 @@ use lib.IntN.{ℤ, pos, neg_ℤ}
 use lib.ListN.{length, get_or, take, drop, length-append, take-append-drop, drop_of_length-le}
 use lib.Seq.{take-append_seam, drop-append-add, take_all}
 use borrow.Author.Tests.{eqb-true, ne_eqb, lt-ltb, le-ltb, le-leb, leb-true, ltb-true, ltb-false}
+use Rattle.alphabet.specs.declared.answers.Refusal.{Refusal}
+use Rattle.std.specs.Prelude.{Result, Ok}
 use Rattle.alphabet.specs.Answers.{fails_if, in_order}
 use Rattle.alphabet.specs.Bytes.{digit}
 use Rattle.alphabet.specs.Digits.{all_digits, decimal}
 use Rattle.alphabet.specs.Lists.{first, find}
-use Rattle.alphabet.specs.declared.answers.Refusal.TheVariants.{None, BreaksForm, ValueTooLong}
+use Rattle.alphabet.specs.declared.answers.Refusal.TheVariants.{BreaksForm, ValueTooLong}
 use Rattle.alphabet.proofs.BoolLaws.{and_both, both_and, from_to_lem, or_neither, false_true}
 use Rattle.alphabet.proofs.DigitLaws.{digits_append}
 use Rattle.alphabet.proofs.ListLaws.{find_is, first_le, drop_next}
 use Rattle.numbers.specs.Numbers.{some_digits, is_sign, is_negative, unsigned, nm_form, nm_digits, nm_check, signed, nm_value, number_if, nm_read, is_si, si_read, has_point, most_digits}
 use Rattle.numbers.specs.Numbers.{before_point as whole_of, fraction as fraction_of}
-use Rattle.numbers.specs.declared.numerals.ReadNumber.{ReadNumber}
+use Rattle.numbers.specs.declared.numerals.Number.{Number}
 use Rattle.numbers.proofs.NumberLaws.{unsigned_drop, unsigned_same, si_read_lem, si_refused}
 use Rattle.grammars.specs.Spelt.{Says}
 use Rattle.grammars.specs.SpeltNumbers.{Unsigned, unpointed, pointed, Nm, bare, plus, minus, NmSays, Si, few, SiSays}
@@ -245,11 +247,11 @@ nm_said l = at (nm_form l) refl (ltb most_digits (length (nm_digits l))) refl
     at false p u q = rw p (NmSays.breaks (nm_formless l p))
 
 -- and no second answer is said
-pub nm_once : {l : List ℕ} {r s : ReadNumber} → NmSays l r → NmSays l s → r ≡ s
+pub nm_once : {l : List ℕ} {r s : Result Number Refusal} → NmSays l r → NmSays l s → r ≡ s
 nm_once (NmSays.says a h) (NmSays.says b k) =
     let p = nm_spelt a in
     let q = nm_spelt b in
-    ap₂ (λ (v : ℤ) (decimals : ℕ). record { kind = None; value = v; decimals = decimals }) (sym p.value ∙ q.value) (sym p.places ∙ q.places)
+    ap₂ (λ (v : ℤ) (decimals : ℕ). Ok (record { value = v; decimals = decimals })) (sym p.value ∙ q.value) (sym p.places ∙ q.places)
 nm_once (NmSays.says a h) (NmSays.long b k) = absurd (let p = (nm_spelt a).count in let q = (nm_spelt b).count in omega arith)
 nm_once (NmSays.says a h) (NmSays.breaks n) = absurd (n _ _ _ a)
 nm_once (NmSays.long a h) (NmSays.says b k) = absurd (let p = (nm_spelt a).count in let q = (nm_spelt b).count in omega arith)
@@ -282,8 +284,8 @@ si_said l = at (is_si l) refl
     at true e = subst (SiSays l) (sym (si_read_lem l e)) (SiSays.says (si_spells l e))
     at false e = subst (SiSays l) (sym (si_refused l e)) (SiSays.breaks (λ n s. false_true (sym e ∙ (si_spelt s).0)))
 
-pub si_once : {l : List ℕ} {r s : ReadNumber} → SiSays l r → SiSays l s → r ≡ s
-si_once (SiSays.says a) (SiSays.says b) = ap (λ (n : ℕ). record { kind = None; value = pos n; decimals = 0 }) (sym (si_spelt a).1 ∙ (si_spelt b).1)
+pub si_once : {l : List ℕ} {r s : Result Number Refusal} → SiSays l r → SiSays l s → r ≡ s
+si_once (SiSays.says a) (SiSays.says b) = ap (λ (n : ℕ). Ok (record { value = pos n; decimals = 0 })) (sym (si_spelt a).1 ∙ (si_spelt b).1)
 si_once (SiSays.says a) (SiSays.breaks n) = absurd (n _ a)
 si_once (SiSays.breaks n) (SiSays.says b) = absurd (n _ b)
 si_once (SiSays.breaks n) (SiSays.breaks m) = refl

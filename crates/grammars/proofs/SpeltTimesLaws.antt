@@ -3,14 +3,15 @@ use mathlib.Core.Path.{◌≡◌, refl, sym, ap, subst, ◌∙◌}
 use mathlib.Core.List.{List, [], ◌∷◌, ◌++◌, append_assoc, append-nil}
 use mathlib.Core.Bool.{Bool, true, false, ◌&&◌}
 use mathlib.Core.Logic.{◌⊎◌, inl, inr, ⊎_elim}
-use Prim.Native.Nat.{ℕ, suc, ◌+◌, ◌-◌, ◌≤◌, min}
+use Prim.Native.Nat.{ℕ, suc, ◌+◌, ◌≤◌, min}
 use native.Mathlib.Nat.{zero-add}
 use native.Mathlib.Omega.{arith}
 use lib.Dec.{eqb}
 use lib.ListN.{length, take, drop, length-append, length-drop, take-append-drop}
 use lib.Seq.{take_at, drop_at, length-take-le}
 use borrow.Author.Tests.{ne_eqb}
-use Rattle.alphabet.specs.declared.answers.Refusal.TheVariants.{None}
+use Rattle.alphabet.specs.declared.answers.Refusal.{Refusal}
+use Rattle.std.specs.Prelude.{Result, Ok, Option}
 use Rattle.alphabet.specs.Bytes.{digit}
 use Rattle.alphabet.specs.Digits.{all_digits}
 use Rattle.alphabet.specs.Lists.{first, find}
@@ -21,7 +22,6 @@ use Rattle.calendar.specs.declared.figures.Date.{Date}
 use Rattle.calendar.specs.declared.figures.Clock.{Clock}
 use Rattle.calendar.specs.declared.figures.Offset.{Offset}
 use Rattle.calendar.specs.declared.figures.Time.{Time}
-use Rattle.times.specs.declared.moments.ReadTime.{ReadTime}
 use Rattle.forms.specs.declared.layouts.Form.{Form}
 use Rattle.forms.specs.Forms.{body_of, zone_of, front_of, tail_of, dt_length, layout_of, front_length, fraction_form, zone_form, parts_form, time_form}
 use Rattle.forms.proofs.FormLaws.{fraction_none, form_parts}
@@ -131,7 +131,7 @@ together l = ap (λ (x : List ℕ). x ++ zone_of l) (take-append-drop (find 46 (
 
 -- ---- TM
 
-tm_of : (n : ℕ) {l z : List ℕ} {c : Clock} {o : Offset} → front_length Form.Tm n ≡ true → IsClock n l c → IsOffset z o
+tm_of : (n : ℕ) {l z : List ℕ} {c : Clock} {o : Option Offset} → front_length Form.Tm n ≡ true → IsClock n l c → IsOffset z o
     → (is_time Form.Tm (l ++ z) ≡ true) × (time_of Form.Tm (l ++ z) ≡ record { date = no_date; clock = c; offset = o })
 tm_of n {l} {z} {c} {o} h k s =
     let f = k.front in
@@ -184,7 +184,6 @@ no_clock_lem f h =
       minute = figure_not f 10 2 (omega arith) i;
       second = figure_not f 12 2 (omega arith) i;
       fraction = fraction_not [] refl i;
-      digits = 0;
     }
 
 -- a clock behind a day is read as it is read alone
@@ -196,13 +195,12 @@ clock_past a f p n =
       minute = figure_past a f 8 2 2 n i;
       second = figure_past a f 8 4 2 n i;
       fraction = fraction_of p;
-      digits = length p - 1;
     }
 
 date_most : (l : List ℕ) → dt_length (length l) ≡ true → length l ≤ 8
 date_most l e = dt_most (length l) (three (length l) 4 6 8 e)
 
-ts_date : {l z : List ℕ} {d : Date} {o : Offset} → IsDate l d → IsOffset z o → (is_time Form.Ts (l ++ z) ≡ true) × (time_of Form.Ts (l ++ z) ≡ record { date = d; clock = no_clock; offset = o })
+ts_date : {l z : List ℕ} {d : Date} {o : Option Offset} → IsDate l d → IsOffset z o → (is_time Form.Ts (l ++ z) ≡ true) × (time_of Form.Ts (l ++ z) ≡ record { date = d; clock = no_clock; offset = o })
 ts_date {l} {z} k s =
     let c = no_clock_lem l (date_most l k.long) in
     let m = made Form.Ts l [] z no_point s.signed (record {
@@ -220,7 +218,7 @@ ts_date {l} {z} k s =
     nothing_valid : valid_clock no_clock ≡ true
     nothing_valid = unfold valid_clock in refl
 
-ts_clock : (n : ℕ) {a l z : List ℕ} {d : Date} {c : Clock} {o : Offset} → front_length Form.Ts (8 + n) ≡ true → eqb (8 + n) 14 ≡ eqb n 6 → IsDay a d → IsClock n l c → IsOffset z o
+ts_clock : (n : ℕ) {a l z : List ℕ} {d : Date} {c : Clock} {o : Option Offset} → front_length Form.Ts (8 + n) ≡ true → eqb (8 + n) 14 ≡ eqb n 6 → IsDay a d → IsClock n l c → IsOffset z o
     → (is_time Form.Ts (a ++ (l ++ z)) ≡ true) × (time_of Form.Ts (a ++ (l ++ z)) ≡ record { date = d; clock = c; offset = o })
 ts_clock n {a} {l} {z} h g j k s =
     let f = k.front in
@@ -318,8 +316,8 @@ module _ (Spelt : List ℕ → Time → Type 0) (l : List ℕ) (test : Bool) (ti
       at true e = says (spells e)
       at false e = breaks (λ t s. false_true (sym e ∙ (spelt t s).0))
 
-  once : {r s : ReadTime} → Answers Spelt l r → Answers Spelt l s → r ≡ s
-  once (says {t} a) (says {t = u} b) = λ i. record { kind = None; time = (sym (spelt t a).1 ∙ (spelt u b).1) i }
+  once : {r s : Result Time Refusal} → Answers Spelt l r → Answers Spelt l s → r ≡ s
+  once (says {t} a) (says {t = u} b) = λ i. Ok ((sym (spelt t a).1 ∙ (spelt u b).1) i)
   once (says {t} a) (breaks b) = absurd (b t a)
   once (breaks a) (says {t} b) = absurd (a t b)
   once (breaks a) (breaks b) = refl
@@ -328,19 +326,19 @@ pub dt_said : (l : List ℕ) → DtSays l (dt_read l)
 unfolding dt_read
 dt_said l = said Dt l (is_dt l) (dt_time l) (λ t s. dt_spelt s) (dt_spells l)
 
-pub dt_once : {l : List ℕ} {r s : ReadTime} → DtSays l r → DtSays l s → r ≡ s
+pub dt_once : {l : List ℕ} {r s : Result Time Refusal} → DtSays l r → DtSays l s → r ≡ s
 dt_once {l} a b = once Dt l (is_dt l) (dt_time l) (λ t s. dt_spelt s) a b
 
 pub tm_said : (l : List ℕ) → TmSays l (time_read Form.Tm l)
 unfolding time_read
 tm_said l = said Tm l (is_time Form.Tm l) (time_of Form.Tm l) (λ t s. tm_spelt s) (tm_spells l)
 
-pub tm_once : {l : List ℕ} {r s : ReadTime} → TmSays l r → TmSays l s → r ≡ s
+pub tm_once : {l : List ℕ} {r s : Result Time Refusal} → TmSays l r → TmSays l s → r ≡ s
 tm_once {l} a b = once Tm l (is_time Form.Tm l) (time_of Form.Tm l) (λ t s. tm_spelt s) a b
 
 pub ts_said : (l : List ℕ) → TsSays l (time_read Form.Ts l)
 unfolding time_read
 ts_said l = said Ts l (is_time Form.Ts l) (time_of Form.Ts l) (λ t s. ts_spelt s) (ts_spells l)
 
-pub ts_once : {l : List ℕ} {r s : ReadTime} → TsSays l r → TsSays l s → r ≡ s
+pub ts_once : {l : List ℕ} {r s : Result Time Refusal} → TsSays l r → TsSays l s → r ≡ s
 ts_once {l} a b = once Ts l (is_time Form.Ts l) (time_of Form.Ts l) (λ t s. ts_spelt s) a b

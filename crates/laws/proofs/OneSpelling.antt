@@ -10,6 +10,7 @@ use lib.Dec.{leb, eqb}
 use lib.ListN.{length, get_or, take, drop, length-drop, take-append-drop}
 use lib.Seq.{take-add, take_all, length-take-le, get_or-drop}
 use borrow.Author.Tests.{leb-true, leb-false, ne_eqb}
+use Rattle.std.specs.Prelude.{Some, None, Option}
 use Rattle.alphabet.specs.Digits.{all_digits, decimal}
 use Rattle.alphabet.specs.Lists.{find}
 use Rattle.alphabet.proofs.BoolLaws.{false_true}
@@ -20,10 +21,10 @@ use Rattle.forms.specs.declared.layouts.Form.TheVariants.{Tm, Ts}
 use Rattle.forms.specs.Forms.{one_of, dt_length, front_length, body_of, zone_of, front_of, tail_of, time_form}
 use Rattle.forms.proofs.FormLaws.{one_of_lem, dt_length_lem, front_digits, front_length_lem, tail_holds, zone_held}
 use Rattle.times.specs.Times.{is_dt, dt_time, figure_at, date_of, fraction_of, clock_of, offset_of, is_time, time_of}
-use Rattle.calendar.specs.declared.figures.Figure.TheVariants.{NotSent, Sent}
 use Rattle.calendar.specs.declared.figures.Date.{Date}
 use Rattle.calendar.specs.declared.figures.Clock.{Clock}
 use Rattle.calendar.specs.declared.figures.Sign.{Sign}
+use Rattle.calendar.specs.declared.figures.Fraction.{Fraction}
 use Rattle.calendar.specs.declared.figures.Offset.{Offset}
 use Rattle.calendar.specs.declared.figures.Time.{Time}
 use Rattle.times.proofs.FigureLaws.{figure_sent, figure_not, fraction_not, fraction_sent, offset_not}
@@ -31,10 +32,10 @@ use Rattle.times.proofs.TimeLaws.{dt_formed, dt_digits, time_formed}
 
 -- ---- the front, figure by figure
 
-sent_number : {m n : ℕ} → Sent m ≡ Sent n → m ≡ n
+sent_number : {m n : ℕ} → Some m ≡ Some n → m ≡ n
 sent_number q = cc
 
-never : {n : ℕ} → Sent n ≡ NotSent → ⊥
+never : {A : Type 0} {x : A} → Some x ≡ None → ⊥
 never q = let z : ◌≡◌ {A = ℕ} 0 1 = cc in omega arith
 
 module _ (l l' : List ℕ) (e : all_digits l ≡ true) (e' : all_digits l' ≡ true) where
@@ -148,15 +149,26 @@ module _ (l l' t t' : List ℕ) (e : all_digits l ≡ true) (e' : all_digits l' 
       let a3 = step l l' e e' 4 2 g.second g'.second (ap (λ (x : Clock). x.second) c) a2 in
       sym (take_all 6 l g.most) ∙ a3 ∙ take_all 6 l' g'.most
 
--- ---- the tail is told by the fraction and its count of digits
+-- ---- the tail is told by the fraction, its number and its count of digits
+
+fraction_value : Option Fraction → ℕ
+fraction_value (Some f) = f.value
+fraction_value None = 0
+
+fraction_digits : Option Fraction → ℕ
+fraction_digits (Some f) = f.digits
+fraction_digits None = 0
 
 tail_same : (t t' : List ℕ) → all_digits (drop 1 t) ≡ true → all_digits (drop 1 t') ≡ true → ((length t ≡ 0 → ⊥) → get_or t 0 0 ≡ 46) → ((length t' ≡ 0 → ⊥) → get_or t' 0 0 ≡ 46)
-    → fraction_of t ≡ fraction_of t' → length t - 1 ≡ length t' - 1 → t ≡ t'
-tail_same [] [] d d' h h' q n = refl
-tail_same [] (b ∷ r) d d' h h' q n = absurd (never (sym (fraction_sent (b ∷ r) (λ z. omega arith)) ∙ sym q ∙ fraction_not [] refl))
-tail_same (b ∷ r) [] d d' h h' q n = absurd (never (sym (fraction_sent (b ∷ r) (λ z. omega arith)) ∙ q ∙ fraction_not [] refl))
-tail_same (b ∷ r) (b' ∷ r') d d' h h' q n =
-    let k = sent_number (sym (fraction_sent (b ∷ r) (λ z. omega arith)) ∙ q ∙ fraction_sent (b' ∷ r') (λ z. omega arith)) in
+    → fraction_of t ≡ fraction_of t' → t ≡ t'
+unfolding fraction_value fraction_digits
+tail_same [] [] d d' h h' q = refl
+tail_same [] (b ∷ r) d d' h h' q = absurd (never (sym (fraction_sent (b ∷ r) (λ z. omega arith)) ∙ sym q ∙ fraction_not [] refl))
+tail_same (b ∷ r) [] d d' h h' q = absurd (never (sym (fraction_sent (b ∷ r) (λ z. omega arith)) ∙ q ∙ fraction_not [] refl))
+tail_same (b ∷ r) (b' ∷ r') d d' h h' q =
+    let e = sym (fraction_sent (b ∷ r) (λ z. omega arith)) ∙ q ∙ fraction_sent (b' ∷ r') (λ z. omega arith) in
+    let k = ap fraction_value e in
+    let n = ap fraction_digits e in
     let s = (digits_same 0 0 r r' d d' (omega arith) k).1 in
     let x : b ≡ 46 = h (λ z. omega arith) in
     let x' : b' ≡ 46 = h' (λ z. omega arith) in
@@ -178,22 +190,36 @@ four_same r r' n n' d d' a b =
     let w = sym (take_all 4 r (omega arith)) ∙ take-add 2 2 r in
     w ∙ ap (λ (z : List ℕ). z ++ take 2 (drop 2 r)) x ∙ ap (λ (z : List ℕ). take 2 r' ++ z) y ∙ sym (take-add 2 2 r') ∙ take_all 4 r' (omega arith)
 
--- the sign of a zone that is there
-sign_of : (z : List ℕ) → (length z ≡ 0 → ⊥) → (offset_of z).sign ≡ cond (eqb (get_or z 0 0) 45) Sign.Minus Sign.Plus
-unfolding offset_of
-sign_of z h = rw (ne_eqb (length z) 0 h)
+-- what an offset says, where there is one
+sign_in : Option Offset → Sign
+sign_in (Some o) = o.sign
+sign_in None = Sign.Plus
 
-hours_of : (z : List ℕ) → (length z ≡ 0 → ⊥) → (offset_of z).hours ≡ decimal (take 2 (drop 1 z))
-unfolding offset_of
-hours_of z h = rw (ne_eqb (length z) 0 h)
+hours_in : Option Offset → ℕ
+hours_in (Some o) = o.hours
+hours_in None = 0
 
-minutes_of : (z : List ℕ) → (length z ≡ 0 → ⊥) → (offset_of z).minutes ≡ decimal (take 2 (drop 3 z))
-unfolding offset_of
-minutes_of z h = rw (ne_eqb (length z) 0 h)
+minutes_in : Option Offset → ℕ
+minutes_in (Some o) = o.minutes
+minutes_in None = 0
 
-no_sign : (t : Bool) → Sign.NotSent ≡ cond t Sign.Minus Sign.Plus → ⊥
-no_sign true q = let z : ◌≡◌ {A = ℕ} 0 1 = cc in omega arith
-no_sign false q = let z : ◌≡◌ {A = ℕ} 0 1 = cc in omega arith
+module _ (z : List ℕ) (h : length z ≡ 0 → ⊥) where
+  -- a zone that is there says an offset
+  some_offset : offset_of z ≡ None → ⊥
+  unfolding offset_of
+  some_offset e = never (let q : cond (eqb (length z) 0) None _ ≡ None = e in rw (ne_eqb (length z) 0 h) at q)
+
+  sign_of : sign_in (offset_of z) ≡ cond (eqb (get_or z 0 0) 45) Sign.Minus Sign.Plus
+  unfolding offset_of sign_in
+  sign_of = rw (ne_eqb (length z) 0 h)
+
+  hours_of : hours_in (offset_of z) ≡ decimal (take 2 (drop 1 z))
+  unfolding offset_of hours_in
+  hours_of = rw (ne_eqb (length z) 0 h)
+
+  minutes_of : minutes_in (offset_of z) ≡ decimal (take 2 (drop 3 z))
+  unfolding offset_of minutes_in
+  minutes_of = rw (ne_eqb (length z) 0 h)
 
 head_same : (b b' : ℕ) → (b ≡ 43) ⊎ (b ≡ 45) → (b' ≡ 43) ⊎ (b' ≡ 45) → cond (eqb b 45) Sign.Minus Sign.Plus ≡ cond (eqb b' 45) Sign.Minus Sign.Plus → b ≡ b'
 head_same b b' (inl p) (inl p') q = p ∙ sym p'
@@ -205,17 +231,17 @@ zone_same : (z z' : List ℕ) → all_digits (drop 1 z) ≡ true → all_digits 
     → ((length z ≡ 0 → ⊥) → (get_or z 0 0 ≡ 43) ⊎ (get_or z 0 0 ≡ 45)) → ((length z' ≡ 0 → ⊥) → (get_or z' 0 0 ≡ 43) ⊎ (get_or z' 0 0 ≡ 45)) → offset_of z ≡ offset_of z' → z ≡ z'
 zone_same [] [] d d' n n' h h' q = refl
 zone_same [] (b ∷ r) d d' n n' h h' q =
-    absurd (no_sign (eqb b 45) (ap (λ (o : Offset). o.sign) (sym (offset_not [] refl) ∙ q) ∙ sign_of (b ∷ r) (λ x. omega arith)))
+    absurd (some_offset (b ∷ r) (λ x. omega arith) (sym q ∙ offset_not [] refl))
 zone_same (b ∷ r) [] d d' n n' h h' q =
-    absurd (no_sign (eqb b 45) (ap (λ (o : Offset). o.sign) (sym (offset_not [] refl) ∙ sym q) ∙ sign_of (b ∷ r) (λ x. omega arith)))
+    absurd (some_offset (b ∷ r) (λ x. omega arith) (q ∙ offset_not [] refl))
 zone_same (b ∷ r) (b' ∷ r') d d' n n' h h' q =
     let some : suc (length r) ≡ 0 → ⊥ = λ x. omega arith in
     let some' : suc (length r') ≡ 0 → ⊥ = λ x. omega arith in
     let k = n some in
     let k' = n' some' in
-    let s = head_same b b' (h some) (h' some') (sym (sign_of (b ∷ r) some) ∙ ap (λ (o : Offset). o.sign) q ∙ sign_of (b' ∷ r') some') in
-    let x = sym (hours_of (b ∷ r) some) ∙ ap (λ (o : Offset). o.hours) q ∙ hours_of (b' ∷ r') some' in
-    let y = sym (minutes_of (b ∷ r) some) ∙ ap (λ (o : Offset). o.minutes) q ∙ minutes_of (b' ∷ r') some' in
+    let s = head_same b b' (h some) (h' some') (sym (sign_of (b ∷ r) some) ∙ ap sign_in q ∙ sign_of (b' ∷ r') some') in
+    let x = sym (hours_of (b ∷ r) some) ∙ ap hours_in q ∙ hours_of (b' ∷ r') some' in
+    let y = sym (minutes_of (b ∷ r) some) ∙ ap minutes_in q ∙ minutes_of (b' ∷ r') some' in
     let f = four_same r r' (omega arith) (omega arith) d d' x y in
     cc
 
@@ -250,7 +276,7 @@ module _ (form : Form) (a b : List ℕ) (e : time_form form a ≡ true) (f : tim
   unfolding time_of clock_of
   tails =
       tail_same (tail_of a) (tail_of b) (tail_holds form a e).0 (tail_holds form b f).0 (begins 46 (body_of a) (find 46 (body_of a)) refl) (begins 46 (body_of b) (find 46 (body_of b)) refl)
-      (ap (λ (t : Time). t.clock.fraction) q) (ap (λ (t : Time). t.clock.digits) q)
+      (ap (λ (t : Time). t.clock.fraction) q)
 
   zones : zone_of a ≡ zone_of b
   unfolding time_of
