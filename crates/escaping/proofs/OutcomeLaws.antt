@@ -39,11 +39,11 @@ fault_or : {T : Type 0} → Fault → Refusable T → Fault
 fault_or other (Ok _) = other
 fault_or other (Err f) = f
 
-fault_same : {A : Type 0} {e f : Fault} → ◌≡◌ {A = Check} (Err e) (Err f) → ◌≡◌ {A = Outcome A} (Err e) (Err f)
+pub fault_same : {T U : Type 0} {e f : Fault} → ◌≡◌ {A = Refusable T} (Err e) (Err f) → ◌≡◌ {A = Refusable U} (Err e) (Err f)
 unfolding fault_or
-fault_same {e = e} q = ap (λ (c : Check). Err (fault_or e c)) q
+fault_same {T = T} {e = e} q = ap (λ (c : Refusable T). Err (fault_or e c)) q
 
-never_stops : {f : Fault} → passes ≡ Err f → ⊥
+pub never_stops : {f : Fault} → passes ≡ Err f → ⊥
 never_stops q = absurd (let z : ◌≡◌ {A = ℕ} 0 1 = cc in omega arith)
 
 -- ---- whether something goes into a room
@@ -144,3 +144,9 @@ fitting_stops room t {b = false} h q = absurd (never_stops q)
 pub fitting_goes : (room : ℕ) (t : List ℕ) {b : Bool} → b ≡ ltb room (length t) → fails_if b NoRoom 0 ≡ passes → fitting room (text t) ≡ text t
 unfolding fitting
 fitting_goes room t {b} h q = rw (le-leb _ _ (ltb-false room _ (sym h ∙ passes_not b NoRoom 0 q)))
+
+-- ---- what becomes of a text, as a proof about its bytes has it
+
+pub escaping_fits : (ds t w : List ℕ) (room : ℕ) → 5 ≤ first_wrong_delimiter ds → escape ds t ≡ w → length w ≤ room → escaping ds t room ≡ text w
+unfolding escaping fitting
+escaping_fits ds t w room h e l = rw (le-ltb _ _ h) (rw e (rw (le-leb _ _ l)))

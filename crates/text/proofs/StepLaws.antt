@@ -9,20 +9,28 @@ use lib.Dec.{ltb, eqb}
 use lib.ListN.{length, get_or, take, drop, length-append, drop_of_length-le}
 use lib.Seq.{drop-drop, length-take-le}
 use borrow.Author.Tests.{eq-eqb, ne_eqb, lt-ltb, le-ltb, ltb-true, ltb-false}
+use Rattle.std.specs.Prelude.{Ok, Err}
 use Rattle.alphabet.proofs.BoolLaws.{false_true}
 use Rattle.alphabet.proofs.ListLaws.{drop_next}
 use Rattle.alphabet.specs.Lists.{find}
 use Rattle.alphabet.specs.Bytes.{printable}
+use Rattle.alphabet.specs.Answers.{Refusable}
+use Rattle.alphabet.proofs.CheckLaws.{fails_same}
+use Rattle.alphabet.specs.declared.answers.Fault.{Fault}
 use Rattle.alphabet.specs.declared.answers.Refusal.{Refusal}
 use Rattle.alphabet.specs.declared.answers.Refusal.TheVariants.{NotAllowed, Separator, UnknownEscape, UnclosedEscape}
 use Rattle.escaping.specs.Escape.{escape_of}
 use Rattle.text.specs.Unescape.{Sequences, plain_text, Step, stop, emit, sequence, step, before, scan}
 use Rattle.escaping.specs.Outcomes.{Outcome, text, fault}
 use Rattle.text.specs.Judging.{is_text, text_of, seen}
-use Rattle.text.specs.declared.unescaping.Found.{Found}
+use Rattle.text.specs.declared.unescaping.Said.{Said}
 use Rattle.text.proofs.SequenceLaws.{meaning_short}
 
 -- ---- what a step is
+
+pub sequence_known : {A : Type 0} (q : Sequences A) (ds r : List ℕ) (n : ℕ) → n < length r → q.known (take n r) ≡ true → sequence q ds r n ≡ emit (q.meaning ds (take n r)) (n + 1)
+unfolding sequence
+sequence_known q ds r n h k = rw (lt-ltb _ _ h) (rw k)
 
 module _ {A : Type 0} (q : Sequences A) (ds : List ℕ) (b : ℕ) (r : List ℕ) where
   pub step_opens : b ≡ escape_of ds → step q ds b r ≡ sequence q ds r (find (escape_of ds) r)
@@ -100,35 +108,39 @@ step_bounds ds b r xs k e = (step_emits plain_text ds b r (λ (xs : List ℕ) (k
         omega arith
 
 -- what the code's step says
-pub seen_fault : (t : Step ℕ) (k : Refusal) → Found.Fault k ≡ seen t → t ≡ stop k
+pub seen_fault : (at : ℕ) {f : Fault} (t : Step ℕ) → seen at t ≡ Err f → (t ≡ stop f.kind) × (at ≡ f.place)
 unfolding seen
-seen_fault (stop j) k e = cc
-seen_fault (emit xs j) k e = absurd (let z : ◌≡◌ {A = ℕ} 0 1 = cc in omega arith)
+seen_fault at (stop j) e = let q = fails_same e in (ap (λ (k : Refusal). stop k) q.0, q.1)
+seen_fault at (emit xs j) e = absurd (let z : ◌≡◌ {A = ℕ} 0 1 = cc in omega arith)
 
-pub seen_bytes : (t : Step ℕ) (n k : ℕ) → Found.Bytes n k ≡ seen t → (xs : List ℕ) × (t ≡ emit xs k) × (length xs ≡ n)
-unfolding seen
-seen_bytes (stop j) n k e = absurd (let z : ◌≡◌ {A = ℕ} 0 1 = cc in omega arith)
-seen_bytes (emit xs j) n k e = (xs, cc, cc)
+said_or : Said → Refusable Said → Said
+said_or other (Ok said) = said
+said_or other (Err f) = other
+
+pub seen_bytes : (at : ℕ) {said : Said} (t : Step ℕ) → seen at t ≡ Ok said → (xs : List ℕ) × (t ≡ emit xs said.skip) × (length xs ≡ said.length)
+unfolding seen said_or
+seen_bytes at (stop j) e = absurd (let z : ◌≡◌ {A = ℕ} 0 1 = cc in omega arith)
+seen_bytes at {said = said} (emit xs j) e = let q = ap (said_or said) e in (xs, ap (λ (s : Said). emit xs s.skip) q, ap (λ (s : Said). s.length) q)
 
 -- ---- something said before an outcome
 
 pub before_before : {A : Type 0} (xs ys : List A) (r : Outcome A) → before xs (before ys r) ≡ before (xs ++ ys) r
-before_before xs ys (text t) = ap text (sym (append_assoc xs ys t))
-before_before xs ys (fault k p) = refl
+before_before xs ys (Ok t) = ap text (sym (append_assoc xs ys t))
+before_before xs ys (Err f) = refl
 
 pub before_none : {A : Type 0} (r : Outcome A) → r ≡ before [] r
-before_none (text t) = refl
-before_none (fault k p) = refl
+before_none (Ok t) = refl
+before_none (Err f) = refl
 
 pub before_text : {A : Type 0} (xs : List A) (r : Outcome A) → is_text (before xs r) ≡ true → (is_text r ≡ true) × (text_of (before xs r) ≡ xs ++ text_of r)
 unfolding is_text text_of
-before_text xs (text t) e = (refl, refl)
-before_text xs (fault k p) e = false_true e
+before_text xs (Ok t) e = (refl, refl)
+before_text xs (Err f) e = false_true e
 
 text_not_fault : {A : Type 0} (r : Outcome A) (k : Refusal) (p : ℕ) → is_text r ≡ true → r ≡ fault k p → ⊥
 unfolding is_text
-text_not_fault (text t) k p e f = let z : ◌≡◌ {A = ℕ} 0 1 = cc in omega arith
-text_not_fault (fault j o) k p e f = false_true e
+text_not_fault (Ok t) k p e q = let z : ◌≡◌ {A = ℕ} 0 1 = cc in omega arith
+text_not_fault (Err f) k p e q = false_true e
 
 -- ---- the scan
 

@@ -1,6 +1,6 @@
 -- How text is read, by document 01, 'Text': a scan that serves any set of sequences, and unescaping, which reads by
 -- those of plain text. `Reads` says the same as a grammar, and `Grammar` of the crate `laws` that the two agree.
-use Rattle.std.specs.Prelude.{ℕ, zero, suc, ◌+◌, List, [], ◌∷◌, ◌++◌, Bool, false, cond, ◌&&◌, length, get_or, take, ltb, eqb}
+use Rattle.std.specs.Prelude.{ℕ, zero, suc, ◌+◌, List, [], ◌∷◌, ◌++◌, Bool, false, cond, ◌&&◌, length, get_or, take, ltb, eqb, Ok, Err}
 use Rattle.alphabet.specs.Lists.{find}
 use Rattle.alphabet.specs.Bytes.{byte_of, printable, is_null}
 use Rattle.alphabet.specs.Delimiters.{first_wrong_delimiter}
@@ -51,8 +51,8 @@ step q ds b r =
     (cond (printable b) (cond (ltb (find b ds) 5) (stop Separator) (emit (q.plain b ∷ []) 0)) (stop NotAllowed))
 
 abbrev pub before : {A : Type 0} → List A → Outcome A → Outcome A
-before xs (text t) = text (xs ++ t)
-before xs (fault k p) = fault k p
+before xs (Ok t) = text (xs ++ t)
+before xs (Err f) = Err f
 
 abbrev pub after : {A : Type 0} → Step A → ℕ → (ℕ → Outcome A) → Outcome A
 after (stop k) at rest = fault k at

@@ -6,4 +6,4 @@ mod sequences;
 mod unescaping;
 
 pub use sequences::is_known;
-pub use unescaping::{Judged, unescape};
+pub use unescaping::{check_text, unescape};

@@ -4,103 +4,79 @@ ghost use Rattle.std.specs.Prelude.{◌≡◌, true, ◌+◌, ◌≤◌, ◌<◌
 ghost use Rattle.alphabet.specs.Lists.{find};
 ghost use Rattle.escaping.specs.Escape.{escape_of};
 ghost use Rattle.text.specs.Unescape.{plain_text, sequence, step, scan};
-ghost use Rattle.text.specs.Judging.{is_text, text_of, seen, judged};
+ghost use Rattle.text.specs.Judging.{text_check, is_text, text_of, seen};
 ghost use Rattle.text.specs.Unescape.{unescaping};
 ghost use Rattle.escaping.specs.Outcomes.{answer, filled};
 ghost use Rattle.alphabet.specs.Filling.{over};
 
 use crate::sequences::{is_known, put_meaning};
-use alphabet::{Answer, Delimiters, Refusal};
-use escaping::refused;
+use alphabet::{Delimiters, Fault, Refusal, fails_if};
+use escaping::check_delimiters;
 use plain::{place_of, plain_run};
 
-// What stands at a place of a text: a fault, or bytes, as many as `length`, with `skip` bytes more after the first.
+// What stands at a place of a text, where it is no fault: it says as many bytes as `length`, and `skip` bytes after the
+// first belong to it.
 #[derive(Clone, Copy)]
-pub enum Found {
-    Fault(Refusal),
-    Bytes { length: usize, skip: usize },
+struct Said {
+    length: usize,
+    skip: usize,
 }
 
-// What a whole text is: its length, or its first fault and the place.
-#[derive(Clone, Copy)]
-pub enum Judged {
-    Text(usize),
-    Fault { kind: Refusal, place: usize },
-}
-
-// What an escape delimiter opens, where `rest` is what follows it.
-fn sequence_in(delimiters: Delimiters, rest: &[u8]) -> Found
-    ensures { result ≡ seen
-        (sequence plain_text delimiters.bytes rest.now
-        (find (escape_of delimiters.bytes) rest.now)) }
+// What the escape delimiter at the place i opens.
+#[tactic(auto, unfolding(crate::specs::Unescape::sequence, crate::specs::Judging::seen))]
+fn sequence_in(delimiters: Delimiters, text: &[u8], i: usize) -> Result<Said, Fault>
+    requires { i < length text.now }
+    ensures { result ≡ seen i
+        (sequence plain_text delimiters.bytes (drop (i + 1) text.now)
+        (find (escape_of delimiters.bytes) (drop (i + 1) text.now))) }
 {
     let five = delimiters.bytes;
+    let from = i + 1;
+    let rest = &text[from..];
     let n = alphabet::find(rest, five[3]);
-    if rest.len() <= n {
-        return Found::Fault(Refusal::UnclosedEscape);
-    }
-    if !is_known(&rest[..n]) {
-        return Found::Fault(Refusal::UnknownEscape);
-    }
+    fails_if(rest.len() <= n, Refusal::UnclosedEscape, i)?;
+    fails_if(!is_known(&rest[..n]), Refusal::UnknownEscape, i)?;
+    let skip = n + 1;
     if n < 3 {
-        return Found::Bytes {
-            length: 1,
-            skip: n + 1,
-        };
+        return Ok(Said { length: 1, skip });
     }
-    Found::Bytes {
-        length: n / 2,
-        skip: n + 1,
-    }
+    let length = n / 2;
+    Ok(Said { length, skip })
 }
 
 // What stands at the place i.
-fn step_at(delimiters: Delimiters, text: &[u8], i: usize) -> Found
+#[tactic(auto, unfolding(crate::specs::Unescape::step, crate::specs::Judging::seen))]
+fn step_at(delimiters: Delimiters, text: &[u8], i: usize) -> Result<Said, Fault>
     requires { i < length text.now }
-    ensures { result ≡ seen
+    ensures { result ≡ seen i
         (step plain_text delimiters.bytes (get_or text.now i 0) (drop (i + 1) text.now)) }
 {
     let five = delimiters.bytes;
     let b = text[i];
     if b == five[3] {
-        let from = i + 1;
-        return sequence_in(delimiters, &text[from..]);
+        return sequence_in(delimiters, text, i);
     }
-    if !alphabet::is_printable(b) {
-        return Found::Fault(Refusal::NotAllowed);
-    }
-    if place_of(five, b) < 5 {
-        return Found::Fault(Refusal::Separator);
-    }
-    Found::Bytes { length: 1, skip: 0 }
+    fails_if(!alphabet::is_printable(b), Refusal::NotAllowed, i)?;
+    fails_if(place_of(five, b) < 5, Refusal::Separator, i)?;
+    Ok(Said { length: 1, skip: 0 })
 }
 
 // The text's length, or its first fault: what stands at a place, and the bytes that stand plainly behind it, at each
 // turn.
-fn judge(delimiters: Delimiters, text: &[u8]) -> Judged
-    ensures { result ≡ judged (scan plain_text delimiters.bytes 0 0 text.now) }
+fn judge(delimiters: Delimiters, text: &[u8]) -> Result<usize, Fault>
+    ensures { result ≡ answer (scan plain_text delimiters.bytes 0 0 text.now) }
 {
-    let mut n = 0;
+    let mut length = 0;
     let mut i = 0;
     while i < text.len() {
-        let found = step_at(delimiters, text, i);
-        match found {
-            Found::Fault(kind) => {
-                return Judged::Fault {
-                    kind: kind,
-                    place: i,
-                };
-            }
-            Found::Bytes { length, skip } => {
-                n += length;
-                i = i + 1 + skip;
-                let run = plain_run(delimiters, &text[i..]);
-                n += run;
-                i += run;
-            }
-        }
+        let said = step_at(delimiters, text, i)?;
+        length += said.length;
+        i = i + 1 + said.skip;
+        let run = plain_run(delimiters, &text[i..]);
+        length += run;
+        i += run;
     }
-    Judged::Text(n)
+    Ok(length)
 }
 
 // Writes what a text with no fault says to the front of the buffer: a sequence, or the bytes up to the next one, at
@@ -131,33 +107,24 @@ fn write_text(delimiters: Delimiters, text: &[u8], buffer: &mut [u8])
     }
 }
 
-// Reads a text, and writes what it says to the front of the buffer.
-pub fn unescape(delimiters: Delimiters, text: &[u8], buffer: &mut [u8]) -> Answer
+// Refuses delimiters that are wrong, and null, which has no text.
+pub fn check_text(delimiters: Delimiters, text: &[u8]) -> Result<(), Fault>
+    ensures { result ≡ text_check delimiters.bytes text.now }
+{
+    check_delimiters(delimiters)?;
+    fails_if(alphabet::is_null(text), Refusal::NullText, 0)
+}
+
+// Reads a text, writes what it says to the front of the buffer, and gives its length there.
+pub fn unescape(delimiters: Delimiters, text: &[u8], buffer: &mut [u8]) -> Result<usize, Fault>
     ensures value { result ≡ answer (unescaping delimiters.bytes text.now (length buffer.old)) }
     ensures buffer_after { buffer.new
         ≡ filled (unescaping delimiters.bytes text.now (length buffer.old))
         buffer.old }
 {
-    let wrong = alphabet::first_wrong_delimiter(delimiters);
-    if wrong < 5 {
-        return refused(Refusal::Delimiter, wrong);
-    }
-    if alphabet::is_null(text) {
-        return refused(Refusal::NullText, 0);
-    }
-    let found = judge(delimiters, text);
-    match found {
-        Judged::Fault { kind, place } => refused(kind, place),
-        Judged::Text(n) => {
-            if buffer.len() < n {
-                return refused(Refusal::NoRoom, 0);
-            }
-            write_text(delimiters, text, buffer);
-            Answer {
-                kind: Refusal::None,
-                place: 0,
-                length: n,
-            }
-        }
-    }
+    check_text(delimiters, text)?;
+    let n = judge(delimiters, text)?;
+    fails_if(buffer.len() < n, Refusal::NoRoom, 0)?;
+    write_text(delimiters, text, buffer);
+    Ok(n)
 }

@@ -5,7 +5,7 @@ use Rattle.text.proofs.StepLaws.{Scanning}
 use Rattle.text.proofs.unescaping.judge.Given as goal
 
 abbrev pub invariant-loop-i : goal.invariant-loop-i
-invariant-loop-i l = (l.i ≤ length l.text) × (l.n ≤ l.i) × Scanning plain_text l.delimiters.bytes l.text l.i l.n
+invariant-loop-i l = (l.i ≤ length l.text) × (l.length ≤ l.i) × Scanning plain_text l.delimiters.bytes l.text l.i l.length
 
 abbrev pub decreases-loop-i : goal.decreases-loop-i
 decreases-loop-i l = length l.text - l.i
