@@ -8,11 +8,10 @@ use lib.Dec.{eqb, leb, ltb}
 use lib.ListN.{length, get_or, take, drop, length-drop}
 use lib.Seq.{get_or-drop, drop-drop, take-take, length-take-le}
 use borrow.Author.Tests.{eq-eqb, ne_eqb, eqb-true, eqb-false, le-leb, lt-leb, lt-ltb, le-ltb, ltb-true, ltb-false}
+use Rattle.std.specs.Prelude.{Err, Ok}
 use Rattle.alphabet.specs.Lists.{find, first, either}
-use Rattle.alphabet.specs.Answers.{fails_if, or_else, in_order}
+use Rattle.alphabet.specs.Answers.{fails_if, or_else, in_order, Check, passes}
 use Rattle.alphabet.specs.Parts.{split}
-use Rattle.alphabet.specs.declared.answers.Check.{Check}
-use Rattle.alphabet.specs.declared.answers.Check.TheVariants.{Passes, Fails}
 use Rattle.alphabet.specs.declared.answers.Refusal.TheVariants.{Repeated}
 use Rattle.alphabet.proofs.BlockLaws.{first_from}
 use Rattle.alphabet.proofs.BoolLaws.{false_true}
@@ -31,8 +30,8 @@ use Rattle.fields.specs.declared.walk.Sought.{Sought}
 use Rattle.fields.specs.declared.walk.Turn.{Turn}
 
 assoc : (a b later : Check) → or_else a (or_else b later) ≡ or_else (or_else a b) later
-assoc (Fails kind place) b later = refl
-assoc Passes b later = refl
+assoc (Err fault) b later = refl
+assoc (Ok _) b later = refl
 
 -- ---- where the bytes of a field are
 
@@ -222,15 +221,14 @@ module _ (ds s : List ℕ) (t : Turn) (goes : Goes s t) (n : ℕ) (found : n ≡
   checks rs = in_order (repetition_checks ds t.component t.kind t.repetition rs)
 
   pub step_asks : (r : Turn) → r.start ≡ t.start + n + 1 → r.end ≡ t.end → r.repetition ≡ t.repetition + 1 → r.component ≡ t.component → r.kind ≡ t.kind
-      → r.found ≡ repetition_check ds t.component t.kind t.repetition here
-      → left_of ds s t ≡ or_else r.found (left_of ds s r)
+      → left_of ds s t ≡ or_else (repetition_check ds t.component t.kind t.repetition here) (left_of ds s r)
   unfolding repetition_checks
-  step_asks r q1 q2 q3 q4 q5 q6 = rw (q6, q1, q2, q3, q4, q5) (by (eqb (t.start + n) t.end) refl)
+  step_asks r q1 q2 q3 q4 q5 = rw (q1, q2, q3, q4, q5) (by (eqb (t.start + n) t.end) refl)
     where
       by : (b : Bool) → eqb (t.start + n) t.end ≡ b
-          → cond (leb t.start t.end) (checks (split (get_or ds 2 0) rest)) Passes
+          → cond (leb t.start t.end) (checks (split (get_or ds 2 0) rest)) passes
           ≡ or_else (repetition_check ds t.component t.kind t.repetition here)
-          (cond (leb (t.start + n + 1) t.end) (in_order (repetition_checks ds t.component t.kind (t.repetition + 1) (split (get_or ds 2 0) (behind (t.start + n + 1))))) Passes)
+          (cond (leb (t.start + n + 1) t.end) (in_order (repetition_checks ds t.component t.kind (t.repetition + 1) (split (get_or ds 2 0) (behind (t.start + n + 1))))) passes)
       by true e =
           let h = eqb-true (t.start + n) t.end e in
           let g : t.end < t.start + n + 1 = omega arith in
@@ -252,17 +250,17 @@ first_state_lem ds component sep field = of (split sep field) (split_some sep fi
     of (r ∷ rs) h = refl
 
 -- where any bytes pass, all repetitions do
-any_passes : (ds : List ℕ) (component : ℕ) (kind : Kind) → is_any kind ≡ true → (number : ℕ) (rs : List (List ℕ)) → in_order (repetition_checks ds component kind number rs) ≡ Passes
+any_passes : (ds : List ℕ) (component : ℕ) (kind : Kind) → is_any kind ≡ true → (number : ℕ) (rs : List (List ℕ)) → in_order (repetition_checks ds component kind number rs) ≡ passes
 unfolding repetition_checks repetition_check form_check
 any_passes ds component kind e number [] = refl
 any_passes ds component kind e number (r ∷ rs) =
     passes_or (one kind e) (in_order (repetition_checks ds component kind (number + 1) rs)) ∙ any_passes ds component kind e (number + 1) rs
   where
-    whatever : (t : Bool) → cond t Passes Passes ≡ Passes
+    whatever : (t : Bool) → cond t passes passes ≡ passes
     whatever true = refl
     whatever false = refl
 
-    one : (kind : Kind) → is_any kind ≡ true → repetition_check ds component kind number r ≡ Passes
+    one : (kind : Kind) → is_any kind ≡ true → repetition_check ds component kind number r ≡ passes
     one Any q = whatever (is_present (part_state ds component r))
     one Identifier q = false_true q
     one Ts q = false_true q
@@ -280,7 +278,7 @@ left_any ds s t r q1 q2 q3 q4 q5 = at (is_any t.kind) refl
     checks : Check
     checks = in_order (repetition_checks ds t.component t.kind t.repetition (split (get_or ds 2 0) (take (t.end - t.start) (drop t.start s))))
 
-    whatever : (b : Bool) → checks ≡ Passes → cond b checks Passes ≡ Passes
+    whatever : (b : Bool) → checks ≡ passes → cond b checks passes ≡ passes
     whatever true e = e
     whatever false e = refl
 
@@ -350,7 +348,7 @@ module _ (ds s : List ℕ) (number : ℕ) (row : Row) (f : Sought) (finds : Find
   asked said = row_check ds row said repetitions
 
   abbrev whole : ℕ → Kind → Turn
-  whole component kind = record { cursor = f.cursor; found = Passes; start = f.start; end = f.end; repetition = 1; component = component; kind = kind }
+  whole component kind = record { cursor = f.cursor; start = f.start; end = f.end; repetition = 1; component = component; kind = kind }
 
   all_left : (component : ℕ) (kind : Kind) → in_order (repetition_checks ds component kind 1 repetitions) ≡ left_of ds s (whole component kind)
   all_left component kind =
@@ -368,7 +366,7 @@ module _ (ds s : List ℕ) (number : ℕ) (row : Row) (f : Sought) (finds : Find
 
   -- a row that says its own type, with the repetitions behind the first left
   abbrev behind_first : Turn
-  behind_first = record { cursor = f.cursor; found = Passes; start = f.first + 1; end = f.end; repetition = 2; component = row.component; kind = row.kind }
+  behind_first = record { cursor = f.cursor; start = f.first + 1; end = f.end; repetition = 2; component = row.component; kind = row.kind }
 
   pub own_asks : is_said row.kind ≡ false → length s + 1 < 2 ^ 64 → (said : List ℕ) → asked said ≡ or_else (own_check ds row opening (ltb f.first f.end)) (left_of ds s behind_first)
   unfolding row_check own_check
@@ -395,8 +393,9 @@ module _ (ds s : List ℕ) (number : ℕ) (row : Row) (f : Sought) (finds : Find
           let z : f.start + (f.first - f.start) ≡ f.first = omega arith in
           let n : f.start + (f.first - f.start) - f.start ≡ f.first - f.start = omega arith in
           step_asks ds s (whole row.component row.kind) goes (f.first - f.start) (finds.opens ∙ ap (find (get_or ds 2 0)) (sym finds.bytes))
-          (record { cursor = f.cursor; found = repetition_check ds row.component row.kind 1 opening; start = f.first + 1; end = f.end; repetition = 2; component = row.component; kind = row.kind })
-          (ap (λ (i : ℕ). i + 1) (sym z)) refl refl refl refl (ap (λ (i : ℕ). repetition_check ds row.component row.kind 1 (take i (drop f.start s))) (sym n))
+          behind_first
+          (ap (λ (i : ℕ). i + 1) (sym z)) refl refl refl refl
+          ∙ ap (λ (i : ℕ). or_else (repetition_check ds row.component row.kind 1 (take i (drop f.start s))) (left_of ds s behind_first)) n
 
   -- a row that is begun as the code begins it
   pub said_begins : (said : List ℕ) (found : Check) (start component : ℕ) (kind : Kind)
@@ -406,13 +405,13 @@ module _ (ds s : List ℕ) (number : ℕ) (row : Row) (f : Sought) (finds : Find
       → start ≡ cond (is_any kind) (f.end + 1) f.start
       → component ≡ component_of row said
       → kind ≡ kind_of row.kind said
-      → asked (said_bytes ds s number row.kind) ≡ or_else found (left_of ds s (record { cursor = f.cursor; found = found; start = start; end = f.end; repetition = 1; component = component; kind = kind }))
+      → asked (said_bytes ds s number row.kind) ≡ or_else found (left_of ds s (record { cursor = f.cursor; start = start; end = f.end; repetition = 1; component = component; kind = kind }))
   said_begins said found start component kind typed e o q1 q2 q3 =
       ap asked (ap (λ (t : Bool). cond t (first_of ds s number (said_field row.kind)) []) typed ∙ sym e)
       ∙ said_asks said
       ∙ ap₂ or_else
       (ap (λ (b : List ℕ). opening_check ds row said opening (ltb f.first f.end) (split (get_or ds 2 0) b)) (sym finds.bytes) ∙ sym o)
-      (left_any ds s (whole (component_of row said) (kind_of row.kind said)) (record { cursor = f.cursor; found = found; start = start; end = f.end; repetition = 1; component = component; kind = kind })
+      (left_any ds s (whole (component_of row said) (kind_of row.kind said)) (record { cursor = f.cursor; start = start; end = f.end; repetition = 1; component = component; kind = kind })
       (q1 ∙ ap (λ (k : Kind). cond (is_any k) (f.end + 1) f.start) q3) refl refl q2 q3)
 
   pub own_begins : (found : Check) (start : ℕ)
@@ -420,11 +419,11 @@ module _ (ds s : List ℕ) (number : ℕ) (row : Row) (f : Sought) (finds : Find
       → length s + 1 < 2 ^ 64
       → found ≡ own_check ds row opening (ltb f.first f.end)
       → start ≡ cond (is_any row.kind) (f.end + 1) (f.first + 1)
-      → asked (said_bytes ds s number row.kind) ≡ or_else found (left_of ds s (record { cursor = f.cursor; found = found; start = start; end = f.end; repetition = 2; component = row.component; kind = row.kind }))
+      → asked (said_bytes ds s number row.kind) ≡ or_else found (left_of ds s (record { cursor = f.cursor; start = start; end = f.end; repetition = 2; component = row.component; kind = row.kind }))
   own_begins found start own room o q =
       own_asks own room (said_bytes ds s number row.kind)
       ∙ ap₂ or_else (sym o)
-      (left_any ds s behind_first (record { cursor = f.cursor; found = found; start = start; end = f.end; repetition = 2; component = row.component; kind = row.kind }) q refl refl refl refl)
+      (left_any ds s behind_first (record { cursor = f.cursor; start = start; end = f.end; repetition = 2; component = row.component; kind = row.kind }) q refl refl refl refl)
 
 -- where the repetitions that are left begin
 pub left_most : (b : Bool) (start end : ℕ) → start ≤ end + 1 → cond b (end + 1) start ≤ end + 1

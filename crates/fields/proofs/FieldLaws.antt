@@ -9,11 +9,11 @@ use native.Mathlib.Omega.{arith}
 use lib.Dec.{eqb, leb}
 use lib.ListN.{length, get_or, take, drop}
 use borrow.Author.Tests.{eqb-true, eqb-false, eq-eqb, leb-true, leb-false}
+use Rattle.std.specs.Prelude.{None, Some, Option}
 use Rattle.alphabet.specs.Answers.{in_order}
 use Rattle.alphabet.specs.Lists.{first}
-use Rattle.alphabet.specs.Parts.{split, part_at}
+use Rattle.alphabet.specs.Parts.{split, part_at, from_to}
 use Rattle.alphabet.specs.declared.parts.Part.{Part}
-use Rattle.alphabet.specs.declared.parts.Part.TheVariants.{At, Absent}
 use Rattle.alphabet.proofs.ListLaws.{piece_of_piece}
 use Rattle.alphabet.proofs.PartLaws.{split_nothing, part_bytes_lem, past_none, none_past}
 use Rattle.reading.specs.Segments.{delimiters_of, field_separator}
@@ -72,31 +72,31 @@ module _ (m : List ℕ) (st en : ℕ) (ordered : st ≤ en) (inside : en ≤ len
   abbrev segment : List ℕ
   segment = between m st en
 
-  parts_alike : (i : ℕ) → Alike (repetitions_in m (part_in (field_separator m) m (At st en) i)) (split (get_or (delimiters_of m) 2 0) (get_or (split (field_separator m) segment) i []))
+  parts_alike : (i : ℕ) → Alike (repetitions_in m (part_in (field_separator m) m (from_to st en) i)) (split (get_or (delimiters_of m) 2 0) (get_or (split (field_separator m) segment) i []))
   parts_alike i = at (part_at (field_separator m) segment i) refl
     where
-      at : (p : Part) → part_at (field_separator m) segment i ≡ p → Alike (repetitions_in m (part_in (field_separator m) m (At st en) i)) (split (get_or (delimiters_of m) 2 0) (get_or (split (field_separator m) segment) i []))
-      at (At a b) q =
-          let p = part_bytes_lem (field_separator m) segment i a b q in
+      at : (p : Option Part) → part_at (field_separator m) segment i ≡ p → Alike (repetitions_in m (part_in (field_separator m) m (from_to st en) i)) (split (get_or (delimiters_of m) 2 0) (get_or (split (field_separator m) segment) i []))
+      at (Some part) q =
+          let p = part_bytes_lem (field_separator m) segment i part.start part.end q in
           let n = between_length m st en ordered inside in
           let p1 = p.1 in
           let p2 = p.2 in
-          let e : (st + b) - (st + a) ≡ b - a = omega arith in
+          let e : (st + part.end) - (st + part.start) ≡ part.end - part.start = omega arith in
           inl
-          (ap (repetitions_in m) (in_at (field_separator m) m (At st en) i st en refl a b q)
-          ∙ ap (λ (k : ℕ). split (get_or (delimiters_of m) 2 0) (take k (drop (st + a) m))) e
-          ∙ ap (split (get_or (delimiters_of m) 2 0)) (sym (piece_of_piece m st (en - st) a (b - a) (omega arith)) ∙ p.3))
-      at Absent q =
+          (ap (repetitions_in m) (in_at (field_separator m) m (from_to st en) i st en refl part.start part.end q)
+          ∙ ap (λ (k : ℕ). split (get_or (delimiters_of m) 2 0) (take k (drop (st + part.start) m))) e
+          ∙ ap (split (get_or (delimiters_of m) 2 0)) (sym (piece_of_piece m st (en - st) part.start (part.end - part.start) (omega arith)) ∙ p.3))
+      at None q =
           inr (
-            ap (repetitions_in m) (in_none (field_separator m) m (At st en) i st en refl q),
+            ap (repetitions_in m) (in_none (field_separator m) m (from_to st en) i st en refl q),
             ap (split (get_or (delimiters_of m) 2 0)) (past_none (split (field_separator m) segment) i (none_past (field_separator m) segment i q)) ∙ split_nothing (get_or (delimiters_of m) 2 0),
           )
 
   module _ (number : ℕ) where
     abbrev Agrees : ℕ → Type 0
-    Agrees f = Alike (repetitions_of m number (At st en) f) (split (get_or (delimiters_of m) 2 0) (field_bytes (delimiters_of m) segment number f))
+    Agrees f = Alike (repetitions_of m number (from_to st en) f) (split (get_or (delimiters_of m) 2 0) (field_bytes (delimiters_of m) segment number f))
 
-    from_part : (f i : ℕ) → fixed number f ≡ false → field_in m number (At st en) f ≡ part_in (field_separator m) m (At st en) i
+    from_part : (f i : ℕ) → fixed number f ≡ false → field_in m number (from_to st en) f ≡ part_in (field_separator m) m (from_to st en) i
         → field_bytes (delimiters_of m) segment number f ≡ get_or (split (field_separator m) segment) i [] → Agrees f
     from_part f i a b c = rw (a, b, c) (parts_alike i)
 
@@ -111,25 +111,25 @@ module _ (m : List ℕ) (st en : ℕ) (ordered : st ≤ en) (inside : en ≤ len
             )
         header z false l =
             let g = leb-false f 2 l in
-            from_part f (f - 1) (rw (eq-eqb number 0 z, l)) (field_header m number (At st en) f z (λ e. omega arith)) (bytes_header (delimiters_of m) segment number f z (omega arith))
+            from_part f (f - 1) (rw (eq-eqb number 0 z, l)) (field_header m number (from_to st en) f z (λ e. omega arith)) (bytes_header (delimiters_of m) segment number f z (omega arith))
 
         at : (t : Bool) → eqb number 0 ≡ t → Agrees f
         at true e = header (eqb-true number 0 e) (leb f 2) refl
         at false e =
             let z = eqb-false number 0 e in
-            from_part f f (rw e) (field_other m number (At st en) f z) (bytes_other (delimiters_of m) segment number f z)
+            from_part f f (rw e) (field_other m number (from_to st en) f z) (bytes_other (delimiters_of m) segment number f z)
 
-    said_agrees : (kind : Kind) → said_in m number (At st en) kind ≡ said_bytes (delimiters_of m) segment number kind
+    said_agrees : (kind : Kind) → said_in m number (from_to st en) kind ≡ said_bytes (delimiters_of m) segment number kind
     said_agrees kind =
         ap (λ (said : List ℕ). cond (is_said kind) said [])
-        (alike_first (repetitions_of m number (At st en) (said_field kind)) (split (get_or (delimiters_of m) 2 0) (field_bytes (delimiters_of m) segment number (said_field kind))) (fields_alike (said_field kind)))
+        (alike_first (repetitions_of m number (from_to st en) (said_field kind)) (split (get_or (delimiters_of m) 2 0) (field_bytes (delimiters_of m) segment number (said_field kind))) (fields_alike (said_field kind)))
 
     -- a row asks the same of the segment's bytes
     pub row_agrees : (row : Row)
-        → row_check (delimiters_of m) row (said_in m number (At st en) row.kind) (repetitions_of m number (At st en) row.field)
+        → row_check (delimiters_of m) row (said_in m number (from_to st en) row.kind) (repetitions_of m number (from_to st en) row.field)
         ≡ row_check (delimiters_of m) row (said_bytes (delimiters_of m) segment number row.kind) (split (get_or (delimiters_of m) 2 0) (field_bytes (delimiters_of m) segment number row.field))
     row_agrees row =
-        alike_row (delimiters_of m) row (said_in m number (At st en) row.kind) (repetitions_of m number (At st en) row.field)
+        alike_row (delimiters_of m) row (said_in m number (from_to st en) row.kind) (repetitions_of m number (from_to st en) row.field)
         (split (get_or (delimiters_of m) 2 0) (field_bytes (delimiters_of m) segment number row.field))
         (fields_alike row.field)
         ∙ ap (λ (said : List ℕ). row_check (delimiters_of m) row said (split (get_or (delimiters_of m) 2 0) (field_bytes (delimiters_of m) segment number row.field)))

@@ -10,18 +10,16 @@ use lib.Dec.{eqb}
 use lib.ListN.{length, get_or, take, drop, length-drop, drop_of_length-le}
 use lib.Seq.{drop-cons, length-take-le}
 use borrow.Author.Tests.{eq-eqb, ne_eqb}
+use Rattle.alphabet.specs.Answers.{Check, passes, fails}
 use Rattle.alphabet.specs.Bytes.{carriage_return}
 use Rattle.alphabet.specs.Lists.{find}
-use Rattle.alphabet.specs.Parts.{split}
-use Rattle.alphabet.specs.declared.answers.Check.{Check}
-use Rattle.alphabet.specs.declared.answers.Check.TheVariants.{Passes, Fails}
+use Rattle.alphabet.specs.Parts.{split, from_to}
 use Rattle.alphabet.specs.declared.answers.Refusal.{Refusal}
-use Rattle.alphabet.specs.declared.parts.Part.TheVariants.{At}
 use Rattle.reading.specs.Segments.{all_but_last, segments, delimiters_of}
 use Rattle.reading.proofs.SegmentLaws.{segments_walk, segments_over}
 use Rattle.field_table.specs.Table.{no_row}
 use Rattle.rules.specs.Rules.{row_check}
-use Rattle.fields.specs.Judging.{Fault, Sound, name_at, said_in, repetitions_of, located, or_fault, first_fault, row_fault, segment_fault, segment_faults, judging}
+use Rattle.fields.specs.Judging.{Fault, sound, name_at, said_in, repetitions_of, located, or_fault, first_fault, row_fault, segment_fault, segment_faults, judging}
 use Rattle.fields.specs.Walk.{row_in, row_fault_in, judged_in, NoneBefore, NoneFrom}
 use Rattle.field_table.specs.declared.Row.{Row}
 use Rattle.fields.proofs.FieldLaws.{row_agrees}
@@ -38,10 +36,10 @@ segments_left rows m number start = first_fault (segment_faults rows m number st
 
 module _ (number field : ℕ) {c : Check} (rest : Fault) where
   -- a check that fails is the first fault, and one that passes none
-  pub own_stops : {kind : Refusal} {place : ℕ} → c ≡ Fails kind place → or_fault (located number field c) rest ≡ located number field c
+  pub own_stops : {kind : Refusal} {place : ℕ} → c ≡ fails kind place → or_fault (located number field c) rest ≡ located number field c
   own_stops e = rw e
 
-  pub own_passes : c ≡ Passes → or_fault (located number field c) rest ≡ rest
+  pub own_passes : c ≡ passes → or_fault (located number field c) rest ≡ rest
   own_passes e = rw e
 
 -- ---- the rows
@@ -50,7 +48,7 @@ first_cons : (f : Fault) (later : List Fault) → first_fault (f ∷ later) ≡ 
 unfolding first_fault
 first_cons f later = refl
 
-first_none : first_fault [] ≡ Sound
+first_none : first_fault [] ≡ sound
 unfolding first_fault
 first_none = refl
 
@@ -64,7 +62,7 @@ pub rows_all : (rows : List Row) (ds : List ℕ) (number : ℕ) (s : List ℕ) �
 unfolding judged_in
 rows_all rows ds number s = refl
 
-rows_over : (rows : List Row) (ds : List ℕ) (number : ℕ) (s : List ℕ) (index : ℕ) → length rows ≤ index → rows_left rows ds number s index ≡ Sound
+rows_over : (rows : List Row) (ds : List ℕ) (number : ℕ) (s : List ℕ) (index : ℕ) → length rows ≤ index → rows_left rows ds number s index ≡ sound
 rows_over rows ds number s index h = ap (λ (rs : List Row). first_fault (map (row_fault_in ds number s) rs)) (drop_of_length-le rows h) ∙ first_none
 
 module _ (rows : List Row) (ds : List ℕ) (number : ℕ) (s : List ℕ) (index : ℕ) (h : index < length rows) (row : Row) (e : row ≡ get_or rows index no_row) where
@@ -75,11 +73,11 @@ module _ (rows : List Row) (ds : List ℕ) (number : ℕ) (s : List ℕ) (index 
 
   -- a row of another segment
   pub row_other : (row.segment ≡ name_at number s → ⊥) → rows_left rows ds number s index ≡ rows_left rows ds number s (index + 1)
-  row_other n = next ∙ ap (λ (t : Bool). or_fault (cond t (located number row.field (row_in ds s number row)) Sound) (rows_left rows ds number s (index + 1))) (ne_eqb row.segment (name_at number s) n)
+  row_other n = next ∙ ap (λ (t : Bool). or_fault (cond t (located number row.field (row_in ds s number row)) sound) (rows_left rows ds number s (index + 1))) (ne_eqb row.segment (name_at number s) n)
 
   -- a row of this segment
   pub row_own : row.segment ≡ name_at number s → rows_left rows ds number s index ≡ or_fault (located number row.field (row_in ds s number row)) (rows_left rows ds number s (index + 1))
-  row_own q = next ∙ ap (λ (t : Bool). or_fault (cond t (located number row.field (row_in ds s number row)) Sound) (rows_left rows ds number s (index + 1))) (eq-eqb row.segment (name_at number s) q)
+  row_own q = next ∙ ap (λ (t : Bool). or_fault (cond t (located number row.field (row_in ds s number row)) sound) (rows_left rows ds number s (index + 1))) (eq-eqb row.segment (name_at number s) q)
 
 module _ (rows : List Row) (ds : List ℕ) (number : ℕ) (s : List ℕ) where
   go_before : (first : ℕ) → first ≤ length rows → ((index : ℕ) → index < first → (get_or rows index no_row).segment ≡ name_at number s → ⊥) → rows_left rows ds number s 0 ≡ rows_left rows ds number s first
@@ -95,15 +93,15 @@ module _ (rows : List Row) (ds : List ℕ) (number : ℕ) (s : List ℕ) where
 
   -- the rows from one on from which none is of this segment
   module _ {last : ℕ} (n : NoneFrom rows (name_at number s) last) where
-    go_from : (count index : ℕ) → last ≤ index → length rows ≤ index + count → rows_left rows ds number s index ≡ Sound
+    go_from : (count index : ℕ) → last ≤ index → length rows ≤ index + count → rows_left rows ds number s index ≡ sound
     go_from zero index g h = rows_over rows ds number s index (omega arith)
     go_from (suc count) index g h = at (go_from count (index + 1) (omega arith) (omega arith)) (dec_lt index (length rows))
       where
-        at : rows_left rows ds number s (index + 1) ≡ Sound → Dec (index < length rows) → rows_left rows ds number s index ≡ Sound
+        at : rows_left rows ds number s (index + 1) ≡ sound → Dec (index < length rows) → rows_left rows ds number s index ≡ sound
         at later (yes l) = row_other rows ds number s index l (get_or rows index no_row) refl (n.others index g l) ∙ later
         at later (no l) = rows_over rows ds number s index (omega arith)
 
-    pub rows_from : (index : ℕ) → last ≤ index → rows_left rows ds number s index ≡ Sound
+    pub rows_from : (index : ℕ) → last ≤ index → rows_left rows ds number s index ≡ sound
     rows_from index g = go_from (length rows) index g (omega arith)
 
 module _ (rows : List Row) (name : ℕ) where
@@ -136,7 +134,7 @@ unfolding judging segments
 segments_start rows m = refl
 
 module _ (rows : List Row) (m : List ℕ) (number start : ℕ) where
-  pub segments_none : length m ≤ start + find carriage_return (drop start m) → segments_left rows m number start ≡ Sound
+  pub segments_none : length m ≤ start + find carriage_return (drop start m) → segments_left rows m number start ≡ sound
   unfolding segment_faults
   segments_none h = rw (segments_over m start h) first_none
 
@@ -151,14 +149,14 @@ module _ (rows : List Row) (m : List ℕ) (number start : ℕ) where
         let t = length-take-le (end - start) (drop start m) (omega arith) in
         omega arith
 
-    row_same : (row : Row) → row_fault m number (At start (start + length segment)) segment row ≡ row_fault_in ds number segment row
+    row_same : (row : Row) → row_fault m number (from_to start (start + length segment)) segment row ≡ row_fault_in ds number segment row
     unfolding row_fault
     row_same row =
-        ap (λ (k : ℕ). cond (eqb row.segment (name_at number segment)) (located number row.field (row_check (delimiters_of m) row (said_in m number (At start k) row.kind) (repetitions_of m number (At start k) row.field))) Sound) segment_length
-        ∙ ap (λ (c : Check). cond (eqb row.segment (name_at number segment)) (located number row.field c) Sound) (row_agrees m start end (omega arith) (omega arith) number row)
+        ap (λ (k : ℕ). cond (eqb row.segment (name_at number segment)) (located number row.field (row_check (delimiters_of m) row (said_in m number (from_to start k) row.kind) (repetitions_of m number (from_to start k) row.field))) sound) segment_length
+        ∙ ap (λ (c : Check). cond (eqb row.segment (name_at number segment)) (located number row.field c) sound) (row_agrees m start end (omega arith) (omega arith) number row)
         ∙ ap (λ (d : List ℕ). row_fault_in d number segment row) (sym delimiters)
 
-    rows_same : (rs : List Row) → map (row_fault m number (At start (start + length segment)) segment) rs ≡ map (row_fault_in ds number segment) rs
+    rows_same : (rs : List Row) → map (row_fault m number (from_to start (start + length segment)) segment) rs ≡ map (row_fault_in ds number segment) rs
     rows_same [] = refl
     rows_same (row ∷ rest) = ap₂ ◌∷◌ (row_same row) (rows_same rest)
 

@@ -1,16 +1,14 @@
 -- What the contracts of private functions say of a walk along one segment's bytes. Nobody has to believe these: the
 -- judge's own contract names none of them.
-use Rattle.std.specs.Prelude.{ℕ, ◌+◌, ◌-◌, ◌^◌, ◌≤◌, ◌<◌, ◌≡◌, List, [], map, cond, eqb, leb, length, get_or, take, drop}
-use Rattle.alphabet.specs.Answers.{or_else, in_order}
+use Rattle.std.specs.Prelude.{ℕ, ◌+◌, ◌-◌, ◌^◌, ◌≤◌, ◌<◌, ◌≡◌, List, [], map, cond, eqb, leb, length, get_or, take, drop, Ok, Err}
+use Rattle.alphabet.specs.Answers.{in_order, Refusable, Check, passes}
 use Rattle.alphabet.specs.Lists.{find}
 use Rattle.alphabet.specs.Parts.{split}
-use Rattle.alphabet.specs.declared.answers.Check.{Check}
-use Rattle.alphabet.specs.declared.answers.Check.TheVariants.{Passes}
 use Rattle.rules.specs.Rules.{is_said, said_field, repetition_checks, row_check}
 use Rattle.field_table.specs.Table.{no_row}
 use Rattle.field_table.specs.declared.Kind.{Kind}
 use Rattle.field_table.specs.declared.Row.{Row}
-use Rattle.fields.specs.Judging.{Fault, Sound, name_at, located, first_fault}
+use Rattle.fields.specs.Judging.{Fault, sound, name_at, located, first_fault}
 use Rattle.fields.specs.declared.walk.Cursor.{Cursor}
 use Rattle.fields.specs.declared.walk.Sought.{Sought}
 use Rattle.fields.specs.declared.walk.Turn.{Turn}
@@ -40,7 +38,7 @@ row_in ds s number row = row_check ds row (said_bytes ds s number row.kind) (spl
 
 -- the fault of a row; one of another segment asks nothing
 abbrev pub row_fault_in : List ℕ → ℕ → List ℕ → Row → Fault
-row_fault_in ds number s row = cond (eqb row.segment (name_at number s)) (located number row.field (row_in ds s number row)) Sound
+row_fault_in ds number s row = cond (eqb row.segment (name_at number s)) (located number row.field (row_in ds s number row)) sound
 
 -- the first fault that rows find in a segment
 unfoldable pub judged_in : List Row → List ℕ → ℕ → List ℕ → Fault
@@ -72,15 +70,20 @@ abbrev pub left_of : List ℕ → List ℕ → Turn → Check
 left_of ds s t =
     cond (leb t.start t.end)
     (in_order (repetition_checks ds t.component t.kind t.repetition (split (get_or ds 2 0) (take (t.end - t.start) (drop t.start s)))))
-    Passes
+    passes
 
 -- a row begun: its opening was checked, and some of its repetitions are left
-pub record Begins (ds s : List ℕ) (number : ℕ) (row : Row) (r : Turn) : Type 0 where
+pub record Begun (ds s : List ℕ) (number : ℕ) (row : Row) (r : Turn) : Type 0 where
   pub stands : Stands (get_or ds 0 0) s r.cursor
   pub ordered : r.start ≤ r.end + 1
   pub inside : r.end ≤ length s
   pub counted : r.repetition ≤ r.start + 1
-  pub asks : row_in ds s number row ≡ or_else r.found (left_of ds s r)
+  pub asks : row_in ds s number row ≡ left_of ds s r
+
+-- or a check of its opening failed
+abbrev pub Begins : List ℕ → List ℕ → ℕ → Row → Refusable Turn → Type 0
+Begins ds s number row (Ok r) = Begun ds s number row r
+Begins ds s number row (Err fault) = row_in ds s number row ≡ Err fault
 
 -- a repetition is left, in a segment that is shorter than the numbers reach
 pub record Goes (s : List ℕ) (t : Turn) : Type 0 where
@@ -90,12 +93,22 @@ pub record Goes (s : List ℕ) (t : Turn) : Type 0 where
   pub room : length s + 1 < 2 ^ 64
 
 -- one repetition on
-pub record Steps (ds s : List ℕ) (t r : Turn) : Type 0 where
+pub record Stepped (ds s : List ℕ) (t r : Turn) : Type 0 where
   pub same_end : r.end ≡ t.end
   pub forward : t.start < r.start
   pub most : r.start ≤ r.end + 1
   pub counted : r.repetition ≤ r.start + 1
-  pub asks : left_of ds s t ≡ or_else r.found (left_of ds s r)
+  pub asks : left_of ds s t ≡ left_of ds s r
+
+-- or its check failed
+abbrev pub Steps : List ℕ → List ℕ → Turn → Refusable Turn → Type 0
+Steps ds s t (Ok r) = Stepped ds s t r
+Steps ds s t (Err fault) = left_of ds s t ≡ Err fault
+
+-- a row judged: no check fails, and the cursor stands from which to seek the next; or the first that fails
+abbrev pub Judges : List ℕ → List ℕ → ℕ → Row → Refusable Cursor → Type 0
+Judges ds s number row (Ok cursor) = Stands (get_or ds 0 0) s cursor × (row_in ds s number row ≡ passes)
+Judges ds s number row (Err fault) = row_in ds s number row ≡ Err fault
 
 -- rows of which none before `first` is of a name
 pub record NoneBefore (rows : List Row) (name first : ℕ) : Type 0 where

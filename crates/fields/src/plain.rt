@@ -1,12 +1,12 @@
 // A quick look at a segment that is as nearly all are: short, and with each field that is judged seen at once to be
 // sound. Where its fields end is noted in one walk. That it does not see a segment to be sound says nothing: the rows
 // are then judged one by one, from the cursor of `walk`.
-ghost use Rattle.std.specs.Prelude.{◌≡◌, true, cond, ℕ, ◌≤◌, eqb, get_or};
-ghost use Rattle.alphabet.specs.declared.answers.Check.TheVariants.{Passes};
+ghost use Rattle.std.specs.Prelude.{◌≡◌, true, cond, ℕ, ◌≤◌, eqb, get_or, Some};
+ghost use Rattle.alphabet.specs.Answers.{passes};
 ghost use Rattle.ends.specs.Ends.{Noted};
 ghost use Rattle.field_table.specs.Table.{rows};
 ghost use Rattle.rules.specs.Plain.{Permitted};
-ghost use Rattle.fields.specs.Judging.{Sound, name_at};
+ghost use Rattle.fields.specs.Judging.{sound, name_at};
 ghost use Rattle.fields.specs.Walk.{row_in, judged_in, NoneBefore, NoneFrom, Indexed};
 
 use alphabet::Delimiters;
@@ -27,19 +27,19 @@ fn base_of(number: usize) -> usize
     0
 }
 
-// The place of a field in its segment, of which ends are noted up to `most`; 0 where it has none there that is split.
-fn index_in(field: usize, base: usize, most: usize) -> usize
+// The place of a field in its segment, of which ends are noted up to `most`, where it has one there that is split.
+fn index_in(field: usize, base: usize, most: usize) -> Option<usize>
     requires { base ≤ 1 }
-    ensures { (result ≡ 0 → ⊥) → Indexed field base most result }
+    ensures { (index : ℕ) → result ≡ Some index → Indexed field base most index }
 {
     if field <= 2 * base {
-        return 0;
+        return None;
     }
     let index = field - base;
     if (most < index) | (ROOM <= index) {
-        return 0;
+        return None;
     }
-    index
+    Some(index)
 }
 
 // Whether a row's field is seen at once to be sound.
@@ -54,22 +54,18 @@ fn is_row_plain(
     requires { base ≤ 1 }
     ensures { result ≡ true → Permitted delimiters.bytes → (number : ℕ) → base ≡ cond (eqb number 0) 1 0
         → Noted (get_or delimiters.bytes 0 0) segment.now most ends.now
-        → row_in delimiters.bytes segment.now number row ≡ Passes }
+        → row_in delimiters.bytes segment.now number row ≡ passes }
 {
-    let index = index_in(row.field, base, most);
-    if index == 0 {
+    let Some(index) = index_in(row.field, base, most) else {
         return false;
-    }
+    };
     let bytes = ends::part(segment, ends, index);
-    let kind = row.kind;
-    let by = rules::said_field(kind);
-    if by == 0 {
+    let Some(by) = rules::said_field(row.kind) else {
         return rules::is_plain(delimiters, row, bytes);
-    }
-    let said_index = index_in(by, base, most);
-    if said_index == 0 {
+    };
+    let Some(said_index) = index_in(by, base, most) else {
         return false;
-    }
+    };
     let said = ends::part(segment, ends, said_index);
     rules::is_plain_said(row, said, bytes)
 }
@@ -86,7 +82,7 @@ pub fn is_plain(
 ) -> bool
     requires { NoneBefore rows name from × NoneFrom rows name to }
     ensures { result ≡ true → Permitted delimiters.bytes → name ≡ name_at number segment.now
-        → judged_in rows delimiters.bytes number segment.now ≡ Sound }
+        → judged_in rows delimiters.bytes number segment.now ≡ sound }
 {
     if to <= from {
         return true;
@@ -125,7 +121,7 @@ pub fn is_seen_sound(
 ) -> bool
     requires { NoneBefore rows name from × NoneFrom rows name to }
     ensures { result ≡ true → name ≡ name_at number segment.now
-        → judged_in rows delimiters.bytes number segment.now ≡ Sound }
+        → judged_in rows delimiters.bytes number segment.now ≡ sound }
 {
     if alphabet::first_wrong_delimiter(delimiters) != 5 {
         return false;

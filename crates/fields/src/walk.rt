@@ -4,10 +4,10 @@
 ghost use Rattle.std.specs.Prelude.{◌≡◌, ◌+◌, ◌^◌, ◌≤◌, ◌<◌, true, cond, [], length, get_or, drop};
 ghost use Rattle.alphabet.specs.Lists.{find};
 ghost use Rattle.alphabet.specs.Parts.{split};
-ghost use Rattle.rules.specs.Rules.{is_said, is_any};
-ghost use Rattle.fields.specs.Walk.{field_index, field_bytes, first_of, Stands, Reaches, Finds, Begins, Goes, Steps, row_in};
+ghost use Rattle.rules.specs.Rules.{is_said, said_field, is_any};
+ghost use Rattle.fields.specs.Walk.{field_index, field_bytes, first_of, Stands, Reaches, Finds, Begins, Goes, Steps, Judges};
 
-use alphabet::{Check, Delimiters, Part};
+use alphabet::{Delimiters, Fault};
 use field_table::{Kind, Row};
 use rules::{
     check_opening, check_own, check_repetition, component_of, is_any, kind_of, said_field,
@@ -30,13 +30,12 @@ struct Sought {
     pub end: usize,
 }
 
-// A row of a segment as it is judged: what the last check found, first those of the row's opening; where those of its
-// repetitions stand that are left, from `start` up to and without `end`, or none where `start` is past `end`; the
-// number of the first of them; and what they are to be judged by.
+// A row of a segment as it is judged, where no check has failed: where those of its repetitions stand that are left, from
+// `start` up to and without `end`, or none where `start` is past `end`; the number of the first of them; and what they
+// are to be judged by.
 #[derive(Clone, Copy)]
 struct Turn {
     pub cursor: Cursor,
-    pub found: Check,
     pub start: usize,
     pub end: usize,
     pub repetition: usize,
@@ -180,11 +179,7 @@ fn field_bytes(delimiters: Delimiters, segment: &[u8], number: usize, field: usi
         return &segment[..0];
     }
     let bytes = delimiters.bytes;
-    let part = alphabet::nth_part(segment, bytes[0], index_of(number, field));
-    let Part::At { start, end } = part else {
-        return &segment[..0];
-    };
-    &segment[start..end]
+    element::part_in(segment, bytes[0], index_of(number, field))
 }
 
 // Repetition 1 of a field of a segment, as of the one that says a row's type.
@@ -214,36 +209,34 @@ fn begin_said(
     segment: &[u8],
     number: usize,
     row: Row,
+    by: usize,
     sought: Sought,
-) -> Turn
+) -> Result<Turn, Fault>
     requires { Finds delimiters.bytes segment.now (field_bytes delimiters.bytes segment.now number row.field) sought
-        × (is_said row.kind ≡ true) × (length segment.now + 1 < 2 ^ 64) }
+        × (is_said row.kind ≡ true) × (by ≡ said_field row.kind) × (length segment.now + 1 < 2 ^ 64) }
     ensures { Begins delimiters.bytes segment.now number row result }
 {
-    let kind = row.kind;
     let start = sought.start;
     let first = sought.first;
     let end = sought.end;
-    let said = said_in(delimiters, segment, number, said_field(kind));
-    let opening = check_opening(
+    let said = said_in(delimiters, segment, number, by);
+    check_opening(
         delimiters,
         row,
         said,
         &segment[start..first],
         first < end,
         &segment[start..end],
-    );
-    let judged = kind_of(kind, said);
-    let cursor = sought.cursor;
-    Turn {
-        cursor: cursor,
-        found: opening,
-        start: left_from(judged, start, end),
-        end: end,
+    )?;
+    let kind = kind_of(row.kind, said);
+    Ok(Turn {
+        cursor: sought.cursor,
+        start: left_from(kind, start, end),
+        end,
         repetition: 1,
         component: component_of(row, said),
-        kind: judged,
-    }
+        kind,
+    })
 }
 
 // Begins a row of a segment: its field is sought from the cursor, and its opening checked, with repetition 1 where the
@@ -254,94 +247,69 @@ fn begin_row(
     number: usize,
     row: Row,
     cursor: Cursor,
-) -> Turn
+) -> Result<Turn, Fault>
     requires { Stands (get_or delimiters.bytes 0 0) segment.now cursor × (length segment.now + 1 < 2 ^ 64) }
     ensures { Begins delimiters.bytes segment.now number row result }
 {
-    let kind = row.kind;
     let sought = field_in(delimiters, segment, number, row.field, cursor);
-    if said_field(kind) != 0 {
-        return begin_said(delimiters, segment, number, row, sought);
+    if let Some(by) = said_field(row.kind) {
+        return begin_said(delimiters, segment, number, row, by, sought);
     }
-    let next = sought.cursor;
     let start = sought.start;
     let first = sought.first;
     let end = sought.end;
-    let found = check_own(delimiters, row, &segment[start..first], first < end);
-    Turn {
-        cursor: next,
-        found: found,
-        start: left_from(kind, first + 1, end),
-        end: end,
+    check_own(delimiters, row, &segment[start..first], first < end)?;
+    Ok(Turn {
+        cursor: sought.cursor,
+        start: left_from(row.kind, first + 1, end),
+        end,
         repetition: 2,
         component: row.component,
-        kind: kind,
-    }
+        kind: row.kind,
+    })
 }
 
 // Judges the next of the repetitions that are left.
-fn next_repetition(delimiters: Delimiters, segment: &[u8], turn: Turn) -> Turn
+fn next_repetition(delimiters: Delimiters, segment: &[u8], turn: Turn) -> Result<Turn, Fault>
     requires { Goes segment.now turn }
     ensures { Steps delimiters.bytes segment.now turn result }
 {
     let bytes = delimiters.bytes;
     let start = turn.start;
     let end = turn.end;
-    let repetition = turn.repetition;
-    let component = turn.component;
-    let kind = turn.kind;
     let next = start + search::find_by_words(&segment[start..end], bytes[2]);
-    let found = check_repetition(
+    check_repetition(
         delimiters,
-        component,
-        kind,
-        repetition,
+        turn.component,
+        turn.kind,
+        turn.repetition,
         &segment[start..next],
-    );
-    let cursor = turn.cursor;
-    Turn {
-        cursor: cursor,
-        found: found,
+    )?;
+    Ok(Turn {
+        cursor: turn.cursor,
         start: next + 1,
-        end: end,
-        repetition: repetition + 1,
-        component: component,
-        kind: kind,
-    }
+        end,
+        repetition: turn.repetition + 1,
+        component: turn.component,
+        kind: turn.kind,
+    })
 }
 
-// A row of a segment that was judged: the first check that fails, or one that passes; and the cursor from which to seek
-// the next.
-#[derive(Clone, Copy)]
-pub struct RowJudged {
-    pub cursor: Cursor,
-    pub found: Check,
-}
-
-// Judges a row of a segment: its opening, and then its repetitions in turn.
+// Judges a row of a segment: its opening, and then its repetitions in turn. Gives the cursor from which to seek the next.
 pub fn judge_row(
     delimiters: Delimiters,
     segment: &[u8],
     number: usize,
     row: Row,
     cursor: Cursor,
-) -> RowJudged
+) -> Result<Cursor, Fault>
     requires { Stands (get_or delimiters.bytes 0 0) segment.now cursor × (length segment.now + 1 < 2 ^ 64) }
-    ensures { Stands (get_or delimiters.bytes 0 0) segment.now result.cursor
-        × (result.found ≡ row_in delimiters.bytes segment.now number row) }
+    ensures { Judges delimiters.bytes segment.now number row result }
 {
-    let mut turn = begin_row(delimiters, segment, number, row, cursor);
+    let mut turn = begin_row(delimiters, segment, number, row, cursor)?;
     let next = turn.cursor;
-    let mut found = turn.found;
     while turn.start <= turn.end {
-        let Check::Passes = found else {
-            break;
-        };
-        turn = next_repetition(delimiters, segment, turn);
-        found = turn.found;
+        turn = next_repetition(delimiters, segment, turn)?;
     }
-    RowJudged {
-        cursor: next,
-        found: found,
-    }
+    Ok(next)
 }
