@@ -1,37 +1,17 @@
 // The number that decimal digits say.
-ghost use Rattle.std.specs.Prelude.{◌≡◌};
 
-// What bytes say: a number, or none.
-#[derive(Clone, Copy)]
-pub enum Number {
-    Value(usize),
-    Refused,
-}
-
-// A byte as a wider number. By a call of its own the cast asks no proof that the byte fits.
-fn wide(byte: u8) -> usize
-    ensures { result ≡ byte }
-{
-    byte as usize
-}
-
-// The number that decimal digits say. A value that the next digit would take past 64 bits is refused before it is made.
-pub fn number_of(word: &[u8]) -> Number {
-    if word.len() == 0 {
-        return Number::Refused;
+// The number that a word of decimal digits says. Other bytes say none, nor does a value past 64 bits.
+pub fn number_of(word: &[u8]) -> Option<usize> {
+    if word.is_empty() {
+        return None;
     }
-    let mut value: usize = 0;
-    let mut i = 0;
-    while i < word.len() {
-        if !alphabet::is_digit(word[i]) {
-            return Number::Refused;
+    let mut value = 0usize;
+    for byte in word {
+        if !alphabet::is_digit(*byte) {
+            return None;
         }
-        let digit = wide(alphabet::hex_value(word[i]));
-        if (usize::MAX - digit) / 10 < value {
-            return Number::Refused;
-        }
-        value = value * 10 + digit;
-        i += 1;
+        let digit = usize::from(alphabet::hex_value(*byte));
+        value = value.checked_mul(10)?.checked_add(digit)?;
     }
-    Number::Value(value)
+    Some(value)
 }

@@ -1,85 +1,70 @@
 // The commands, by the words that say them, and how many words each takes behind it.
 
-// The commands, as numbers that can be compared. No word at all says none.
-pub const NOTHING: u8 = 0;
+// The option that asks for answers in JSON.
+pub const JSON_OPTION: &[u8] = b"--json";
 
-pub const CHECK: u8 = 1;
-
-pub const SHOW: u8 = 2;
-
-pub const GET: u8 = 3;
-
-pub const ACKNOWLEDGE: u8 = 4;
-
-pub const FRAMES: u8 = 5;
-
-pub const LINES: u8 = 6;
-
-// From here on the commands that tell of the command itself, and take no file.
-pub const HELP: u8 = 7;
-
-pub const VERSION: u8 = 8;
-
-// Words that say no command. What is wrong with them was said.
-pub const WRONG: u8 = 9;
+// What a word asks for: the commands on files, and the two that tell of the command itself and take no file.
+#[derive(Clone, Copy, PartialEq, Eq)]
+pub enum Command {
+    Check,
+    Show,
+    Get,
+    Acknowledge,
+    Frames,
+    Lines,
+    Help,
+    Version,
+}
 
 // Whether a word asks for help, wherever it is asked.
 pub fn is_help(word: &[u8]) -> bool {
-    alphabet::same(word, b"--help") | alphabet::same(word, b"-h")
+    matches!(word, b"--help" | b"-h")
 }
 
-// The command that a word says.
-pub fn command_of(word: &[u8]) -> u8 {
-    if alphabet::same(word, b"check") {
-        return CHECK;
+impl Command {
+    // The command that a word says.
+    pub fn of(word: &[u8]) -> Option<Command> {
+        match word {
+            b"check" => Some(Command::Check),
+            b"frames" => Some(Command::Frames),
+            b"show" => Some(Command::Show),
+            b"get" => Some(Command::Get),
+            b"lines" => Some(Command::Lines),
+            b"ack" => Some(Command::Acknowledge),
+            b"help" | b"--help" | b"-h" => Some(Command::Help),
+            b"--version" => Some(Command::Version),
+            _ => None,
+        }
     }
-    if alphabet::same(word, b"frames") {
-        return FRAMES;
-    }
-    if alphabet::same(word, b"show") {
-        return SHOW;
-    }
-    if alphabet::same(word, b"get") {
-        return GET;
-    }
-    if alphabet::same(word, b"lines") {
-        return LINES;
-    }
-    if alphabet::same(word, b"ack") {
-        return ACKNOWLEDGE;
-    }
-    if is_help(word) | alphabet::same(word, b"help") {
-        return HELP;
-    }
-    if alphabet::same(word, b"--version") {
-        return VERSION;
-    }
-    WRONG
-}
 
-// Whether a command asks for an element, by the words behind the file's name.
-pub fn takes_address(command: u8) -> bool {
-    (command == GET) | (command == LINES)
-}
+    // Whether a command asks for an element, by the words behind the file's name.
+    pub fn takes_address(self) -> bool {
+        matches!(self, Command::Get | Command::Lines)
+    }
 
-// Whether a command takes any number of files.
-pub fn takes_files(command: u8) -> bool {
-    (command == CHECK) | (command == FRAMES)
-}
+    // Whether a command takes any number of files.
+    pub fn takes_files(self) -> bool {
+        matches!(self, Command::Check | Command::Frames)
+    }
 
-// Whether a command takes the option --json.
-pub fn takes_json(command: u8) -> bool {
-    takes_files(command) | ((command == SHOW) | (command == GET))
-}
+    // Whether a command takes the option --json.
+    pub fn takes_json(self) -> bool {
+        matches!(
+            self,
+            Command::Check | Command::Frames | Command::Show | Command::Get
+        )
+    }
 
-// Whether a command takes so many words: a file or more to check or to take frames from, one to show, one to get an
-// element or its lines from with an address of one to five words behind its name, one to acknowledge with two, and none
-// to tell of itself.
-pub fn takes_words(command: u8, count: usize) -> bool {
-    let is_checked = takes_files(command) & (1 <= count);
-    let is_shown = (command == SHOW) & (count == 1);
-    let is_got = takes_address(command) & ((2 <= count) & (count <= 6));
-    let is_acknowledged = (command == ACKNOWLEDGE) & (count == 3);
-    let is_told = (HELP <= command) & (count == 0);
-    ((is_checked | is_shown) | (is_got | is_acknowledged)) | is_told
+    // Whether a command takes so many words: a file or more to check or to take frames from, one to show, one to get an
+    // element or its lines from with an address of one to five words behind its name, one to acknowledge with two, and
+    // none to tell of itself.
+    pub fn takes_words(self, count: usize) -> bool {
+        match self {
+            Command::Check | Command::Frames => 1 <= count,
+            Command::Show => count == 1,
+            Command::Get | Command::Lines => (2 <= count) & (count <= 6),
+            Command::Acknowledge => count == 3,
+            Command::Help | Command::Version => count == 0,
+        }
+    }
 }

@@ -7,8 +7,5 @@ mod questions;
 mod words;
 mod wrong;
 
-pub use commands::{
-    ACKNOWLEDGE, CHECK, FRAMES, GET, HELP, LINES, NOTHING, SHOW, VERSION, takes_address,
-    takes_files,
-};
-pub use questions::{Question, question_at};
+pub use commands::Command;
+pub use questions::{Asked, Question, question_at};

@@ -2,43 +2,38 @@
 // question and not of the file, so that they are judged before any file is read.
 ghost use Rattle.std.specs.Prelude.{◌≤◌};
 
-use crate::commands::{ACKNOWLEDGE, takes_address};
+use crate::commands::Command;
 use crate::wrong::{tell_id, tell_time};
+use command_line::word_at;
 use std::rt::Env;
 
 // Whether a word is a time, as an acknowledgement takes it. Else that is said of it.
-fn is_time(rt: &impl Env, index: usize, word: &mut [u8]) -> bool {
-    let length = command_line::word(rt, index, word);
-    let time = &word[..length];
-    if times::is_ts(time) {
-        return true;
+fn is_time(word: &[u8]) -> bool {
+    let is_right = times::is_ts(word);
+    if !is_right {
+        tell_time(word);
     }
-    tell_time(time);
-    false
+    is_right
 }
 
 // Whether a word is an ID, as an acknowledgement takes it. Else that is said of it.
-fn is_id(rt: &impl Env, index: usize, word: &mut [u8]) -> bool {
-    let length = command_line::word(rt, index, word);
-    if (1 <= length) & (length <= alphabet::id_limit()) {
-        return true;
+fn is_id(word: &[u8]) -> bool {
+    let is_right = (1 <= word.len()) & (word.len() <= alphabet::id_limit());
+    if !is_right {
+        tell_id();
     }
-    tell_id();
-    false
+    is_right
 }
 
 // Whether the words from `first` on are such as a command takes behind a file's name. Else that is said of them.
-pub fn are_asked(rt: &impl Env, command: u8, first: usize, word: &mut [u8]) -> bool
+pub fn are_asked(rt: &impl Env, command: Command, first: usize, word: &mut [u8]) -> bool
     requires { first ≤ 9 }
 {
-    if takes_address(command) {
-        return addresses::is_address(rt, first, word);
+    match command {
+        Command::Get | Command::Lines => addresses::is_address(rt, first, word),
+        Command::Acknowledge => {
+            is_time(word_at(rt, first, word)) && is_id(word_at(rt, first + 1, word))
+        }
+        _ => true,
     }
-    if command != ACKNOWLEDGE {
-        return true;
-    }
-    if !is_time(rt, first, word) {
-        return false;
-    }
-    is_id(rt, first + 1, word)
 }

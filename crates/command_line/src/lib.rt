@@ -19,20 +19,22 @@ pub fn word(rt: &impl Env, index: usize, buffer: &mut [u8]) -> usize
     }
 }
 
+// The word at an index, put to the front of a buffer: no bytes where there is no such word, or a longer one.
+pub fn word_at<'a>(rt: &impl Env, index: usize, buffer: &'a mut [u8]) -> &'a [u8]
+    ensures { length result.now ≤ length buffer.old }
+{
+    let length = word(rt, index, buffer);
+    &buffer[..length]
+}
+
 // Whether no word stands at an index. No room is lent for one that does.
 fn is_missing(rt: &impl Env, index: usize) -> bool {
-    match rt.arg(index, &mut []) {
-        Err(FillError::NotPresent) => true,
-        _ => false,
-    }
+    matches!(rt.arg(index, &mut []), Err(FillError::NotPresent))
 }
 
 // How many words there are, the command itself among them.
 pub fn word_count(rt: &impl Env) -> usize {
-    for index in 0..usize::MAX {
-        if is_missing(rt, index) {
-            return index;
-        }
-    }
-    usize::MAX
+    (0..usize::MAX)
+        .find(|index| is_missing(rt, *index))
+        .unwrap_or(usize::MAX)
 }

@@ -4,6 +4,7 @@
 #![tactic(auto)]
 
 ghost use Rattle.std.specs.Prelude.{◌≤◌, length};
+ghost use Rattle.std.specs.Iterator.{UpTo};
 
 use terminal::Output;
 
@@ -16,50 +17,39 @@ const WIDTH: usize = 72;
 // How many of them stand before the marks, at most.
 const BEFORE: usize = 36;
 
-fn least(one: usize, other: usize) -> usize
-    ensures { (result ≤ one) × (result ≤ other) }
-{
-    if one < other { one } else { other }
-}
-
 // How many columns a byte takes that is printed: one, or four where it stands in braces.
 fn columns_of(byte: u8) -> usize {
     if terminal::is_plain(byte) { 1 } else { 4 }
+}
+
+// How many of some bytes in a row take no more than so many columns.
+fn count_fitting<'a, I: Iterator<Item = &'a u8> + Drop>(bytes: I, columns: usize) -> usize
+    requires can { I.can_next bytes }
+    requires ends { UpTo (I.remaining bytes) 18446744073709551615 }
+{
+    bytes
+        .scan(columns, |left, byte| {
+            *left = left.checked_sub(columns_of(*byte))?;
+            Some(())
+        })
+        .count()
 }
 
 // The place up to which the bytes from `start` on take no more than so many columns.
 fn fitting_end(bytes: &[u8], start: usize, columns: usize) -> usize
     ensures { result ≤ length bytes.now }
 {
-    let mut left = columns;
-    let mut i = start;
-    while i < bytes.len() {
-        let taken = columns_of(bytes[i]);
-        if left < taken {
-            return i;
-        }
-        left -= taken;
-        i += 1;
-    }
-    bytes.len()
+    let rest = places::piece(bytes, start, bytes.len());
+    let count = count_fitting(rest.iter(), columns);
+    start.saturating_add(count).min(bytes.len())
 }
 
 // The place from which on the bytes before `end` take no more than so many columns.
 fn fitting_start(bytes: &[u8], end: usize, columns: usize) -> usize
-    requires { end ≤ length bytes.now }
     ensures { result ≤ end }
 {
-    let mut left = columns;
-    let mut i = end;
-    while 0 < i {
-        let taken = columns_of(bytes[i - 1]);
-        if left < taken {
-            return i;
-        }
-        left -= taken;
-        i -= 1;
-    }
-    0
+    let before = places::piece(bytes, 0, end);
+    end.saturating_sub(count_fitting(before.iter().rev(), columns))
 }
 
 // Whether a segment is drawn whole.
@@ -75,55 +65,56 @@ fn window_start(segment: &[u8], start: usize) -> usize
 {
     let around = fitting_start(segment, start, BEFORE);
     let at_end = fitting_start(segment, segment.len(), WIDTH);
-    least(around, at_end)
+    around.min(at_end)
 }
 
 // Prints what stands before each of the two lines: for a segment that was cut, two bytes more.
-fn print_before(out: Output, from: usize, dots: &[u8]) -> Output {
-    let out = terminal::print(out, b"    ");
-    if from == 0 {
-        return out;
+fn print_before(out: &mut Output, from: usize, dots: &[u8]) {
+    out.print(b"    ");
+    if from != 0 {
+        out.print(dots);
     }
-    terminal::print(out, dots)
 }
 
 // Draws the window of a segment.
-fn draw_segment(out: Output, segment: &[u8], from: usize, until: usize) -> Output {
-    let out = print_before(out, from, b"..");
-    let out = terminal::print(out, places::piece(segment, from, until));
+fn draw_segment(out: &mut Output, segment: &[u8], from: usize, until: usize) {
+    print_before(out, from, b"..");
+    out.print(places::piece(segment, from, until));
     if until < segment.len() {
-        return terminal::print_line(out, b"..");
+        out.print(b"..");
     }
-    terminal::end_line(out)
+    out.end_line();
 }
 
 // Draws the marks: under the bytes from `start` up to and without `end`.
-fn draw_marks(out: Output, segment: &[u8], from: usize, start: usize, end: usize) -> Output {
-    let out = print_before(out, from, b"  ");
-    let out = terminal::print_under(out, places::piece(segment, from, start), b' ');
+fn draw_marks(out: &mut Output, segment: &[u8], from: usize, start: usize, end: usize) {
+    print_before(out, from, b"  ");
+    out.print_under(places::piece(segment, from, start), b' ');
     let marked = places::piece(segment, start, end);
-    if marked.len() == 0 {
-        return terminal::print_line(out, b"^");
+    if marked.is_empty() {
+        out.print(b"^");
+    } else {
+        out.print_under(marked, b'^');
     }
-    let out = terminal::print_under(out, marked, b'^');
-    terminal::end_line(out)
+    out.end_line();
 }
 
 // Draws a segment with marks under its bytes from `start` up to and without `end`.
-pub fn draw(out: Output, segment: &[u8], start: usize, end: usize) -> Output {
-    let first = least(start, segment.len());
+pub fn draw(out: &mut Output, segment: &[u8], start: usize, end: usize) {
+    let first = start.min(segment.len());
     if is_whole(segment) {
-        let out = draw_segment(out, segment, 0, segment.len());
-        return draw_marks(out, segment, 0, first, least(end, segment.len()));
+        draw_segment(out, segment, 0, segment.len());
+        draw_marks(out, segment, 0, first, end.min(segment.len()));
+        return;
     }
     let from = window_start(segment, first);
     let until = fitting_end(segment, from, WIDTH);
-    let out = draw_segment(out, segment, from, until);
-    draw_marks(out, segment, from, first, least(end, until))
+    draw_segment(out, segment, from, until);
+    draw_marks(out, segment, from, first, end.min(until));
 }
 
 // Draws a segment with a mark under the byte at a place.
-pub fn draw_byte(out: Output, segment: &[u8], place: usize) -> Output {
-    let first = least(place, segment.len());
-    draw(out, segment, first, first + 1)
+pub fn draw_byte(out: &mut Output, segment: &[u8], place: usize) {
+    let first = place.min(segment.len());
+    draw(out, segment, first, first + 1);
 }

@@ -1,5 +1,5 @@
 -- What stands in a string of JSON for a byte.
-use Rattle.std.specs.Prelude.{ℕ, ◌/◌, ◌%◌, ◌≤◌, List, [], ◌∷◌, Bool, not, cond, ◌&&◌, ◌||◌, eqb}
+use Rattle.std.specs.Prelude.{ℕ, ◌/◌, ◌%◌, List, [], ◌∷◌, Bool, not, cond, ◌&&◌, ◌||◌, eqb}
 use Rattle.alphabet.specs.Bytes.{from_to, hex_digit}
 
 -- a quote, which ends a string, and a backslash, which begins an escape
@@ -16,7 +16,3 @@ not_plain b = not (plain b)
 -- a backslash and the byte itself for these two; else `\u00` and two capital hex digits
 abbrev pub escaped : ℕ → List ℕ
 escaped b = cond (quoted b) (92 ∷ b ∷ []) (92 ∷ 117 ∷ 48 ∷ 48 ∷ hex_digit (b / 16 % 16) ∷ hex_digit (b % 16) ∷ [])
-
--- printable ASCII
-abbrev pub Visible : ℕ → Type 0
-Visible b = (32 ≤ b) × (b ≤ 126)

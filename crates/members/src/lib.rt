@@ -7,7 +7,7 @@ mod addresses;
 mod letters;
 
 pub use addresses::{occurrence_at, print_segment};
-use letters::print_letters;
+use letters::InString;
 use terminal::Output;
 
 // Room for what stands before a number and its digits.
@@ -19,37 +19,34 @@ fn room() -> [u8; ROOM] {
 }
 
 // Prints a member that is a number.
-pub fn print_number(out: Output, before: &[u8], number: usize) -> Output {
+pub fn print_number(out: &mut Output, before: &[u8], number: usize) {
     let mut digits = [0u8; 20];
     let count = io::decimal(number as u64, &mut digits);
     let mut text = room();
     let at = alphabet::put(&mut text, 0, before);
     let end = alphabet::put(&mut text, at, &digits[..count]);
-    terminal::write(out, places::piece(&text, 0, end))
+    out.write(places::piece(&text, 0, end));
 }
 
 // Prints a member that is a string of these bytes. What stands before it ends with the opening quote.
-pub fn print_string(out: Output, before: &[u8], bytes: &[u8]) -> Output {
-    let out = terminal::write(out, before);
-    let out = print_letters(out, bytes);
-    terminal::write(out, b"\"")
+pub fn print_string(out: &mut Output, before: &[u8], bytes: &[u8]) {
+    out.write(before);
+    out.spell::<InString>(bytes);
+    out.write(b"\"");
 }
 
 // Prints a member that is true or false.
-pub fn print_flag(out: Output, before: &[u8], flag: bool) -> Output {
-    let out = terminal::write(out, before);
-    if flag {
-        return terminal::write(out, b"true");
-    }
-    terminal::write(out, b"false")
+pub fn print_flag(out: &mut Output, before: &[u8], flag: bool) {
+    out.write(before);
+    out.write(if flag { b"true" } else { b"false" });
 }
 
 // Begins an object: the file that it is about.
-pub fn open(out: Output, file: &[u8]) -> Output {
-    print_string(out, b"{\"file\":\"", file)
+pub fn open(out: &mut Output, file: &[u8]) {
+    print_string(out, b"{\"file\":\"", file);
 }
 
 // Ends an object, and its line.
-pub fn close(out: Output) -> Output {
-    terminal::write(out, b"}\n")
+pub fn close(out: &mut Output) {
+    out.write(b"}\n");
 }

@@ -9,6 +9,6 @@ mod parts;
 pub use addresses::{print_address, print_found, print_numbered};
 pub use lines::print_lines;
 pub use parts::{
-    Segment, count_segments, part_end, piece, segment_around, segment_bytes, segment_named,
+    Segment, Walk, count_segments, piece, segment_around, segment_bytes, segment_named, segments,
     which_of,
 };

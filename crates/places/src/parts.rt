@@ -1,129 +1,133 @@
-// Where the parts of bytes begin and end, for walks that pass each byte once, and the piece of bytes between two
-// places. A piece is had of any two numbers, so that whoever draws owes no proof that they are places.
-ghost use Rattle.std.specs.Prelude.{◌≤◌, ◌≡◌, length};
-ghost use Rattle.alphabet.specs.Bytes.{carriage_return};
+// The segments of a message, and the piece of bytes between two places. A piece is had of any two numbers, so that
+// whoever draws owes no proof that they are places.
+ghost use Rattle.std.specs.Prelude.{◌≡◌, ◌-◌, ◌≤◌, length};
+ghost use Rattle.std.specs.Iterator.{at_most};
 
-use alphabet::Part;
+use alphabet::{CARRIAGE_RETURN, Part};
 
-// A segment of a message, or what stands behind the last CR: its number, from 0, and where it begins and ends.
+// A segment of a message, or what stands behind the last CR: its number, from 0, the place where it begins, and its
+// bytes, without the CR that ends it.
 #[derive(Clone, Copy)]
-pub struct Segment {
+pub struct Segment<'a> {
     pub number: usize,
     pub start: usize,
-    pub end: usize,
+    pub bytes: &'a [u8],
 }
 
-// The place where the part that begins at `start` ends: that of the next separator, or the end of the bytes.
-pub fn part_end(bytes: &[u8], separator: u8, start: usize) -> usize
-    requires { start ≤ length bytes.now }
-    ensures { (start ≤ result) × (result ≤ length bytes.now) }
+impl<'a> Segment<'a> {
+    // Its name, or as much of it as there is.
+    pub fn name(self) -> &'a [u8]
+        ensures { length result.now ≤ 3 }
+    {
+        piece(self.bytes, 0, 3)
+    }
+}
+
+// The segments of a message in their order: those that are still to come, and the number and the place of the first.
+#[derive(Drop)]
+pub struct Walk<'a> {
+    number: usize,
+    start: usize,
+    rest: &'a [u8],
+}
+
+impl<'a> Iterator for Walk<'a> {
+    type Item = Segment<'a>;
+
+    ghost remaining = { λ s. at_most (length s.rest.now) };
+
+    fn next(&mut self) -> Option<Segment<'a>> {
+        let rest = self.rest;
+        if rest.is_empty() {
+            return None;
+        }
+        let end = alphabet::find(rest, CARRIAGE_RETURN);
+        let segment = Segment {
+            number: self.number,
+            start: self.start,
+            bytes: piece(rest, 0, end),
+        };
+        let passed = end.saturating_add(1);
+        self.number = self.number.saturating_add(1);
+        self.start = self.start.saturating_add(passed);
+        self.rest = piece(rest, passed, rest.len());
+        Some(segment)
+    }
+}
+
+// The segments of a message: one for each CR, and one for what stands behind the last, where that is anything.
+pub fn segments(message: &[u8]) -> Walk<'_>
+    ensures bytes { result.rest.now ≡ message.now }
+    ensures number { result.number ≡ 0 }
+    ensures place { result.start ≡ 0 }
 {
-    start + alphabet::find(&bytes[start..], separator)
+    Walk {
+        number: 0,
+        start: 0,
+        rest: message,
+    }
 }
 
 // The bytes from `start` up to and without `end`, and none where these are no places of the bytes.
-pub fn piece(bytes: &[u8], start: usize, end: usize) -> &[u8] {
-    if end < start {
-        return &bytes[..0];
-    }
-    if bytes.len() < end {
-        return &bytes[..0];
-    }
-    &bytes[start..end]
+pub fn piece(bytes: &[u8], start: usize, end: usize) -> &[u8]
+    ensures { length result.now ≤ end - start }
+{
+    bytes.get(start..end).unwrap_or(&[])
 }
 
 // The segment in which the byte at a place stands, or which it ends; the last for a place behind the message.
-pub fn segment_around(message: &[u8], place: usize) -> Segment {
-    let mut number = 0;
-    let mut start = 0;
-    let mut end = part_end(message, alphabet::CARRIAGE_RETURN, 0);
-    while end < message.len() && end < place {
-        start = end + 1;
-        number += 1;
-        end = part_end(message, alphabet::CARRIAGE_RETURN, start);
-    }
+pub fn segment_around(message: &[u8], place: usize) -> Segment<'_> {
+    let before = &message[..place.min(message.len())];
+    let start = before
+        .iter()
+        .rposition(|byte| *byte == CARRIAGE_RETURN)
+        .map_or(0, |last| last + 1);
+    let rest = &message[start..];
     Segment {
-        number: number,
-        start: start,
-        end: end,
+        number: count_segments(before),
+        start,
+        bytes: piece(rest, 0, alphabet::find(rest, CARRIAGE_RETURN)),
     }
 }
 
 // How many segments a message has: one for each CR.
 pub fn count_segments(message: &[u8]) -> usize {
-    let mut count = 0;
-    let mut i = 0;
-    while i < message.len() {
-        if message[i] == alphabet::CARRIAGE_RETURN {
-            count += 1;
-        }
-        i += 1;
-    }
-    count
+    message
+        .iter()
+        .filter(|byte| **byte == CARRIAGE_RETURN)
+        .count()
 }
 
 // The bytes of the segment of a number, and none where there is no such segment.
 pub fn segment_bytes(message: &[u8], number: usize) -> &[u8] {
     let part = reading::segment_at(message, number);
-    let Part::At { start, end } = part else {
-        return piece(message, 0, 0);
+    let Some(Part { start, end }) = part else {
+        return &[];
     };
     piece(message, start, end)
 }
 
-// Whether a segment has a name.
-fn is_named(segment: &[u8], name: &[u8]) -> bool {
-    alphabet::same(piece(segment, 0, 3), name)
-}
-
-// A count, and one more where that is so.
-fn counted(count: usize, is_one: bool) -> usize {
-    if !is_one {
-        return count;
-    }
-    if count == usize::MAX {
-        count
-    } else {
-        count + 1
-    }
-}
-
 // How many segments of a message have a name.
 fn count_named(message: &[u8], name: &[u8]) -> usize {
-    let mut count = 0;
-    let mut start = 0;
-    while start < message.len() {
-        let end = part_end(message, alphabet::CARRIAGE_RETURN, start);
-        count = counted(count, is_named(&message[start..end], name));
-        start = end + 1;
-    }
-    count
+    segments(message)
+        .filter(|segment| segment.name() == name)
+        .count()
 }
 
 // Which of its name a segment of a message is, the first being 1, and 0 where no other has its name.
 pub fn which_of(message: &[u8], segment: Segment) -> usize {
-    let bytes = piece(message, segment.start, segment.end);
-    let name = piece(bytes, 0, 3);
+    let name = segment.name();
     if count_named(message, name) < 2 {
         return 0;
     }
-    counted(count_named(piece(message, 0, segment.start), name), true)
+    count_named(piece(message, 0, segment.start), name).saturating_add(1)
 }
 
 // The number of the segment of a name that is the first, the second or another of it; that of none, the count of the
 // segments, where there are not so many.
 pub fn segment_named(message: &[u8], name: &[u8], which: usize) -> usize {
-    let mut seen = 0;
-    let mut number = 0;
-    let mut start = 0;
-    while start < message.len() {
-        let end = part_end(message, alphabet::CARRIAGE_RETURN, start);
-        seen = counted(seen, is_named(&message[start..end], name));
-        if seen == which {
-            return number;
-        }
-        start = end + 1;
-        number += 1;
-    }
-    number
+    segments(message)
+        .filter(|segment| segment.name() == name)
+        .nth(which.saturating_sub(1))
+        .map_or(segments(message).count(), |segment| segment.number)
 }

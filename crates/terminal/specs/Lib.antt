@@ -1,1 +1,2 @@
 pub mod Terminal
+pub mod Visible

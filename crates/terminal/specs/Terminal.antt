@@ -16,3 +16,7 @@ in_braces b = 123 ∷ hex_digit (b / 16 % 16) ∷ hex_digit (b % 16) ∷ 125 ∷
 -- printable ASCII
 abbrev pub Visible : ℕ → Type 0
 Visible b = (32 ≤ b) × (b ≤ 126)
+
+abbrev pub AllVisible : List ℕ → Type 0
+AllVisible [] = Unit {0}
+AllVisible (b ∷ others) = Visible b × AllVisible others

@@ -1,5 +1,5 @@
 // What the command says in words: a refusal by its number, what could have stood at a place, the state of an element,
-// and what it can be asked itself. Each function takes the output that it prints to, and returns it.
+// and what it can be asked itself. Each function is lent the output that it prints to.
 #![tactic(auto)]
 
 mod names;
@@ -10,7 +10,7 @@ mod usage;
 // The most bytes of a message that the command takes, in a file or in a frame. The library takes more.
 pub const LONGEST_MESSAGE: usize = 65_536;
 
-pub use names::{letters_of, listed, print_could_stand};
+pub use names::{letters_of, print_could_stand};
 pub use refusals::{
     print_numbered, print_refused, print_refused_text, print_too_long, print_words,
 };

@@ -4,7 +4,7 @@ use crate::LONGEST_MESSAGE;
 use terminal::Output;
 
 // What is asked of a file by its name alone.
-fn print_asked_by_name(out: Output) -> Output {
+fn print_asked_by_name(out: &mut Output) {
     places::print_lines(
         out,
         b"",
@@ -27,11 +27,11 @@ fn print_asked_by_name(out: Output) -> Output {
       ./turrethog show examples/blood-count.hl7
 
 ",
-    )
+    );
 }
 
 // What is asked with words behind the file's name, and of the command itself.
-fn print_asked_by_words(out: Output) -> Output {
+fn print_asked_by_words(out: &mut Output) {
     places::print_lines(
         out,
         b"",
@@ -63,23 +63,21 @@ fn print_asked_by_words(out: Output) -> Output {
 
 FILE may be - for standard input. With --json directly behind check, frames, show or get the answer is JSON.
 ",
-    )
+    );
 }
 
 // The usage text. The LF at the end of a line is printed as any LF that stands in a message.
-pub fn print_usage(out: Output) -> Output {
-    let out = print_asked_by_name(out);
-    let out = print_asked_by_words(out);
-    let out = terminal::print_counted(
-        out,
+pub fn print_usage(out: &mut Output) {
+    print_asked_by_name(out);
+    print_asked_by_words(out);
+    out.print_counted(
         b"A message may have up to ",
         LONGEST_MESSAGE,
         b" bytes here; the library takes ",
     );
-    let out = terminal::print_number(out, alphabet::message_limit());
-    let out = terminal::end_line(out);
-    let out = terminal::print_line(
-        out,
+    out.print_number(alphabet::message_limit());
+    out.end_line();
+    out.print_line(
         b"Bytes and segments count from 0. A byte that is not printable ASCII stands as hex in braces: LF is \n",
     );
     places::print_lines(
@@ -88,10 +86,10 @@ pub fn print_usage(out: Output) -> Output {
         b"Exit status: 0 all is well; 1 a message is refused, or has no such segment, or is answered with AE or AR;
 2 the words are wrong, a file cannot be read, or the output not written.
 ",
-    )
+    );
 }
 
 // Which version of the command this is, and of what.
-pub fn print_version(out: Output) -> Output {
-    terminal::print_line(out, b"turrethog 0.1.0, for HL7 v2.4")
+pub fn print_version(out: &mut Output) {
+    out.print_line(b"turrethog 0.1.0, for HL7 v2.4");
 }
