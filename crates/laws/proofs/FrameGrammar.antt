@@ -14,10 +14,10 @@ use Rattle.laws.specs.Framed.{Said}
 use lib.Seq.{sets, sets-eq, length-sets, take_at, take_all, length-take-le}
 use borrow.Author.Tests.{eqb-true, eqb-false, le-leb, lt-leb}
 use Rattle.frames.specs.declared.state.FrameState.{FrameState}
-use Rattle.frames.specs.declared.steps.Event.TheVariants.{Frame, Broken, Long}
-use Rattle.alphabet.specs.declared.answers.Refusal.TheVariants as N
+use Rattle.frames.specs.declared.steps.Stop.TheVariants.{Frame, Drop}
+use Rattle.alphabet.specs.declared.answers.Refusal.TheVariants.{BrokenFrame, FrameTooLong}
 use Rattle.frames.specs.Wire.{frame_limit, most_dropped}
-use Rattle.frames.specs.Steps.{outside, inside, ending, skipping, skipping_end, stepped, step_outside, step_inside, step_ending, step_skipping, step_skipping_end, counted, quiet, gather, stop}
+use Rattle.frames.specs.Steps.{outside, inside, ending, skipping, skipping_end, stepped, step_outside, step_inside, step_ending, step_skipping, step_skipping_end, counted, quiet, gather, stops}
 use Rattle.frames.specs.Feeding.{stored}
 use Rattle.frames.specs.Runs.{Happening, frame, dropped, Runs, line}
 use Rattle.frames.specs.Wired.{Plain, none, some, or_long, broken, Place, out, opened, Wired, ended, stray, begins, whole_frame, breaks, breaks_open, again, open_body, open_end, open_long, open_long_end}
@@ -38,15 +38,15 @@ module _ (limit : ℕ) (s t : FrameState) (d : List ℕ) (b : ℕ) (l : List ℕ
   unfolding whole stored noted
   whole_gather e = rw e
 
-  whole_frames : stepped limit s b ≡ stop Frame t → whole limit s d (b ∷ l) ≡ also (frame (take s.held d)) (whole limit t d l)
+  whole_frames : (size : ℕ) → stepped limit s b ≡ stops (Frame size) t → whole limit s d (b ∷ l) ≡ also (frame (take size d)) (whole limit t d l)
   unfolding whole stored noted
-  whole_frames e = rw e
+  whole_frames size e = rw e
 
-  whole_breaks : stepped limit s b ≡ stop Broken t → whole limit s d (b ∷ l) ≡ also broken (whole limit t d l)
+  whole_breaks : stepped limit s b ≡ stops (Drop BrokenFrame) t → whole limit s d (b ∷ l) ≡ also broken (whole limit t d l)
   unfolding whole stored noted
   whole_breaks e = rw e
 
-  whole_long : stepped limit s b ≡ stop Long t → whole limit s d (b ∷ l) ≡ also (dropped N.FrameTooLong) (whole limit t d l)
+  whole_long : stepped limit s b ≡ stops (Drop FrameTooLong) t → whole limit s d (b ∷ l) ≡ also (dropped FrameTooLong) (whole limit t d l)
   unfolding whole stored noted
   whole_long e = rw e
 
@@ -60,7 +60,7 @@ module _ (limit h n b : ℕ) where
   unfolding stepped
   by_inside = refl
 
-  by_ending : stepped limit (ending h n) b ≡ step_ending n b
+  by_ending : stepped limit (ending h n) b ≡ step_ending h n b
   unfolding stepped
   by_ending = refl
 
@@ -112,25 +112,25 @@ module _ (limit h b : ℕ) (c d : List ℕ) where
 
 body_over : (limit n : ℕ) {c : List ℕ} → Plain c → (h : ℕ) (d l : List ℕ) (es : List Happening) (cs : List (List ℕ)) (t : FrameState) → h ≤ limit → limit < h + length c → limit ≤ length d
     → Says limit (skipping n) l es cs t
-    → Gives (whole limit (inside h n) d (c ++ l)) (dropped N.FrameTooLong ∷ es) t (laid cs (sets d h (take (limit - h) c)))
+    → Gives (whole limit (inside h n) d (c ++ l)) (dropped FrameTooLong ∷ es) t (laid cs (sets d h (take (limit - h) c)))
 body_over limit n none h d l es cs t k j m g = absurd (omega arith)
 body_over limit n (some {b} {c} p q r) h d l es cs t k j m g =
     at (dec_lt h limit) (λ (i : h < limit). body_over limit n r (h + 1) (set d h b) l es cs t (omega arith) (omega arith) (rw (length-set d h b) m) g)
   where
     at : Dec (h < limit)
-        → (h < limit → Gives (whole limit (inside (h + 1) n) (set d h b) (c ++ l)) (dropped N.FrameTooLong ∷ es) t (laid cs (sets (set d h b) (h + 1) (take (limit - (h + 1)) c))))
-        → Gives (whole limit (inside h n) d (b ∷ (c ++ l))) (dropped N.FrameTooLong ∷ es) t (laid cs (sets d h (take (limit - h) (b ∷ c))))
+        → (h < limit → Gives (whole limit (inside (h + 1) n) (set d h b) (c ++ l)) (dropped FrameTooLong ∷ es) t (laid cs (sets (set d h b) (h + 1) (take (limit - (h + 1)) c))))
+        → Gives (whole limit (inside h n) d (b ∷ (c ++ l))) (dropped FrameTooLong ∷ es) t (laid cs (sets d h (take (limit - h) (b ∷ c))))
     at (yes i) ih =
-        subst (λ (w : Whole). Gives w (dropped N.FrameTooLong ∷ es) t (laid cs (sets d h (take (limit - h) (b ∷ c)))))
+        subst (λ (w : Whole). Gives w (dropped FrameTooLong ∷ es) t (laid cs (sets d h (take (limit - h) (b ∷ c)))))
         (sym (whole_gather limit (inside h n) (inside (h + 1) n) d b (c ++ l) (by_inside limit h n b ∙ inside_gathers limit h n b p q i)))
-        (subst (λ (x : List ℕ). Gives (whole limit (inside (h + 1) n) (set d h b) (c ++ l)) (dropped N.FrameTooLong ∷ es) t (laid cs x)) (one_more limit h b c d i) (ih i))
+        (subst (λ (x : List ℕ). Gives (whole limit (inside (h + 1) n) (set d h b) (c ++ l)) (dropped FrameTooLong ∷ es) t (laid cs x)) (one_more limit h b c d i) (ih i))
     at (no i) ih =
-        subst (λ (w : Whole). Gives w (dropped N.FrameTooLong ∷ es) t (laid cs (sets d h (take (limit - h) (b ∷ c)))))
+        subst (λ (w : Whole). Gives w (dropped FrameTooLong ∷ es) t (laid cs (sets d h (take (limit - h) (b ∷ c)))))
         (sym
         (whole_long limit (inside h n) (skipping n) d b (c ++ l) (by_inside limit h n b ∙ inside_long limit h n b p q (omega arith))
-        ∙ ap (also (dropped N.FrameTooLong)) (body_skipped limit n r d l)))
-        (subst (λ (x : List ℕ). Gives (also (dropped N.FrameTooLong) (whole limit (skipping n) d l)) (dropped N.FrameTooLong ∷ es) t (laid cs x)) (no_more limit h b c d (omega arith))
-        (gives_also (dropped N.FrameTooLong) (whole limit (skipping n) d l) es t (laid cs d) (g d m)))
+        ∙ ap (also (dropped FrameTooLong)) (body_skipped limit n r d l)))
+        (subst (λ (x : List ℕ). Gives (also (dropped FrameTooLong) (whole limit (skipping n) d l)) (dropped FrameTooLong ∷ es) t (laid cs x)) (no_more limit h b c d (omega arith))
+        (gives_also (dropped FrameTooLong) (whole limit (skipping n) d l) es t (laid cs d) (g d m)))
 
 -- ---- what a byte adds
 
@@ -138,14 +138,14 @@ module _ (limit : ℕ) (s u : FrameState) (b : ℕ) (l : List ℕ) (es : List Ha
   says_quiet : stepped limit s b ≡ quiet u → Says limit s (b ∷ l) es cs t
   says_quiet e d k = subst (λ (w : Whole). Gives w es t (laid cs d)) (sym (whole_quiet limit s u d b l e)) (g d k)
 
-  says_broken : stepped limit s b ≡ stop Broken u → Says limit s (b ∷ l) (broken ∷ es) cs t
+  says_broken : stepped limit s b ≡ stops (Drop BrokenFrame) u → Says limit s (b ∷ l) (broken ∷ es) cs t
   says_broken e d k =
       subst (λ (w : Whole). Gives w (broken ∷ es) t (laid cs d)) (sym (whole_breaks limit s u d b l e)) (gives_also broken (whole limit u d l) es t (laid cs d) (g d k))
 
   -- a frame is what the front of the buffer holds
-  says_frame : (c d : List ℕ) → limit ≤ length d → take s.held d ≡ c → stepped limit s b ≡ stop Frame u → Gives (whole limit s d (b ∷ l)) (frame c ∷ es) t (laid cs d)
-  says_frame c d k f e =
-      subst (λ (w : Whole). Gives w (frame c ∷ es) t (laid cs d)) (sym (whole_frames limit s u d b l e ∙ ap (λ (x : List ℕ). also (frame x) (whole limit u d l)) f))
+  says_frame : (size : ℕ) (c d : List ℕ) → limit ≤ length d → take size d ≡ c → stepped limit s b ≡ stops (Frame size) u → Gives (whole limit s d (b ∷ l)) (frame c ∷ es) t (laid cs d)
+  says_frame size c d k f e =
+      subst (λ (w : Whole). Gives w (frame c ∷ es) t (laid cs d)) (sym (whole_frames limit s u d b l size e ∙ ap (λ (x : List ℕ). also (frame x) (whole limit u d l)) f))
       (gives_also (frame c) (whole limit u d l) es t (laid cs d) (g d k))
 
 says_nil : (limit : ℕ) (s : FrameState) → Says limit s [] [] [] s
@@ -184,10 +184,10 @@ module _ (limit n : ℕ) (c l : List ℕ) (p : Plain c) (es : List Happening) (c
       (f (sets d 0 c) (rw (length-sets d 0 c) m) (sets_front d c (omega arith))))
 
   -- a body over it: reported once, and skipped
-  body_long : limit < length c → Says limit (skipping n) l es cs t → Says limit (inside 0 n) (c ++ l) (dropped N.FrameTooLong ∷ es) (take limit c ∷ cs) t
+  body_long : limit < length c → Says limit (skipping n) l es cs t → Says limit (inside 0 n) (c ++ l) (dropped FrameTooLong ∷ es) (take limit c ∷ cs) t
   body_long k g d m =
       let z : limit - 0 ≡ limit = omega arith in
-      subst (λ (x : List ℕ). Gives (whole limit (inside 0 n) d (c ++ l)) (dropped N.FrameTooLong ∷ es) t x)
+      subst (λ (x : List ℕ). Gives (whole limit (inside 0 n) d (c ++ l)) (dropped FrameTooLong ∷ es) t x)
       (ap (λ (j : ℕ). laid cs (sets d 0 (take j c))) z ∙ laid_next limit c cs d m)
       (body_over limit n p 0 d l es cs t (omega arith) (omega arith) m g)
 
@@ -238,17 +238,17 @@ wired_says {limit} (whole_frame {n} {c} {l} {es} {cs} {t} p w) =
     body_says limit n c (28 ∷ 13 ∷ l) p (frame c) es cs t
     (λ d m f. subst (λ (v : Whole). Gives v (frame c ∷ es) t (laid cs d))
     (sym (whole_quiet limit (inside (length c) n) (ending (length c) n) d 28 (13 ∷ l) (by_inside limit (length c) n 28 ∙ inside_closes limit (length c) n 28 not_28_11 refl)))
-    (says_frame limit (ending (length c) n) (outside n) 13 l es cs t (wired_says w) c d m f (by_ending limit (length c) n 13 ∙ ending_frame n 13 refl)))
+    (says_frame limit (ending (length c) n) (outside n) 13 l es cs t (wired_says w) (length c) c d m f (by_ending limit (length c) n 13 ∙ ending_frame (length c) n 13 refl)))
     (closes_skipping limit 0 n (13 ∷ l) es cs t (ends_skipped limit 0 n l es cs t 13 not_13_11 (wired_says w)))
 wired_says {limit} (breaks {n} {b} {c} {l} {es} {cs} {t} p f g w) =
     body_says limit n c (28 ∷ b ∷ l) p broken es cs t
     (λ d m k. closes_inside limit (length c) n (b ∷ l) (broken ∷ es) cs t
-    (says_broken limit (ending (length c) n) (outside n) b l es cs t (wired_says w) (by_ending limit (length c) n b ∙ ending_breaks n b f g)) d m)
+    (says_broken limit (ending (length c) n) (outside n) b l es cs t (wired_says w) (by_ending limit (length c) n b ∙ ending_breaks (length c) n b f g)) d m)
     (closes_skipping limit 0 n (b ∷ l) es cs t (ends_skipped limit 0 n l es cs t b g (wired_says w)))
 wired_says {limit} (breaks_open {n} {c} {l} {es} {cs} {t} p w) =
     body_says limit n c (28 ∷ 11 ∷ l) p broken es cs t
     (λ d m k. closes_inside limit (length c) n (11 ∷ l) (broken ∷ es) cs t
-    (says_broken limit (ending (length c) n) (inside 0 n) 11 l es cs t (wired_says w) (by_ending limit (length c) n 11 ∙ ending_opens n 11 not_11_13 refl)) d m)
+    (says_broken limit (ending (length c) n) (inside 0 n) 11 l es cs t (wired_says w) (by_ending limit (length c) n 11 ∙ ending_opens (length c) n 11 not_11_13 refl)) d m)
     (closes_skipping limit 0 n (11 ∷ l) es cs t (opens_skipped limit 0 n l es cs t (wired_says w)))
 wired_says {limit} (again {n} {c} {l} {es} {cs} {t} p w) =
     body_says limit n c (11 ∷ l) p broken es cs t
@@ -261,7 +261,7 @@ wired_says {limit} (open_end {n} {c} p k) =
     body_fits limit n c (28 ∷ []) p [] [] (ending (length c) n) k
     (λ d m f. closes_inside limit (length c) n [] [] [] (ending (length c) n) (says_nil limit (ending (length c) n)) d m)
 wired_says {limit} (open_long {n} {c} p k) =
-    subst (λ (x : List ℕ). Says limit (inside 0 n) x (dropped N.FrameTooLong ∷ []) (take limit c ∷ []) (skipping n)) (append-nil c)
+    subst (λ (x : List ℕ). Says limit (inside 0 n) x (dropped FrameTooLong ∷ []) (take limit c ∷ []) (skipping n)) (append-nil c)
     (body_long limit n c [] p [] [] (skipping n) k (says_nil limit (skipping n)))
 wired_says {limit} (open_long_end {n} {c} p k) =
     body_long limit n c (28 ∷ []) p [] [] (skipping_end n) k (closes_skipping limit 0 n [] [] [] (skipping_end n) (says_nil limit (skipping_end n)))

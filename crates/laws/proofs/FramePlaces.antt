@@ -7,27 +7,29 @@ use native.Mathlib.Omega.{arith}
 use lib.Dec.{eqb, ltb}
 use lib.ListN.{length, get_or, take, drop, set, get_or-append}
 use lib.Seq.{get_or-set_same, get_or-set_other, get_or-drop, get_or-append-add}
+use Rattle.std.specs.Prelude.{Option, Some, None, is_some}
 use borrow.Author.Tests.{eqb-true, eqb-false, ltb-true, ltb-false}
 use Rattle.alphabet.specs.Filling.{over}
 use Rattle.frames.specs.declared.state.FrameState.{FrameState}
-use Rattle.frames.specs.declared.steps.Event.{Event}
-use Rattle.frames.specs.declared.steps.Event.TheVariants.{Quiet, Frame, Broken, Long}
+use Rattle.frames.specs.declared.steps.Stop.{Stop}
+use Rattle.frames.specs.declared.steps.Stop.TheVariants.{Frame, Drop}
+use Rattle.frames.specs.declared.feeding.Fed.{Fed}
 use Rattle.frames.specs.Wire.{frame_limit}
 use Rattle.frames.specs.Steps.{stepped}
-use Rattle.frames.specs.Feeding.{Feeding, stored, stopping, told, feeding, known, foreign, fed}
+use Rattle.frames.specs.Feeding.{Feeding, stored, told, feeding, known, taken, foreign, fed}
 use Rattle.frames.specs.Runs.{Happening, Runs, line}
 use Rattle.frames.specs.Gathered.{gathered, last_at, laid, last_of}
 use Rattle.frames.proofs.FeedLaws.{frame_limit_le, gathers_below, length_stored}
 use Rattle.frames.proofs.KnownLaws.{feeding_length}
+use Rattle.laws.specs.Framed.{used_in}
 use Rattle.laws.proofs.FrameLines.{Whole, noted, whole}
-use Rattle.laws.proofs.FrameCuts.{runs_whole, told_used}
+use Rattle.laws.proofs.FrameCuts.{runs_whole}
 
-noted_left : (e : Event) (h : ℕ) (d : List ℕ) (w : Whole) → (noted e h d w).left ≡ w.left
+noted_left : (e : Option Stop) (d : List ℕ) (w : Whole) → (noted e d w).left ≡ w.left
 unfolding noted
-noted_left Quiet h d w = refl
-noted_left Frame h d w = refl
-noted_left Broken h d w = refl
-noted_left Long h d w = refl
+noted_left None d w = refl
+noted_left (Some (Frame size)) d w = refl
+noted_left (Some (Drop kind)) d w = refl
 
 set_holds : (d : List ℕ) (h b i : ℕ) → h < length d → get_or (set d h b) i 0 ≡ cond (eqb i h) b (get_or d i 0)
 set_holds d h b i k = at (eqb i h) refl
@@ -40,7 +42,7 @@ whole_holds : (limit : ℕ) (s : FrameState) (d l : List ℕ) (i : ℕ) → limi
 unfolding whole gathered last_at stored
 whole_holds limit s d [] i k = refl
 whole_holds limit s d (b ∷ l) i k =
-    ap (λ (x : List ℕ). get_or x i 0) (noted_left (stepped limit s b).event s.held _ _)
+    ap (λ (x : List ℕ). get_or x i 0) (noted_left (stepped limit s b).stop _ _)
     ∙ at (stepped limit s b).gathers refl (whole_holds limit (stepped limit s b).after (stored d s.held b (stepped limit s b).gathers) l i (rw (length_stored d s.held b (stepped limit s b).gathers) k))
   where
     at : (t : Bool) → (stepped limit s b).gathers ≡ t
@@ -61,7 +63,7 @@ whole_length : (limit : ℕ) (s : FrameState) (d l : List ℕ) → length (whole
 unfolding whole
 whole_length limit s d [] = refl
 whole_length limit s d (b ∷ l) =
-    ap length (noted_left (stepped limit s b).event s.held _ _)
+    ap length (noted_left (stepped limit s b).stop _ _)
     ∙ whole_length limit (stepped limit s b).after (stored d s.held b (stepped limit s b).gathers) l
     ∙ length_stored d s.held b (stepped limit s b).gathers
 
@@ -72,23 +74,23 @@ places_stay {s} {t} {d} {x} {ps} {es} k r =
 
 -- ---- behind one call
 
-abbrev Next : ℕ → FrameState → List ℕ → ℕ → ℕ → List ℕ → Feeding
+abbrev Next : ℕ → FrameState → List ℕ → ℕ → ℕ → List ℕ → Feeding Fed
 Next limit s d used b p = feeding limit (stepped limit s b).after (stored d s.held b (stepped limit s b).gathers) (used + 1) p
 
-abbrev Here : ℕ → FrameState → List ℕ → ℕ → ℕ → Feeding
+abbrev Here : ℕ → FrameState → List ℕ → ℕ → ℕ → Feeding Fed
 Here limit s d used b =
     record {
-      said = told (stepped limit s b).event s.held (used + 1) (stepped limit s b).after;
+      said = told (stepped limit s b).stop (used + 1) (stepped limit s b).after;
       left = stored d s.held b (stepped limit s b).gathers;
     }
 
 feeding_uses : (limit : ℕ) (s : FrameState) (d : List ℕ) (used : ℕ) (p : List ℕ) → used ≤ (feeding limit s d used p).said.used
 unfolding feeding
-feeding_uses limit s d used [] = omega (arith, told_used Quiet 0 used s)
-feeding_uses limit s d used (b ∷ p) = at (stopping (stepped limit s b).event) (feeding_uses limit (stepped limit s b).after (stored d s.held b (stepped limit s b).gathers) (used + 1) p)
+feeding_uses limit s d used [] = omega arith
+feeding_uses limit s d used (b ∷ p) = at (is_some (stepped limit s b).stop) (feeding_uses limit (stepped limit s b).after (stored d s.held b (stepped limit s b).gathers) (used + 1) p)
   where
     at : (t : Bool) → used + 1 ≤ (Next limit s d used b p).said.used → used ≤ (cond t (Here limit s d used b) (Next limit s d used b p)).said.used
-    at true ih = omega (arith, told_used (stepped limit s b).event s.held (used + 1) (stepped limit s b).after)
+    at true ih = omega arith
     at false ih = omega arith
 
 -- one byte more before those that were gathered
@@ -108,13 +110,13 @@ feeding_holds : (limit : ℕ) (s : FrameState) (d : List ℕ) (used : ℕ) (p : 
 unfolding feeding gathered last_at
 feeding_holds limit s d used [] i zero k e = refl
 feeding_holds limit s d used [] i (suc n) k e = refl
-feeding_holds limit s d used (b ∷ p) i zero k e = absurd (at (stopping (stepped limit s b).event) e)
+feeding_holds limit s d used (b ∷ p) i zero k e = absurd (at (is_some (stepped limit s b).stop) e)
   where
     at : (t : Bool) → (cond t (Here limit s d used b) (Next limit s d used b p)).said.used ≡ used + 0 → ⊥
-    at true q = omega (arith, told_used (stepped limit s b).event s.held (used + 1) (stepped limit s b).after)
+    at true q = omega arith
     at false q = omega (arith, feeding_uses limit (stepped limit s b).after (stored d s.held b (stepped limit s b).gathers) (used + 1) p)
 feeding_holds limit s d used (b ∷ p) i (suc n) k e =
-    at (stopping (stepped limit s b).event) e
+    at (is_some (stepped limit s b).stop) e
     (λ q. feeding_holds limit (stepped limit s b).after (stored d s.held b (stepped limit s b).gathers) (used + 1) p i n (rw (length_stored d s.held b (stepped limit s b).gathers) k) q)
     ∙ sym (gathered_next limit s d b (take n p) i k)
   where
@@ -124,20 +126,19 @@ feeding_holds limit s d used (b ∷ p) i (suc n) k e =
         → get_or (cond t (Here limit s d used b) (Next limit s d used b p)).left i 0
         ≡ last_at i (gathered limit (stepped limit s b).after (take n p)) (get_or (stored d s.held b (stepped limit s b).gathers) i 0)
     at true q ih =
-        let u = told_used (stepped limit s b).event s.held (used + 1) (stepped limit s b).after in
         let z : n ≡ 0 = omega arith in
         ap (λ (m : ℕ). last_at i (gathered limit (stepped limit s b).after (take m p)) (get_or (stored d s.held b (stepped limit s b).gathers) i 0)) (sym z)
     at false q ih = let z : used + suc n ≡ used + 1 + n = omega arith in ih (q ∙ z)
 
 -- the same sentence of one call, from any state: of the bytes that it used
 pub call_holds : (s : FrameState) (p d : List ℕ) (i : ℕ)
-    → get_or (fed s p d).left i 0 ≡ last_at i (gathered (frame_limit (length d)) s (take (fed s p d).said.used p)) (get_or d i 0)
+    → get_or (fed s p d).left i 0 ≡ last_at i (gathered (frame_limit (length d)) s (take (used_in (fed s p d).said) p)) (get_or d i 0)
 unfolding fed foreign gathered last_at
 call_holds s p d i = at (known (length d) s)
   where
     at : (t : Bool)
-        → get_or (cond t (feeding (frame_limit (length d)) s d 0 p) (foreign s d)).left i 0
-        ≡ last_at i (gathered (frame_limit (length d)) s (take (cond t (feeding (frame_limit (length d)) s d 0 p) (foreign s d)).said.used p)) (get_or d i 0)
+        → get_or (cond t (taken (feeding (frame_limit (length d)) s d 0 p)) (foreign d)).left i 0
+        ≡ last_at i (gathered (frame_limit (length d)) s (take (used_in (cond t (taken (feeding (frame_limit (length d)) s d 0 p)) (foreign d)).said) p)) (get_or d i 0)
     at true =
         let z : (feeding (frame_limit (length d)) s d 0 p).said.used ≡ 0 + (feeding (frame_limit (length d)) s d 0 p).said.used = omega arith in
         feeding_holds (frame_limit (length d)) s d 0 p i (feeding (frame_limit (length d)) s d 0 p).said.used (frame_limit_le (length d)) z
@@ -147,7 +148,7 @@ pub call_size : (s : FrameState) (p d : List ℕ) → length (fed s p d).left �
 unfolding fed foreign
 call_size s p d = at (known (length d) s)
   where
-    at : (t : Bool) → length (cond t (feeding (frame_limit (length d)) s d 0 p) (foreign s d)).left ≡ length d
+    at : (t : Bool) → length (cond t (taken (feeding (frame_limit (length d)) s d 0 p)) (foreign d)).left ≡ length d
     at true = feeding_length (frame_limit (length d)) s d 0 p
     at false = refl
 

@@ -6,18 +6,22 @@ use mathlib.Core.List.{List, [], ◌∷◌, ◌++◌, append-nil}
 use Prim.Native.Nat.{ℕ, zero, suc, ◌+◌, ◌≤◌}
 use native.Mathlib.Omega.{arith}
 use lib.ListN.{length, replicate, length-replicate}
+use Rattle.std.specs.Prelude.{Option, Some, None, Result, Err}
 use Rattle.frames.specs.declared.state.FrameState.{FrameState}
-use Rattle.frames.specs.declared.steps.Event.{Event}
-use Rattle.frames.specs.declared.steps.Event.TheVariants.{Quiet, Frame, Broken, Long}
+use Rattle.frames.specs.declared.feeding.Fed.{Fed}
+use Rattle.frames.specs.declared.steps.Stop.{Stop}
+use Rattle.frames.specs.declared.steps.Stop.TheVariants.{Frame, Drop}
 use Rattle.frames.specs.declared.steps.Step.{Step}
 use Rattle.frames.specs.Wire.{most_dropped, frame_limit}
 use Rattle.frames.specs.Steps.{outside, inside, ending, skipping, skipping_end, stepped, step_outside, step_inside, step_skipping}
-use Rattle.alphabet.specs.declared.answers.Refusal.TheVariants as N
-use Rattle.frames.specs.Feeding.{stored, known, foreign, fed}
+use Rattle.alphabet.specs.declared.answers.Refusal.{Refusal}
+use Rattle.alphabet.specs.declared.answers.Refusal.TheVariants.{NoRoom}
+use Rattle.frames.specs.Feeding.{Feeding, stored, known, foreign, fed}
 use Rattle.frames.proofs.FeedLaws.{fed_foreign}
 use Rattle.frames.specs.Runs.{Runs, line, start, Reached}
 use Rattle.frames.proofs.StepLaws.{counted_more, inside_long, inside_gathers}
 use Rattle.frames.proofs.KnownLaws.{Known, is_outside, is_inside, is_ending, is_skipping, is_skipping_end, known_case, known_test, known_step}
+use Rattle.laws.specs.Framed.{used_in, state_in}
 use Rattle.laws.proofs.FrameLines.{Whole, noted, whole}
 use Rattle.laws.proofs.FrameCuts.{Fit, runs_whole, runs_exist, never_refused}
 
@@ -30,18 +34,17 @@ pub ends_append : (limit : ℕ) (s : FrameState) (k l : List ℕ) → ends limit
 ends_append limit s [] l = refl
 ends_append limit s (b ∷ k) l = ends_append limit (stepped limit s b).after k l
 
-noted_state : (e : Event) (h : ℕ) (d : List ℕ) (w : Whole) → (noted e h d w).state ≡ w.state
+noted_state : (e : Option Stop) (d : List ℕ) (w : Whole) → (noted e d w).state ≡ w.state
 unfolding noted
-noted_state Quiet h d w = refl
-noted_state Frame h d w = refl
-noted_state Broken h d w = refl
-noted_state Long h d w = refl
+noted_state None d w = refl
+noted_state (Some (Frame size)) d w = refl
+noted_state (Some (Drop kind)) d w = refl
 
 pub whole_ends : (limit : ℕ) (s : FrameState) (d l : List ℕ) → (whole limit s d l).state ≡ ends limit s l
 unfolding whole
 whole_ends limit s d [] = refl
 whole_ends limit s d (b ∷ l) =
-    noted_state (stepped limit s b).event s.held _ _ ∙ whole_ends limit (stepped limit s b).after (stored d s.held b (stepped limit s b).gathers) l
+    noted_state (stepped limit s b).stop _ _ ∙ whole_ends limit (stepped limit s b).after (stored d s.held b (stepped limit s b).gathers) l
 
 -- ---- a run reaches no other state
 
@@ -133,31 +136,33 @@ pub known_reached : (room : ℕ) (s : FrameState) → known room s ≡ true → 
 known_reached room s e = reach_case room (known_case room s e)
 
 -- "A state that no run with that buffer's length could have reached is 14", and no other is
-pub unreached_refused : (s : FrameState) (p d : List ℕ) → (Reached (length d) s → ⊥) → (fed s p d).said.answer.kind ≡ N.NoRoom
-unfolding foreign
-unreached_refused s p d u = at (known (length d) s) refl
-  where
-    at : (t : Bool) → known (length d) s ≡ t → (fed s p d).said.answer.kind ≡ N.NoRoom
-    at true e = absurd (u (known_reached (length d) s e))
-    at false e = rw (fed_foreign s p d e)
+module _ (s : FrameState) (p d : List ℕ) where
+  foreign_refused : known (length d) s ≡ false → (fed s p d).said ≡ Err NoRoom
+  unfolding foreign
+  foreign_refused e = ap (λ (f : Feeding (Result Fed Refusal)). f.said) (fed_foreign s p d e)
 
-pub reached_taken : (s : FrameState) (p d : List ℕ) → Reached (length d) s → (fed s p d).said.answer.kind ≡ N.NoRoom → ⊥
-reached_taken s p d r = never_refused s p d (reached_known (length d) s r)
+  pub unreached_refused : (Reached (length d) s → ⊥) → (fed s p d).said ≡ Err NoRoom
+  unreached_refused u = at (known (length d) s) refl
+    where
+      at : (t : Bool) → known (length d) s ≡ t → (fed s p d).said ≡ Err NoRoom
+      at true e = absurd (u (known_reached (length d) s e))
+      at false e = foreign_refused e
 
-pub taken_reached : (s : FrameState) (p d : List ℕ) → ((fed s p d).said.answer.kind ≡ N.NoRoom → ⊥) → Reached (length d) s
-unfolding foreign
-taken_reached s p d taken = at (known (length d) s) refl
-  where
-    at : (t : Bool) → known (length d) s ≡ t → Reached (length d) s
-    at true e = known_reached (length d) s e
-    at false e = absurd (taken (rw (fed_foreign s p d e)))
+  pub reached_taken : Reached (length d) s → (fed s p d).said ≡ Err NoRoom → ⊥
+  reached_taken r = never_refused s p d (reached_known (length d) s r)
 
--- 14 changes nothing
-pub refused_leaves : (s : FrameState) (p d : List ℕ) → (fed s p d).said.answer.kind ≡ N.NoRoom
-    → ((fed s p d).said.state ≡ s) × ((fed s p d).left ≡ d) × ((fed s p d).said.used ≡ 0)
-unfolding foreign
-refused_leaves s p d r = at (known (length d) s) refl
-  where
-    at : (t : Bool) → known (length d) s ≡ t → ((fed s p d).said.state ≡ s) × ((fed s p d).left ≡ d) × ((fed s p d).said.used ≡ 0)
-    at true e = absurd (never_refused s p d e r)
-    at false e = let f = fed_foreign s p d e in (rw f, rw f, rw f)
+  pub taken_reached : ((fed s p d).said ≡ Err NoRoom → ⊥) → Reached (length d) s
+  taken_reached taken = at (known (length d) s) refl
+    where
+      at : (t : Bool) → known (length d) s ≡ t → Reached (length d) s
+      at true e = known_reached (length d) s e
+      at false e = absurd (taken (foreign_refused e))
+
+  -- 14 changes nothing
+  pub refused_leaves : (fed s p d).said ≡ Err NoRoom → (state_in s (fed s p d).said ≡ s) × ((fed s p d).left ≡ d) × (used_in (fed s p d).said ≡ 0)
+  unfolding foreign
+  refused_leaves r = at (known (length d) s) refl
+    where
+      at : (t : Bool) → known (length d) s ≡ t → (state_in s (fed s p d).said ≡ s) × ((fed s p d).left ≡ d) × (used_in (fed s p d).said ≡ 0)
+      at true e = absurd (never_refused s p d e r)
+      at false e = let f = fed_foreign s p d e in (rw r, rw f, rw r)
