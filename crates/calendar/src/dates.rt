@@ -33,14 +33,14 @@ pub fn is_date(date: Date) -> bool
     ensures { result ≡ valid_date date }
 {
     let days = days_in(date.year.unwrap_or(0), date.month.unwrap_or(0));
-    in_range(1, 9999, date.year) & (in_range(1, 12, date.month) & in_range(1, days, date.day))
+    in_range(1, 9999, date.year) && in_range(1, 12, date.month) && in_range(1, days, date.day)
 }
 
 #[tactic(auto, unfolding(crate::specs::Calendar::valid_clock))]
 pub fn is_clock(clock: Clock) -> bool
     ensures { result ≡ valid_clock clock }
 {
-    in_range(0, 23, clock.hour) & (in_range(0, 59, clock.minute) & in_range(0, 59, clock.second))
+    in_range(0, 23, clock.hour) && in_range(0, 59, clock.minute) && in_range(0, 59, clock.second)
 }
 
 // No offset, or one that there is.

@@ -1,37 +1,20 @@
 -- Laws of the forms of times: what a form that holds says of the front, the tail and the zone. Assumes nothing.
-use mathlib.Core.Path.{◌≡◌, refl, ap, ◌∙◌}
+use mathlib.Core.Path.{◌≡◌, refl}
 use mathlib.Core.List.{List, [], ◌∷◌}
 use mathlib.Core.Bool.{Bool, true, false, ◌&&◌, ◌||◌}
 use mathlib.Core.Logic.{◌⊎◌, inl, inr}
-use Prim.Native.Nat.{ℕ, ◌-◌, ◌≤◌}
+use Prim.Native.Nat.{ℕ, ◌≤◌}
 use native.Mathlib.Omega.{arith}
 use lib.Dec.{eqb}
-use lib.ListN.{length, take, drop}
-use lib.Seq.{length-take-le}
+use lib.ListN.{length, drop}
 use borrow.Author.Tests.{eqb-true, eq-eqb, ne_eqb}
 use Rattle.alphabet.specs.Bytes.{from_to}
 use Rattle.alphabet.specs.Digits.{all_digits}
 use Rattle.alphabet.proofs.BoolLaws.{and_both, from_to_lem}
-use Rattle.alphabet.proofs.ListLaws.{rest_of}
 use Rattle.forms.specs.declared.layouts.Form.{Form}
 use Rattle.forms.specs.Forms.{one_of, dt_length, dt_form, layout_of, front_of, tail_of, zone_of, front_length, fraction_form, zone_form, parts_form, time_form}
 
--- ---- what is left of a list behind its first bytes, by how many these are
-
-pub behind : (n : ℕ) (l : List ℕ) → n ≤ length l → (length (take n l) ≤ length l) × (take (length l - length (take n l)) (drop (length (take n l)) l) ≡ drop n l)
-behind n l h = let k = length-take-le n l h in (omega arith, rest_of l (length (take n l)) ∙ ap (λ (i : ℕ). drop i l) k)
-
 -- ---- one of a list
-
-or_none : (t : Bool) → t ≡ (t || false)
-or_none true = refl
-or_none false = refl
-
-pub of_three : (n a b c : ℕ) → (eqb n a || (eqb n b || eqb n c)) ≡ one_of (a ∷ b ∷ c ∷ []) n
-of_three n a b c = ap (λ (t : Bool). eqb n a || (eqb n b || t)) (or_none (eqb n c))
-
-pub of_five : (n a b c d e : ℕ) → (eqb n a || (eqb n b || (eqb n c || (eqb n d || eqb n e)))) ≡ one_of (a ∷ b ∷ c ∷ d ∷ e ∷ []) n
-of_five n a b c d e = ap (λ (t : Bool). eqb n a || (eqb n b || t)) (of_three n c d e)
 
 pub one_of_lem : (x : ℕ) (l : List ℕ) (n : ℕ) → one_of (x ∷ l) n ≡ true → (n ≡ x) ⊎ (one_of l n ≡ true)
 one_of_lem x l n e = at (eqb n x) refl e
@@ -86,12 +69,6 @@ zone_none zone h = rw (eq-eqb (length zone) 0 h)
 pub zone_some : (zone : List ℕ) → (length zone ≡ 0 → ⊥) → zone_form zone ≡ (eqb (length zone) 5 && all_digits (drop 1 zone))
 unfolding zone_form
 zone_some zone h = rw (ne_eqb (length zone) 0 h)
-
-pub zone_other : (zone : List ℕ) → (length zone ≡ 0 → ⊥) → (length zone ≡ 5 → ⊥) → zone_form zone ≡ false
-zone_other zone h k = zone_some zone h ∙ ap (λ (t : Bool). t && all_digits (drop 1 zone)) (ne_eqb (length zone) 5 k)
-
-pub zone_five : (zone : List ℕ) → length zone ≡ 5 → zone_form zone ≡ all_digits (drop 1 zone)
-zone_five zone h = zone_some zone (λ e. absurd (omega arith)) ∙ ap (λ (t : Bool). t && all_digits (drop 1 zone)) (eq-eqb (length zone) 5 h)
 
 pub zone_holds : (zone : List ℕ) → zone_form zone ≡ true → (all_digits (drop 1 zone) ≡ true) × ((length zone ≡ 0 → ⊥) → length zone ≡ 5)
 unfolding zone_form

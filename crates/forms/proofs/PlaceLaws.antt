@@ -1,6 +1,6 @@
 -- Laws of the places of a time's parts: bytes are of their form by these parts exactly where they are by those that begin
 -- at the first sign and the first point, and then the parts are the same. Assumes nothing.
-use mathlib.Core.Path.{◌≡◌, refl, sym, ap, ap₂, subst, ◌∙◌}
+use mathlib.Core.Path.{◌≡◌, refl, sym, ap, subst, ◌∙◌}
 use mathlib.Core.List.{List}
 use mathlib.Core.Bool.{Bool, true, false, cond, ◌&&◌, ◌||◌}
 use mathlib.Core.Logic.{◌⊎◌, inl, inr}
@@ -287,25 +287,3 @@ module _ (form : Form) (l : List ℕ) where
       at true u p q = equal (same_parts p)
       at false true p q = equal (by_first (formed form (front_of l) (tail_of l) (zone_of l) q))
       at false false p q = p ∙ sym q
-
--- ---- both places, case by case
-
-module _ (l : List ℕ) where
-  pub sign_short : length l < 5 → length l ≡ sign_place l
-  sign_short h = rw (lt-leb 5 (length l) h)
-
-  pub sign_here : 5 ≤ length l → is_sign (get_or l (length l - 5) 0) ≡ true → length l - 5 ≡ sign_place l
-  sign_here h e = sym (ap (λ (t : Bool). cond t (length l - 5) (length l)) (both_and (le-leb 5 (length l) h) e))
-
-  pub sign_not : 5 ≤ length l → is_sign (get_or l (length l - 5) 0) ≡ false → length l ≡ sign_place l
-  sign_not h e = sym (ap (λ (t : Bool). cond t (length l - 5) (length l)) (ap₂ ◌&&◌ (le-leb 5 (length l) h) e))
-
-module _ (seconds : ℕ) (body : List ℕ) where
-  pub point_short : length body ≤ seconds → length body ≡ point_place seconds body
-  point_short h = rw (le-ltb seconds (length body) h)
-
-  pub point_here : seconds < length body → get_or body seconds 0 ≡ 46 → seconds ≡ point_place seconds body
-  point_here h e = sym (ap (λ (t : Bool). cond t seconds (length body)) (both_and (lt-ltb seconds (length body) h) (eq-eqb (get_or body seconds 0) 46 e)))
-
-  pub point_not : seconds < length body → (get_or body seconds 0 ≡ 46 → ⊥) → length body ≡ point_place seconds body
-  point_not h e = sym (ap (λ (t : Bool). cond t seconds (length body)) (ap₂ ◌&&◌ (lt-ltb seconds (length body) h) (ne_eqb (get_or body seconds 0) 46 e)))

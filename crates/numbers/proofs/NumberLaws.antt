@@ -9,13 +9,12 @@ use Prim.Native.Nat.{ℕ, zero, suc, ◌+◌, ◌^◌, ◌≤◌, ◌<◌}
 use native.Mathlib.Nat.{one-mul, pow-le-pow_right, lt_of_lt_of_le}
 use native.Mathlib.Omega.{arith}
 use lib.Dec.{leb, ltb, eqb, lit<, lit≤}
-use lib.IntN.{ℤ, pos, neg_ℤ, ◌-ℤ◌, +ℤ_idl}
+use lib.IntN.{pos, neg_ℤ}
 use lib.Signed.{mag}
 use lib.ListN.{length, get_or, take, drop, drop_of_length-le, length-drop, length-append}
 use lib.Seq.{length-take-le, get_or-take}
 use mir.Syntax.{w64}
-use mir.Val.{SFits, to_z, of_z}
-use mir.Facts.{to_z_pos, to_z-of_z}
+use mir.Val.{SFits}
 use borrow.Author.Rules.{sfits_of}
 use borrow.Author.Tests.{le-leb, le-ltb, lt-ltb, ltb-false, leb-true, not-false, eq-eqb, ne_eqb}
 use native.Mathlib.Decide.{dec_lt}
@@ -192,21 +191,9 @@ nm_below l e =
 
 -- ---- the sign applied
 
-pub plain_is : (n : ℕ) → n < 10 ^ 18 → to_z w64 n ≡ pos n
-plain_is n h = to_z_pos w64 (lt_of_lt_of_le h (lit< tt))
-
-minus_is : (n : ℕ) → n < 10 ^ 18 → (pos 0) -ℤ to_z w64 n ≡ neg_ℤ (pos n)
-minus_is n h = ap (λ (z : ℤ). pos 0 -ℤ z) (plain_is n h) ∙ +ℤ_idl (neg_ℤ (pos n))
-
 minus_small : (n : ℕ) → n < 10 ^ 18 → mag (neg_ℤ (pos n)) < 2 ^ 63
 minus_small zero h = lit< tt
 minus_small (suc n) h = let l : 10 ^ 18 < 2 ^ 63 = lit< tt in omega arith
-
-pub minus_fits : (n : ℕ) → n < 10 ^ 18 → SFits w64 (pos 0 -ℤ to_z w64 n)
-minus_fits n h = subst (SFits w64) (sym (minus_is n h)) (sfits_of (minus_small n h))
-
-pub minus_back : (n : ℕ) → n < 10 ^ 18 → to_z w64 (of_z w64 (pos 0 -ℤ to_z w64 n)) ≡ neg_ℤ (pos n)
-minus_back n h = to_z-of_z (minus_fits n h) ∙ minus_is n h
 
 pub signed_fits : (negative : Bool) (n : ℕ) → n < 10 ^ 18 → SFits w64 (signed negative n)
 signed_fits true n h = sfits_of (minus_small n h)

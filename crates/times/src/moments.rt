@@ -11,6 +11,7 @@ use calendar::{Clock, Date, Time};
 use forms::{Form, Parts};
 
 // The time that is read, where there is such a time.
+#[inline(always)]
 fn existing(time: Time) -> Result<Time, Refusal>
     ensures { result ≡ time_if (valid_time time) time }
 {
