@@ -7,6 +7,7 @@ use mathlib.Core.Path.{◌≡◌, refl}
 use mathlib.Core.List.{List}
 use Prim.Native.Nat.{ℕ}
 use lib.ListN.{length, get_or, take}
+use Rattle.std.specs.Prelude.{Err}
 use Rattle.alphabet.specs.Answers.{number_of, answered}
 use Rattle.alphabet.specs.declared.answers.Answer.{Answer}
 use Rattle.alphabet.specs.declared.answers.Refusal.TheVariants.{None, NoRoom}
@@ -29,6 +30,7 @@ use Rattle.verdict.specs.Verdicts.{Verdicts}
 use Rattle.acknowledgement.specs.Acknowledgement.{Acknowledges}
 use Rattle.acknowledgement.proofs.AnswerLaws.{refusal_leaves}
 use Rattle.laws.specs.Entries.{of_reading, of_finding, of_nm, of_form, of_escaping, of_unescaping, of_formatting, of_structure, of_verdict, of_acknowledging, of_framing}
+use Rattle.laws.specs.Framed.{number_in, used_in, state_in}
 use Rattle.laws.proofs.EntryNumbers as Entries
 use Rattle.laws.proofs.FrameNumbers as Frames
 use Rattle.laws.proofs.FramePlaces.{call_holds, call_size}
@@ -76,7 +78,7 @@ unescape_numbers = Entries.unescape_numbers
 pub format_numbers : (ds s : List ℕ) (room : ℕ) → In (number_of (answer (formatting ds s room)).kind) of_formatting
 format_numbers = Entries.format_numbers
 
-pub feed_numbers : (s : FrameState) (piece lent : List ℕ) → In (number_of (fed s piece lent).said.answer.kind) of_framing
+pub feed_numbers : (s : FrameState) (piece lent : List ℕ) → In (number_in (fed s piece lent).said) of_framing
 feed_numbers = Frames.feed_numbers
 
 -- ---- "After a refusal every buffer lent holds the bytes it held before."
@@ -103,13 +105,13 @@ refused_length (fault kind place) some = refl
 
 -- behind each call, from any state, of the bytes that it used; there are as many places as before
 pub feed_holds : (s : FrameState) (piece lent : List ℕ) (i : ℕ)
-    → get_or (fed s piece lent).left i 0 ≡ last_at i (gathered (frame_limit (length lent)) s (take (fed s piece lent).said.used piece)) (get_or lent i 0)
+    → get_or (fed s piece lent).left i 0 ≡ last_at i (gathered (frame_limit (length lent)) s (take (used_in (fed s piece lent).said) piece)) (get_or lent i 0)
 feed_holds = call_holds
 
 pub feed_size : (s : FrameState) (piece lent : List ℕ) → length (fed s piece lent).left ≡ length lent
 feed_size = call_size
 
 -- 14 leaves the state and the buffer, and uses nothing
-pub feed_leaves : (s : FrameState) (piece lent : List ℕ) → (fed s piece lent).said.answer.kind ≡ NoRoom
-    → ((fed s piece lent).said.state ≡ s) × ((fed s piece lent).left ≡ lent) × ((fed s piece lent).said.used ≡ 0)
+pub feed_leaves : (s : FrameState) (piece lent : List ℕ) → (fed s piece lent).said ≡ Err NoRoom
+    → (state_in s (fed s piece lent).said ≡ s) × ((fed s piece lent).left ≡ lent) × (used_in (fed s piece lent).said ≡ 0)
 feed_leaves = refused_leaves

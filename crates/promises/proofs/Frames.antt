@@ -6,15 +6,16 @@ use mathlib.Core.Logic.{◌↔◌}
 use mathlib.Core.List.{List}
 use Prim.Native.Nat.{ℕ, ◌≤◌}
 use lib.ListN.{length, get_or}
+use Rattle.std.specs.Prelude.{None, Ok, Err, IsOk}
 use Rattle.alphabet.specs.declared.answers.Refusal.TheVariants.{NoRoom}
 use Rattle.frames.specs.declared.state.FrameState.{FrameState}
-use Rattle.frames.specs.declared.feeding.Stop.TheVariants.{More}
+use Rattle.frames.specs.declared.feeding.Fed.{Fed}
 use Rattle.frames.specs.Wire.{frame_limit, most_dropped}
 use Rattle.frames.specs.Steps.{outside}
 use Rattle.frames.specs.Feeding.{fed}
 use Rattle.frames.specs.Runs.{Happening, Runs, Run, Reached, line}
 use Rattle.frames.specs.Gathered.{gathered, last_at, laid, last_of}
-use Rattle.laws.specs.Framed.{Framed, Said}
+use Rattle.laws.specs.Framed.{Framed, Said, size_in}
 use Rattle.laws.proofs.FrameCuts as Cuts
 use Rattle.laws.proofs.FrameStates.{known_reached, reached_known, unreached_refused, reached_taken, taken_reached}
 use Rattle.laws.proofs.FramePlaces as Places
@@ -34,10 +35,10 @@ run_exists s d ps reached = Cuts.run_exists s d ps (reached_known (length d) s r
 
 -- ---- "A state that no run with that buffer's length could have reached is 14", before the piece is looked at; every other is taken
 
-pub refused_exactly : (s : FrameState) (p d : List ℕ) → ((fed s p d).said.answer.kind ≡ NoRoom) ↔ (Reached (length d) s → ⊥)
+pub refused_exactly : (s : FrameState) (p d : List ℕ) → ((fed s p d).said ≡ Err NoRoom) ↔ (Reached (length d) s → ⊥)
 refused_exactly s p d = (λ r reached. reached_taken s p d reached r, unreached_refused s p d)
 
-pub taken_exactly : (s : FrameState) (p d : List ℕ) → ((fed s p d).said.answer.kind ≡ NoRoom → ⊥) ↔ Reached (length d) s
+pub taken_exactly : (s : FrameState) (p d : List ℕ) → ((fed s p d).said ≡ Err NoRoom → ⊥) ↔ Reached (length d) s
 taken_exactly s p d = (taken_reached s p d, reached_taken s p d)
 
 -- ---- the line as a grammar: stray bytes; 0x0B, body, 0x1C, 0x0D; broken frames; frames too long; what is left open
@@ -59,23 +60,28 @@ bodies_hold = Places.laid_holds
 
 -- ---- what goes back
 
--- number and stop agree, the place is 0, and only a frame has a length
+-- a dropped frame has the number that goes with it, only a frame has a length, and nothing but 14 is refused
 pub feed_answers : (s : FrameState) (p d : List ℕ) → Framed (fed s p d).said
 feed_answers = Numbers.feed_framed
 
 -- from any state: a frame has no more bytes than the limit, and fits the buffer
-pub frame_fits : (s : FrameState) (p d : List ℕ) → ((fed s p d).said.answer.length ≤ frame_limit (length d)) × ((fed s p d).said.answer.length ≤ length d)
+pub frame_fits : (s : FrameState) (p d : List ℕ) → (size_in (fed s p d).said ≤ frame_limit (length d)) × (size_in (fed s p d).said ≤ length d)
 frame_fits s p d = (Numbers.frame_fits s p d, Numbers.frame_in_buffer s p d)
 
 module _ (s : FrameState) (p d : List ℕ) (reached : Reached (length d) s) where
-  -- a stop has used a byte, so whoever calls again comes to an end
-  pub stop_used : ((fed s p d).said.stop ≡ More → ⊥) → (1 ≤ (fed s p d).said.used) × ((fed s p d).said.used ≤ length p)
-  stop_used = Cuts.stop_used s p d (reached_known (length d) s reached)
+  -- a state that is reached is taken, so what follows speaks of something
+  pub is_taken : IsOk (fed s p d).said
+  is_taken = Cuts.is_taken s p d (reached_known (length d) s reached)
 
-  -- without a stop the piece is used up
-  pub more_used : (fed s p d).said.stop ≡ More → (fed s p d).said.used ≡ length p
-  more_used = Cuts.more_used s p d (reached_known (length d) s reached)
+  module _ {f : Fed} (e : (fed s p d).said ≡ Ok f) where
+    -- a stop has used a byte, so whoever calls again comes to an end
+    pub stop_used : (f.stop ≡ None → ⊥) → (1 ≤ f.used) × (f.used ≤ length p)
+    stop_used = Cuts.stop_used s p d (reached_known (length d) s reached) e
 
-  -- and what comes back can be handed in again
-  pub comes_back : Reached (length (fed s p d).left) (fed s p d).said.state
-  comes_back = known_reached (length (fed s p d).left) (fed s p d).said.state (Cuts.comes_back s p d (reached_known (length d) s reached))
+    -- without a stop the piece is used up
+    pub more_used : f.stop ≡ None → f.used ≡ length p
+    more_used = Cuts.more_used s p d (reached_known (length d) s reached) e
+
+    -- and what comes back can be handed in again
+    pub comes_back : Reached (length (fed s p d).left) f.state
+    comes_back = known_reached (length (fed s p d).left) f.state (Cuts.comes_back s p d (reached_known (length d) s reached) e)
