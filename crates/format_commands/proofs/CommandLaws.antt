@@ -3,37 +3,23 @@
 use mathlib.Core.Logic.{◌⊎◌, inl, inr, ⊎_elim}
 use mathlib.Core.Path.{◌≡◌, refl, sym, ap, ◌∙◌}
 use mathlib.Core.List.{List, [], ◌∷◌}
-use mathlib.Core.Bool.{Bool, true, false, cond, ◌&&◌}
+use mathlib.Core.Bool.{Bool, true, false, cond, ◌&&◌, ◌||◌}
 use Prim.Native.Nat.{ℕ, ◌+◌, ◌-◌, ◌*◌, ◌≤◌, ◌<◌}
 use native.Mathlib.Omega.{arith}
 use lib.Dec.{ltb, eqb}
 use lib.ListN.{length, get_or, take, drop, drop_of_length-le}
 use lib.Seq.{take_all}
 use borrow.Author.Tests.{lt-ltb, le-ltb, ltb-true, ltb-false}
+use Rattle.std.specs.Prelude.{Option, Some, None, is_some}
 use Rattle.alphabet.specs.Digits.{all_digits, counted, decimal}
 use Rattle.alphabet.specs.Bytes.{ascii}
 use Rattle.alphabet.specs.Lists.{same}
 use Rattle.alphabet.proofs.ListLaws.{same_unlike}
 use Rattle.alphabet.proofs.DigitLaws.{counted_next}
-use Rattle.format_commands.specs.Commands.{past_if, digits_of, signed_of, number_of, numbered, order_of, command, is_order, held_size, held_amount, held_number, held_order}
+use Rattle.format_commands.specs.Commands.{digits_of, signed_of, number_of, numbered, order_of, command, held_size, held_amount, held_number, held, held_order}
 use Rattle.format_commands.specs.declared.numbers.Amount.{Amount}
-use Rattle.format_commands.specs.declared.numbers.Number.{Number}
-use Rattle.format_commands.specs.declared.numbers.Number.TheVariants.{Missing, Given}
 use Rattle.format_commands.specs.declared.orders.Order.{Order}
-use Rattle.format_commands.specs.declared.orders.Order.TheVariants.{Unknown, Highlight, Break, Centre, Fill, Unfill, Down, Across, Margin, Once}
-
--- ---- parts
-
-pub past_yes : (t : Bool) (l : List ℕ) → t ≡ true → past_if t l ≡ drop 1 l
-past_yes t l e = rw e
-
-pub past_no : (t : Bool) (l : List ℕ) → t ≡ false → past_if t l ≡ l
-past_no t l e = rw e
-
-pub past_none : (t : Bool) (l : List ℕ) → length l ≡ 0 → past_if t l ≡ l
-past_none true [] h = refl
-past_none false [] h = refl
-past_none t (x ∷ r) h = absurd (omega arith)
+use Rattle.format_commands.specs.declared.orders.Order.TheVariants.{Highlight, Break, Centre, Fill, Unfill, Down, Across, Margin, Once}
 
 -- ---- holding
 
@@ -73,17 +59,17 @@ held_counted n l =
     let y = counted_grows n l in
     ap (λ (k : ℕ). held_size (counted k l)) h.1 ∙ held_above (counted 201 l) x ∙ sym (held_above (counted n l) (omega arith))) (held_cases n)
 
-pub digits_none : (m : Bool) (l : List ℕ) → length l ≡ 0 → held_number (digits_of m l) ≡ Missing
+pub digits_none : (m : Bool) (l : List ℕ) → length l ≡ 0 → held_number (digits_of m l) ≡ None
 unfolding digits_of held_number
 digits_none m [] h = refl
 digits_none m (d ∷ r) h = absurd (omega arith)
 
-pub digits_bad : (m : Bool) (l : List ℕ) → all_digits l ≡ false → held_number (digits_of m l) ≡ Missing
+pub digits_bad : (m : Bool) (l : List ℕ) → all_digits l ≡ false → held_number (digits_of m l) ≡ None
 unfolding digits_of held_number
 digits_bad m [] e = refl
 digits_bad m (d ∷ r) e = rw e
 
-pub digits_good : (m : Bool) (l : List ℕ) → 0 < length l → all_digits l ≡ true → held_number (digits_of m l) ≡ Given (record { minus = m; size = held_size (decimal l) })
+pub digits_good : (m : Bool) (l : List ℕ) → 0 < length l → all_digits l ≡ true → held_number (digits_of m l) ≡ Some (record { minus = m; size = held_size (decimal l) })
 unfolding digits_of held_number
 digits_good m [] h e = absurd (omega arith)
 digits_good m (d ∷ r) h e = rw e
@@ -102,37 +88,29 @@ held_digit l i n m h e =
     ap held_size (counted_next l i h n) ∙ sym (held_counted (n * 10 + (get_or l i 0 - 48)) (drop (i + 1) l)) ∙ ap (λ (k : ℕ). held_size (counted k (drop (i + 1) l))) (sym e)
 
 -- a sequence held is the sequence of a number held
-pub held_numbered : (name : List ℕ) (n : Number) → numbered name (held_number n) ≡ held_order (numbered name n)
-unfolding numbered held_number held_order
-held_numbered name Missing = refl
-held_numbered name (Given a) = at (same name (ascii ".sp")) (same name (ascii ".sk")) (same name (ascii ".in")) (same name (ascii ".ti"))
+pub held_numbered : (name : List ℕ) (n : Option Amount) → numbered name (held_number n) ≡ held_order (numbered name n)
+unfolding numbered held_number held held_order
+held_numbered name None = refl
+held_numbered name (Some a) = at (same name (ascii ".sp")) (same name (ascii ".sk")) (same name (ascii ".in")) (same name (ascii ".ti"))
   where
     at : (t u v w : Bool)
-        → cond t (Down (held_amount a)) (cond u (Across (held_amount a)) (cond v (Margin (held_amount a)) (cond w (Once (held_amount a)) Unknown)))
-        ≡ held_order (cond t (Down a) (cond u (Across a) (cond v (Margin a) (cond w (Once a) Unknown))))
+        → cond t (Some (Down (held_amount a))) (cond u (Some (Across (held_amount a))) (cond v (Some (Margin (held_amount a))) (cond w (Some (Once (held_amount a))) None)))
+        ≡ held_order (cond t (Some (Down a)) (cond u (Some (Across a)) (cond v (Some (Margin a)) (cond w (Some (Once a)) None))))
     at true u v w = refl
     at false true v w = refl
     at false false true w = refl
     at false false false true = refl
     at false false false false = refl
 
-pub known_held : (o : Order) → is_order (held_order o) ≡ is_order o
+pub known_held : (o : Option Order) → is_some (held_order o) ≡ is_some o
 unfolding held_order
-known_held Unknown = refl
-known_held Highlight = refl
-known_held Break = refl
-known_held Centre = refl
-known_held Fill = refl
-known_held Unfill = refl
-known_held (Down a) = refl
-known_held (Across a) = refl
-known_held (Margin a) = refl
-known_held (Once a) = refl
+known_held None = refl
+known_held (Some o) = refl
 
 -- whether a sequence is a command, told by what it asks for, held
-pub command_held : (c : List ℕ) (o : Order) → o ≡ held_order (order_of c) → is_order o ≡ command c
+pub command_held : (c : List ℕ) (o : Option Order) → o ≡ held_order (order_of c) → is_some o ≡ command c
 unfolding command
-command_held c o e = ap is_order e ∙ known_held (order_of c)
+command_held c o e = ap is_some e ∙ known_held (order_of c)
 
 -- ---- by the length of a sequence
 
@@ -148,30 +126,34 @@ abbrev one : Amount
 one = record { minus = false; size = 1 }
 
 -- a letter
-letter_alone : (x : ℕ) → order_of (x ∷ []) ≡ cond (eqb x 72) Highlight (cond (eqb x 78) Highlight Unknown)
+letter_alone : (x : ℕ) → order_of (x ∷ []) ≡ cond (eqb x 72) (Some Highlight) (cond (eqb x 78) (Some Highlight) None)
 unfolding order_of same numbered number_of signed_of digits_of
 letter_alone x = at (eqb x 72) (eqb x 78) (eqb x 46)
   where
     at : (t u v : Bool)
-        → cond (t && true) Highlight (cond (u && true) Highlight (cond (v && false) Break (cond (v && false) Centre (cond (v && false) Fill (cond (v && false) Unfill (cond (v && false) (Down one) Unknown))))))
-        ≡ cond t Highlight (cond u Highlight Unknown)
+        → cond (t && true) (Some Highlight) (cond (u && true) (Some Highlight) (cond (v && false) (Some Break) (cond (v && false) (Some Centre) (cond (v && false) (Some Fill) (cond (v && false) (Some Unfill) (cond (v && false) (Some (Down one)) None))))))
+        ≡ cond t (Some Highlight) (cond u (Some Highlight) None)
     at true u v = refl
     at false true v = refl
     at false false true = refl
     at false false false = refl
 
-pub letter_order : (x : ℕ) (r n : Order) → n ≡ cond (eqb x 78) Highlight Unknown → r ≡ cond (eqb x 72) Highlight n → r ≡ order_of (x ∷ [])
-letter_order x r n e f = f ∙ ap (cond (eqb x 72) Highlight) e ∙ sym (letter_alone x)
+pub letter_order : (x : ℕ) {t : Bool} → (eqb x 72 || eqb x 78) ≡ t → cond t (Some Highlight) None ≡ order_of (x ∷ [])
+letter_order x e = ap (λ (t : Bool). cond t (Some Highlight) None) (sym e) ∙ at (eqb x 72) (eqb x 78) ∙ sym (letter_alone x)
+  where
+    at : (t u : Bool) → cond (t || u) (Some Highlight) None ≡ cond t (Some Highlight) (cond u (Some Highlight) None)
+    at true u = refl
+    at false u = refl
 
-held_letter : (t u : Bool) → held_order (cond t Highlight (cond u Highlight Unknown)) ≡ cond t Highlight (cond u Highlight Unknown)
-unfolding held_order
+held_letter : (t u : Bool) → held_order (cond t (Some Highlight) (cond u (Some Highlight) None)) ≡ cond t (Some Highlight) (cond u (Some Highlight) None)
+unfolding held held_order
 held_letter true u = refl
 held_letter false true = refl
 held_letter false false = refl
 
 -- a name
-abbrev named : Bool → Bool → Bool → Bool → Bool → Order
-named t u v w s = cond t Break (cond u Centre (cond v Fill (cond w Unfill (cond s (Down one) Unknown))))
+abbrev named : Bool → Bool → Bool → Bool → Bool → Option Order
+named t u v w s = cond t (Some Break) (cond u (Some Centre) (cond v (Some Fill) (cond w (Some Unfill) (cond s (Some (Down one)) None))))
 
 module _ (x y z : ℕ) where
   abbrev is : ℕ → ℕ → Bool
@@ -181,12 +163,12 @@ module _ (x y z : ℕ) where
   unfolding order_of numbered number_of signed_of digits_of
   name_alone = rw (same_unlike (x ∷ y ∷ z ∷ []) (72 ∷ []) (λ (e : 3 ≡ 1). omega arith), same_unlike (x ∷ y ∷ z ∷ []) (78 ∷ []) (λ (e : 3 ≡ 1). omega arith))
 
-  pub numbered_name : (n : Amount) → numbered (x ∷ y ∷ z ∷ []) (Given n) ≡ cond (is 115 112) (Down n) (cond (is 115 107) (Across n) (cond (is 105 110) (Margin n) (cond (is 116 105) (Once n) Unknown)))
+  pub numbered_name : (n : Amount) → numbered (x ∷ y ∷ z ∷ []) (Some n) ≡ cond (is 115 112) (Some (Down n)) (cond (is 115 107) (Some (Across n)) (cond (is 105 110) (Some (Margin n)) (cond (is 116 105) (Some (Once n)) None)))
   unfolding numbered
   numbered_name n = refl
 
 held_named : (t u v w s : Bool) → held_order (named t u v w s) ≡ named t u v w s
-unfolding held_order held_size
+unfolding held held_order held_size
 held_named true u v w s = refl
 held_named false true v w s = refl
 held_named false false true w s = refl
@@ -229,11 +211,11 @@ module _ (c : List ℕ) where
   rest_unlike f g =
       rw (same_unlike c (72 ∷ []) f, same_unlike c (78 ∷ []) f, same_unlike c (46 ∷ 98 ∷ 114 ∷ []) g, same_unlike c (46 ∷ 99 ∷ 101 ∷ []) g, same_unlike c (46 ∷ 102 ∷ 105 ∷ []) g, same_unlike c (46 ∷ 110 ∷ 102 ∷ []) g, same_unlike c (46 ∷ 115 ∷ 112 ∷ []) g)
 
-  pub order_none : (length c ≡ 1 → ⊥) → (length c ≡ 3 → ⊥) → length c < 4 → Unknown ≡ held_order (order_of c)
+  pub order_none : (length c ≡ 1 → ⊥) → (length c ≡ 3 → ⊥) → length c < 4 → None ≡ held_order (order_of c)
   unfolding held_order numbered number_of signed_of digits_of
   order_none f g h = sym (ap held_order (rest_unlike f g ∙ ap (λ (l : List ℕ). numbered (take 3 c) (number_of l)) (drop_of_length-le c {i = 3} (omega arith))))
 
-  pub order_more : (r : Order) (n : Number) → 4 ≤ length c → n ≡ held_number (number_of (drop 3 c)) → r ≡ numbered (get_or c 0 0 ∷ get_or c 1 0 ∷ get_or c 2 0 ∷ []) n → r ≡ held_order (order_of c)
+  pub order_more : (r : Option Order) (n : Option Amount) → 4 ≤ length c → n ≡ held_number (number_of (drop 3 c)) → r ≡ numbered (get_or c 0 0 ∷ get_or c 1 0 ∷ get_or c 2 0 ∷ []) n → r ≡ held_order (order_of c)
   order_more r n h e f =
       f ∙ ap (numbered _) e ∙ held_numbered _ (number_of (drop 3 c)) ∙ ap (λ (l : List ℕ). held_order (numbered l (number_of (drop 3 c)))) (sym (front_three (omega arith)))
       ∙ ap held_order (sym (rest_unlike (λ (k : length c ≡ 1). omega arith) (λ (k : length c ≡ 3). omega arith)))

@@ -4,5 +4,5 @@
 mod numbers;
 mod orders;
 
-pub use numbers::{Amount, Number, hold};
-pub use orders::{Order, is_asked, is_command, order_of};
+pub use numbers::{Amount, hold};
+pub use orders::{Order, is_command, order_of};
