@@ -86,3 +86,13 @@ checked (Err fault) = Err fault
 abbrev pub number_given : {T : Type 0} → Refusable T → ℕ
 number_given (Ok _) = 0
 number_given (Err fault) = number_of fault.kind
+
+-- the place and the length that are given back: "A refusal gives number and place, length 0"; what is accepted gives
+-- place 0
+abbrev pub place_given : {T : Type 0} → Refusable T → ℕ
+place_given (Ok _) = 0
+place_given (Err fault) = fault.place
+
+abbrev pub length_given : Refusable ℕ → ℕ
+length_given (Ok n) = n
+length_given (Err _) = 0

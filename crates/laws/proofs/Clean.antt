@@ -9,13 +9,14 @@ use lib.Dec.{ltb}
 use lib.ListN.{length, get_or, take, drop}
 use lib.Seq.{take-append_seam}
 use borrow.Author.Tests.{le-leb, le-ltb, ltb-true, ltb-false}
+use Rattle.std.specs.Prelude.{Ok}
+use Rattle.alphabet.specs.Answers.{length_given}
 use Rattle.alphabet.proofs.BoolLaws.{and_both, from_to_lem}
 use Rattle.alphabet.proofs.DelimiterLaws.{delimiter_permitted}
 use Rattle.laws.proofs.EachLaws.{Each, each_append, each_at}
 use Rattle.alphabet.specs.Lists.{find}
 use Rattle.alphabet.specs.Bytes.{from_to, printable, hex_digit, is_null}
 use Rattle.alphabet.specs.Delimiters.{punctuation, never_delimiter, permitted, first_wrong_delimiter}
-use Rattle.alphabet.specs.declared.answers.Refusal.TheVariants.{None}
 use Rattle.escaping.specs.Escape.{letters, escape_of, escape_byte, escape_bytes, two_quotes, escape}
 use Rattle.escaping.specs.Outcomes.{Outcome, text}
 use Rattle.alphabet.specs.Filling.{over}
@@ -110,17 +111,17 @@ module _ (ds : List ℕ) (five : length ds ≡ 5) (fine : first_wrong_delimiter 
 
   -- the front of the buffer d, as long as `escape` said, after `escape` wrote t there
   abbrev pub written : List ℕ → List ℕ → List ℕ
-  written t d = take (answer (escaping ds t (length d))).length (filled (escaping ds t (length d)) d)
+  written t d = take (length_given (answer (escaping ds t (length d)))) (filled (escaping ds t (length d)) d)
 
   -- where both buffers have room, `unescape` of what `escape` left in the one gives the text's length and fills the front of the other with the text
   pub both_ways : (t d e : List ℕ) → AreBytes t → length (escape ds t) ≤ length d → length t ≤ length e
-      → (answer (unescaping ds (written t d) (length e)) ≡ record { kind = None; place = 0; length = length t })
+      → (answer (unescaping ds (written t d) (length e)) ≡ Ok (length t))
       × (filled (unescaping ds (written t d) (length e)) e ≡ over t e)
   unfolding answer filled
   both_ways t d e small h k =
       let w = escape ds t in
       let front : written t d ≡ w =
-      ap (λ (o : Outcome ℕ). take (answer o).length (filled o d)) (escaping_fits t (length d) h) ∙ take-append_seam w (drop (length w) d) in
+      ap (λ (o : Outcome ℕ). take (length_given (answer o)) (filled o d)) (escaping_fits t (length d) h) ∙ take-append_seam w (drop (length w) d) in
       let back : unescaping ds (written t d) (length e) ≡ text t =
       ap (λ (s : List ℕ). unescaping ds s (length e)) front ∙ round_trip ds five fine t (length e) small ∙ fits t (length e) k in
       (ap answer back, ap (λ (o : Outcome ℕ). filled o e) back)

@@ -10,6 +10,7 @@ use lib.Dec.{leb, ltb, eqb}
 use lib.ListN.{length, take, drop, length-append, length-drop}
 use lib.Seq.{split_at, take-append_seam}
 use borrow.Author.Tests.{eqb-true, eqb-false, ltb-true, ltb-false, leb-true, leb-false}
+use Rattle.alphabet.proofs.CheckLaws.{fails_same}
 use Rattle.alphabet.proofs.ListLaws.{find_is, first_le}
 use Rattle.alphabet.proofs.NullLaws.{two_quotes_lem, not_quotes, other_quotes}
 use Rattle.alphabet.proofs.PartLaws.{free_find}
@@ -183,8 +184,9 @@ module _ {A : Type 0} (q : Sequences A) (ds : List ℕ) where
         by (says t m) = let w : text t ≡ fault k p = sym (reads_scan five s t m) ∙ e in absurd (let z : ◌≡◌ {A = ℕ} 0 1 = cc in omega arith)
         by (refuses k' p' f) =
             let w : fault k' p' ≡ fault k p = sym (refuses_scan five s k' p' f) ∙ e in
-            let z : k' ≡ k = cc in
-            let r : p' ≡ p = cc in
+            let same = fails_same w in
+            let z : k' ≡ k = same.0 in
+            let r : p' ≡ p = same.1 in
             subst (Refuses q ds s k) r (subst (λ (j : Refusal). Refuses q ds s j p') z f)
 
 -- ---- plain text
