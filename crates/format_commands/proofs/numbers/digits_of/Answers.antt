@@ -4,7 +4,7 @@ use mathlib.Core.Bool.{Bool, true}
 use mathlib.Core.Path.{◌≡◌, sym, ap, ◌∙◌}
 use native.Mathlib.Omega.{arith}
 use lib.ListN.{get_or}
-use borrow.Author.Tests.{eqb-true}
+use borrow.Author.Tests.{eqb-true, eqb-false}
 use Rattle.std.specs.Prelude.{Option, Some}
 use Rattle.alphabet.specs.Bytes.{digit}
 use Rattle.alphabet.proofs.BoolLaws.{from_to_lem}
@@ -56,7 +56,8 @@ returns c =
     let n = c.loop-digit.size in
     let e = c.loop-digit.invariant.1 ∙ digits_end s i (omega arith) in
     let f = c.loop-digit.invariant.2 ∙ ap held_size (counted_end s i n (omega arith)) ∙ held_own n (omega arith) in
-    ap (given a.minus) (sym f) ∙ sym (digits_good a.minus s (omega arith) e)
+    let some = eqb-false _ 0 (sym c.is_empty.ensures ∙ c.if-is_empty.false) in
+    ap (given a.minus) (sym f) ∙ sym (digits_good a.minus s (omega (arith, some)) e)
 
 pub overflow_sub-digit : goal.overflow_sub-digit
 overflow_sub-digit c = let h = here c in let lo = h.1 in omega arith
