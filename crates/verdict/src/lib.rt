@@ -6,31 +6,16 @@ mod walk;
 
 ghost use Rattle.verdict.specs.Verdicts.{Verdicts};
 
-use alphabet::Check;
 use fault::FaultRecord;
 
 // The verdict on a message.
-pub fn verdict(message: &[u8]) -> FaultRecord
+pub fn verdict(message: &[u8]) -> Result<(), FaultRecord>
     ensures { Verdicts message.now result }
 {
-    let opening = reading::check_opening(message);
-    if let Check::Fails { kind, place } = opening {
-        return fault::plain(kind, place);
+    reading::check_opening(message)?;
+    reading::check_end(message)?;
+    match structure::rows_for(message) {
+        Some(rows) => walk::judge_segments(message, rows),
+        None => structure::judge_unlisted(message),
     }
-    let end = reading::check_end(message);
-    if let Check::Fails { kind, place } = end {
-        return fault::plain(kind, place);
-    }
-    let rows = structure::rows_for(message);
-    if rows.count == 0 {
-        return structure::judge_unlisted(message);
-    }
-    let names = rows.names;
-    let follow = rows.follow;
-    walk::judge_segments(
-        message,
-        &names[..rows.count],
-        &follow[..rows.count],
-        rows.last,
-    )
 }
