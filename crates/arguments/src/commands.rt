@@ -23,7 +23,7 @@ pub fn is_help(word: &[u8]) -> bool {
 
 impl Command {
     // The command that a word says.
-    pub fn of(word: &[u8]) -> Option<Command> {
+    pub(crate) fn of(word: &[u8]) -> Option<Command> {
         match word {
             b"check" => Some(Command::Check),
             b"frames" => Some(Command::Frames),
@@ -37,18 +37,13 @@ impl Command {
         }
     }
 
-    // Whether a command asks for an element, by the words behind the file's name.
-    pub fn takes_address(self) -> bool {
-        matches!(self, Command::Get | Command::Lines)
-    }
-
     // Whether a command takes any number of files.
     pub fn takes_files(self) -> bool {
         matches!(self, Command::Check | Command::Frames)
     }
 
     // Whether a command takes the option --json.
-    pub fn takes_json(self) -> bool {
+    pub(crate) fn takes_json(self) -> bool {
         matches!(
             self,
             Command::Check | Command::Frames | Command::Show | Command::Get
@@ -58,7 +53,7 @@ impl Command {
     // Whether a command takes so many words: a file or more to check or to take frames from, one to show, one to get an
     // element or its lines from with an address of one to five words behind its name, one to acknowledge with two, and
     // none to tell of itself.
-    pub fn takes_words(self, count: usize) -> bool {
+    pub(crate) fn takes_words(self, count: usize) -> bool {
         match self {
             Command::Check | Command::Frames => 1 <= count,
             Command::Show => count == 1,

@@ -4,13 +4,11 @@ use field_table::{COUNT, Kind};
 
 // What the row of a field says, and any where the table has no such row.
 fn kind_in(name: u32, field: usize) -> Kind {
-    let mut index = 0;
-    while index < COUNT {
+    for index in 0..COUNT {
         let row = field_table::row_at(index);
         if (row.segment == name) & (row.field == field) {
             return row.kind;
         }
-        index += 1;
     }
     Kind::Any
 }
@@ -18,9 +16,9 @@ fn kind_in(name: u32, field: usize) -> Kind {
 // The bytes of one repetition of a field.
 pub fn repetition_at(message: &[u8], segment: usize, field: usize, repetition: usize) -> &[u8] {
     let address = Address {
-        segment: segment,
-        field: field,
-        repetition: repetition,
+        segment,
+        field,
+        repetition,
         component: 0,
         subcomponent: 0,
     };
@@ -31,6 +29,9 @@ pub fn repetition_at(message: &[u8], segment: usize, field: usize, repetition: u
 pub fn judged_by(message: &[u8], segment: usize, field: usize) -> Kind {
     let name = reading::name_of(places::segment_bytes(message, segment));
     let kind = kind_in(name, field);
-    let said = repetition_at(message, segment, rules::said_field(kind), 1);
+    let said = match rules::said_field(kind) {
+        Some(said) => repetition_at(message, segment, said, 1),
+        None => &[],
+    };
     rules::kind_of(kind, said)
 }

@@ -9,36 +9,24 @@ mod names;
 mod type_forms;
 mod types;
 
+use alphabet::Refusal;
 use fault::FaultRecord;
 pub use names::print_field_name;
 use terminal::Output;
 pub use type_forms::print_time_form;
 pub use types::print_type;
 
-// Says what a field could have held, by the number of its fault: 32, 33 or 37.
-fn explain_field(out: Output, message: &[u8], fault: FaultRecord) -> Output {
-    let kind = fault.kind;
-    let number = alphabet::number(kind);
+// Says below a refusal what would have been right: the types that are known, the form of a field, its list or its limit.
+pub fn explain(out: &mut Output, message: &[u8], fault: FaultRecord) {
     let asked = judged::judged_by(message, fault.place, fault.field);
-    if number == 32 {
-        return type_forms::print_form(out, asked);
+    match fault.kind {
+        Refusal::NoStructure => types::print_known(out, message),
+        Refusal::BreaksForm => type_forms::print_form(out, asked),
+        Refusal::NotListed => lists::print_list_of(out, asked),
+        Refusal::ValueTooLong => {
+            let value = judged::repetition_at(message, fault.place, fault.field, fault.repetition);
+            type_forms::print_limit(out, asked, value.len());
+        }
+        _ => {}
     }
-    if number == 33 {
-        return lists::print_list_of(out, asked);
-    }
-    let value = judged::repetition_at(message, fault.place, fault.field, fault.repetition);
-    type_forms::print_limit(out, asked, value.len())
-}
-
-// Says below a refusal what would have been right, for 20, 32, 33 and 37.
-pub fn explain(out: Output, message: &[u8], fault: FaultRecord) -> Output {
-    let kind = fault.kind;
-    let number = alphabet::number(kind);
-    if number == 20 {
-        return types::print_known(out, message);
-    }
-    if (number == 32) | ((number == 33) | (number == 37)) {
-        return explain_field(out, message, fault);
-    }
-    out
 }

@@ -6,36 +6,28 @@ ghost use Rattle.field_table.specs.Table.{values_of};
 use field_table::{Kind, Values};
 use terminal::Output;
 
-// Prints a word that begins at a place of a text, behind a comma where it is not the first.
-fn print_word(out: Output, place: usize, word: &[u8]) -> Output {
-    if place == 0 {
-        return terminal::print(out, word);
+// Prints the words of a text, which stand between its spaces, and ends the line. Each stands behind a comma where it is
+// not the first.
+pub fn print_words(out: &mut Output, text: &[u8]) {
+    for (i, word) in text.split(|byte| *byte == b' ').enumerate() {
+        if i != 0 {
+            out.print(b", ");
+        }
+        out.print(word);
     }
-    terminal::print(terminal::print(out, b", "), word)
-}
-
-// Prints the words of a text, which stand between its spaces.
-pub fn print_words(out: Output, text: &[u8]) -> Output {
-    let mut printed = out;
-    let mut start = 0;
-    while start < text.len() {
-        let end = places::part_end(text, b' ', start);
-        printed = print_word(printed, start, &text[start..end]);
-        start = end + 1;
-    }
-    printed
+    out.end_line();
 }
 
 // Prints the values of a list, handed in as a text: its words have to be the values.
-fn print_list(out: Output, values: Values, text: &[u8]) -> Output
+fn print_list(out: &mut Output, values: Values, text: &[u8])
     requires { split 32 text.now ≡ values_of values }
 {
-    let out = terminal::print(out, b"  its list: ");
-    terminal::end_line(print_words(out, text))
+    out.print(b"  its list: ");
+    print_words(out, text);
 }
 
 // The values of each list.
-fn print_values(out: Output, values: Values) -> Output {
+fn print_values(out: &mut Output, values: Values) {
     match values {
         Values::Processing => print_list(out, Values::Processing, b"D P T"),
         Values::Version => print_list(out, Values::Version, b"2.4"),
@@ -51,9 +43,8 @@ fn print_values(out: Output, values: Values) -> Output {
 }
 
 // The list that a field is judged by, where it is judged by one.
-pub fn print_list_of(out: Output, kind: Kind) -> Output {
-    let Kind::OneOf(values) = kind else {
-        return out;
-    };
-    print_values(out, values)
+pub fn print_list_of(out: &mut Output, kind: Kind) {
+    if let Kind::OneOf(values) = kind {
+        print_values(out, values);
+    }
 }

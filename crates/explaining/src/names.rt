@@ -1,67 +1,31 @@
 // The names that HL7 v2.4 gives the fields that are judged, and the type of a message.
 use terminal::Output;
 
-// The names of fields of MSH.
-fn print_header_field(out: Output, field: usize) -> Output {
-    match field {
-        7 => terminal::print(out, b", date/time of message"),
-        9 => terminal::print(out, b", message type"),
-        10 => terminal::print(out, b", message control ID"),
-        11 => terminal::print(out, b", processing ID"),
-        12 => terminal::print(out, b", version ID"),
-        _ => out,
+// The name of a field of a segment behind a comma, and nothing for a field that is not judged.
+fn name_of(segment: &[u8], field: usize) -> &'static [u8] {
+    match (segment, field) {
+        (b"MSH", 7) => b", date/time of message",
+        (b"MSH", 9) => b", message type",
+        (b"MSH", 10) => b", message control ID",
+        (b"MSH", 11) => b", processing ID",
+        (b"MSH", 12) => b", version ID",
+        (b"PID", 3) => b", patient identifier list",
+        (b"PID", 5) => b", patient name",
+        (b"PID", 7) => b", date/time of birth",
+        (b"PID", 8) => b", administrative sex",
+        (b"OBX", 1) => b", set ID",
+        (b"OBX", 2) => b", value type",
+        (b"OBX", 3) => b", observation identifier",
+        (b"OBX", 5) => b", observation value",
+        (b"OBX", 11) => b", observation result status",
+        (b"OBX", 14) => b", date/time of the observation",
+        (b"OBR", 1) => b", set ID",
+        (b"MSA", 1) => b", acknowledgement code",
+        _ => b"",
     }
-}
-
-// The names of fields of PID.
-fn print_patient_field(out: Output, field: usize) -> Output {
-    match field {
-        3 => terminal::print(out, b", patient identifier list"),
-        5 => terminal::print(out, b", patient name"),
-        7 => terminal::print(out, b", date/time of birth"),
-        8 => terminal::print(out, b", administrative sex"),
-        _ => out,
-    }
-}
-
-// The names of fields of OBX.
-fn print_result_field(out: Output, field: usize) -> Output {
-    match field {
-        1 => terminal::print(out, b", set ID"),
-        2 => terminal::print(out, b", value type"),
-        3 => terminal::print(out, b", observation identifier"),
-        5 => terminal::print(out, b", observation value"),
-        11 => terminal::print(out, b", observation result status"),
-        14 => terminal::print(out, b", date/time of the observation"),
-        _ => out,
-    }
-}
-
-// The names of the first fields of OBR and of MSA.
-fn print_first_field(out: Output, name: &[u8]) -> Output {
-    if alphabet::same(name, b"OBR") {
-        return terminal::print(out, b", set ID");
-    }
-    if alphabet::same(name, b"MSA") {
-        return terminal::print(out, b", acknowledgement code");
-    }
-    out
 }
 
 // Prints the name of a field of a segment behind a comma, or nothing for a field that is not judged.
-pub fn print_field_name(out: Output, segment: &[u8], field: usize) -> Output {
-    let name = places::piece(segment, 0, 3);
-    if alphabet::same(name, b"MSH") {
-        return print_header_field(out, field);
-    }
-    if alphabet::same(name, b"PID") {
-        return print_patient_field(out, field);
-    }
-    if alphabet::same(name, b"OBX") {
-        return print_result_field(out, field);
-    }
-    if field == 1 {
-        return print_first_field(out, name);
-    }
-    out
+pub fn print_field_name(out: &mut Output, segment: &[u8], field: usize) {
+    out.print(name_of(places::piece(segment, 0, 3), field));
 }

@@ -12,35 +12,35 @@ fn type_part(message: &[u8], component: usize) -> &[u8] {
 }
 
 // Prints the type of a message: its two components, as people write them.
-pub fn print_type(out: Output, message: &[u8]) -> Output {
+pub fn print_type(out: &mut Output, message: &[u8]) {
     let event = type_part(message, 2);
-    let out = terminal::print(out, type_part(message, 1));
-    if event.len() == 0 {
-        return out;
+    out.print(type_part(message, 1));
+    if !event.is_empty() {
+        out.print(b"^");
+        out.print(event);
     }
-    let out = terminal::print(out, b"^");
-    terminal::print(out, event)
 }
 
 // Says which type a message says, or that it says none.
-fn print_said(out: Output, message: &[u8]) -> Output {
-    let out = terminal::print(out, b"  this says ");
-    if (type_part(message, 1).len() == 0) & (type_part(message, 2).len() == 0) {
-        return terminal::print(out, b"no type");
+fn print_said(out: &mut Output, message: &[u8]) {
+    out.print(b"  this says ");
+    if type_part(message, 1).is_empty() & type_part(message, 2).is_empty() {
+        out.print(b"no type");
+    } else {
+        print_type(out, message);
     }
-    print_type(out, message)
 }
 
 // Prints types, handed in as a text: its words have to be the types that structure has.
-fn print_types(out: Output, text: &[u8]) -> Output
+fn print_types(out: &mut Output, text: &[u8])
     requires { split 32 text.now ≡ known }
 {
-    let out = terminal::print(out, b"; known are ");
-    terminal::end_line(print_words(out, text))
+    out.print(b"; known are ");
+    print_words(out, text);
 }
 
 // Says which type a message says, and which are known.
-pub fn print_known(out: Output, message: &[u8]) -> Output {
-    let out = print_said(out, message);
-    print_types(out, b"ORU^R01 ACK ADT^A40 ADT^A01 ADT^A02 ADT^A12")
+pub fn print_known(out: &mut Output, message: &[u8]) {
+    print_said(out, message);
+    print_types(out, b"ORU^R01 ACK ADT^A40 ADT^A01 ADT^A02 ADT^A12");
 }
