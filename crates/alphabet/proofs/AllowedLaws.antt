@@ -1,39 +1,37 @@
 -- Laws of the two numbers by which a byte is told to be allowed, and of the least and the most of many. Assumes nothing.
 use mathlib.Core.Path.{◌≡◌, refl}
 use mathlib.Core.Bool.{Bool, true, false, ◌&&◌}
-use Prim.Native.Nat.{ℕ, ◌+◌, ◌-◌, ◌≤◌, ◌<◌}
+use Prim.Native.Nat.{ℕ, ◌+◌, ◌-◌, ◌≤◌, ◌<◌, min, max}
 use native.Mathlib.Omega.{arith}
 use native.Mathlib.Decide.{dec_lt}
 use lib.Dec.{eqb, leb}
-use borrow.Author.Tests.{eqb-true, le-leb, lt-leb, lt-ltb, le-ltb, leb-true}
+use borrow.Author.Tests.{eqb-true, le-leb, lt-leb, lt-ltb, le-ltb, leb-true, leb-false}
 use Rattle.alphabet.specs.Bytes.{carriage_return, allowed}
 use Rattle.alphabet.specs.Allowed.{height_of, turned_of}
 
-and_false : (x : Bool) → false ≡ (x && false)
-and_false true = refl
-and_false false = refl
-
 -- ---- the lesser and the greater of two
 
-pub least_of : (k a b : ℕ) → a ≤ b → leb k a ≡ (leb k b && leb k a)
-least_of k a b h = at (leb k a) refl
+pub least_of : (k a b : ℕ) → leb k (min a b) ≡ (leb k a && leb k b)
+least_of k a b = at (leb k a) (leb k b) refl refl
   where
-    at : (t : Bool) → leb k a ≡ t → leb k a ≡ (leb k b && leb k a)
-    at true e = let l = leb-true k a e in rw (e, le-leb k b (omega arith))
-    at false e = rw e (and_false (leb k b))
+    at : (s t : Bool) → leb k a ≡ s → leb k b ≡ t → leb k (min a b) ≡ (leb k a && leb k b)
+    at true true e f =
+        let l = leb-true k a e in
+        let m = leb-true k b f in
+        rw (e, f, le-leb k (min a b) (omega arith))
+    at true false e f = let m = leb-false k b f in rw (e, f, lt-leb k (min a b) (omega arith))
+    at false t e f = let l = leb-false k a e in rw (e, lt-leb k (min a b) (omega arith))
 
-pub most_of : (k a b : ℕ) → a ≤ b → leb b k ≡ (leb a k && leb b k)
-most_of k a b h = at (leb b k) refl
+pub most_of : (k a b : ℕ) → leb (max a b) k ≡ (leb a k && leb b k)
+most_of k a b = at (leb a k) (leb b k) refl refl
   where
-    at : (t : Bool) → leb b k ≡ t → leb b k ≡ (leb a k && leb b k)
-    at true e = let l = leb-true b k e in rw (e, le-leb a k (omega arith))
-    at false e = rw e (and_false (leb a k))
-
-pub and_turn : (x y : Bool) → (x && y) ≡ (y && x)
-and_turn true true = refl
-and_turn true false = refl
-and_turn false true = refl
-and_turn false false = refl
+    at : (s t : Bool) → leb a k ≡ s → leb b k ≡ t → leb (max a b) k ≡ (leb a k && leb b k)
+    at true true e f =
+        let l = leb-true a k e in
+        let m = leb-true b k f in
+        rw (e, f, le-leb (max a b) k (omega arith))
+    at true false e f = let m = leb-false b k f in rw (e, f, lt-leb (max a b) k (omega arith))
+    at false t e f = let l = leb-false a k e in rw (e, lt-leb (max a b) k (omega arith))
 
 pub and_pairs : (a b h t : Bool) → ((a && h) && (b && t)) ≡ ((a && b) && (h && t))
 and_pairs true true h t = refl

@@ -3,15 +3,18 @@
 use mathlib.Core.Path.{◌≡◌, refl, sym, ap, ◌∙◌}
 use mathlib.Core.List.{List, [], ◌∷◌}
 use mathlib.Core.Bool.{Bool, true, false, cond, ◌&&◌, ◌||◌}
-use Prim.Native.Nat.{ℕ, zero, suc, ◌+◌, ◌-◌, ◌≤◌, ◌<◌}
+use Prim.Native.Nat.{ℕ, zero, suc, ◌+◌, ◌-◌, ◌*◌, ◌/◌, ◌≤◌, ◌<◌}
 use native.Mathlib.Decide.{dec_lt}
+use native.Mathlib.Numerals.{add-one}
 use native.Mathlib.Omega.{arith}
 use lib.Dec.{leb, ltb, eqb}
 use lib.ListN.{length, get_or, take, drop, length-drop}
-use lib.Seq.{length-take-le}
+use lib.Seq.{drop-drop, length-take-le}
 use borrow.Author.Tests.{le-leb, lt-leb, lt-ltb, le-ltb, leb-true}
+use Rattle.std.specs.Simd.{first_chunks}
+use Rattle.std.proofs.Math.Nat.{suc-mul, zero-mul, div-mul-le_self}
 use Rattle.alphabet.specs.Lists.{first, among}
-use Rattle.alphabet.proofs.ListLaws.{first_passes, first_before, first_le}
+use Rattle.alphabet.proofs.ListLaws.{first_passes, first_before, first_le, first_block, rest_of}
 
 -- ---- the test of a byte, against each of the five
 
@@ -46,6 +49,44 @@ block_size s i h =
     let d = length-drop i s in
     let k = length-take-le (i + 32 - i) (drop i s) (omega arith) in
     omega arith
+
+-- the blocks of a slice, each by its place
+pub chunk_at : (n k : ℕ) (l : List ℕ) (i : ℕ) (d : List ℕ) → i < k → get_or (first_chunks n k l) i d ≡ take n (drop (i * n) l)
+chunk_at n zero l i d h = absurd (omega arith)
+chunk_at n (suc k) l zero d h = ap (λ (j : ℕ). take n (drop j l)) (sym (zero-mul n))
+chunk_at n (suc k) l (suc i) d h =
+    let e : n + i * n ≡ suc i * n = let m = suc-mul i n in omega arith in
+    chunk_at n k (drop n l) i d (omega arith) ∙ ap (take n) (drop-drop (i * n) n l ∙ ap (λ (j : ℕ). drop j l) e)
+
+-- so many blocks more are within the slice
+pub chunk_within : (n i : ℕ) (l : List ℕ) → i < length l / n → i * n + n ≤ length l
+chunk_within n i l h =
+    let m = suc-mul i n in
+    let k = mul_mono n (suc i) (length l / n) h in
+    let d = div-mul-le_self (length l) n in
+    omega arith
+  where
+    mul_mono : (n i j : ℕ) → i ≤ j → i * n ≤ j * n
+    mul_mono n zero j h = omega arith
+    mul_mono n (suc i) zero h = absurd (omega arith)
+    mul_mono n (suc i) (suc j) h =
+        let a = suc-mul i n in
+        let b = suc-mul j n in
+        let c = mul_mono n i j (omega arith) in
+        omega arith
+
+-- a block is of its length, and where it is clear it is passed over whole
+pub chunk_size : (n i p : ℕ) (l : List ℕ) → p ≡ i * n → i < length l / n → length (take n (drop p l)) ≡ n
+chunk_size n i p l at h =
+    let w = chunk_within n i l h in
+    let d = length-drop p l in
+    length-take-le n (drop p l) (omega arith)
+
+pub chunk_clear : (sought : ℕ → Bool) (n i p : ℕ) (l : List ℕ) → p ≡ i * n → i < length l / n → p ≤ first sought l → n ≤ first sought (take n (drop p l)) → p + n ≤ first sought l
+chunk_clear sought n i p l at h k m = let w = chunk_within n i l h in first_block sought l p n (omega arith) k m
+
+pub chunk_next : (n i p : ℕ) → p ≡ i * n → p + n ≡ (i + 1) * n
+chunk_next n i p at = ap (λ (j : ℕ). j + n) at ∙ sym (suc-mul i n) ∙ ap (λ (j : ℕ). j * n) (sym (add-one i))
 
 -- the first place below i, or the length where there is none
 abbrev pub least_of : (ℕ → Bool) → List ℕ → ℕ → ℕ
@@ -119,3 +160,18 @@ module _ (test : ℕ → Bool) where
           → cond t 0 (suc (first test (take k r))) < suc (length (take k r)) → cond t 0 (suc (first test r)) ≡ cond t 0 (suc (first test (take k r)))
       at true ih h = refl
       at false ih h = ap suc (ih (omega arith))
+
+  -- the search from a place on, in the part of a slice that the code lends
+  pub first_onward : (l : List ℕ) (i n : ℕ) → i ≤ first test l → n ≡ first test (take (length l - i) (drop i l)) → i + n ≡ first test l
+  first_onward l i n h e = ap (λ (k : ℕ). i + k) (e ∙ ap (first test) (rest_of l i)) ∙ sym (first_from l i h)
+
+-- such a place is within the slice
+pub onward_within : (l : List ℕ) (i n : ℕ) → i ≤ length l → n ≤ length (take (length l - i) (drop i l)) → i + n ≤ length l
+onward_within l i n h k =
+    let e = ap length (rest_of l i) in
+    let d = length-drop i l in
+    omega arith
+
+-- a test of a whole slice that says that no byte passes
+pub whole_clear : (test : ℕ → Bool) (l : List ℕ) (n : ℕ) → length l ≡ n → true ≡ leb (length l) (first test l) → n ≤ first test l
+whole_clear test l n e h = let k = leb-true (length l) (first test l) (sym h) in omega arith

@@ -11,7 +11,11 @@ use Rattle.alphabet.proofs.BoolLaws.{and_both, false_true, neither_or}
 use lib.ListN.{length, get_or, take, drop, drop_of_length-le, length-drop}
 use lib.Seq.{drop-cons, take_all, take-nil, take-take, drop-drop, get_or-take, get_or-drop}
 use native.Mathlib.Nat.{sub-zero, zero-sub}
-use borrow.Author.Tests.{eqb-true, eq-eqb, ne_eqb, leb-true, le-leb, lt-leb}
+use borrow.Author.Tests.{eqb-true, eq-eqb, leb-true, le-leb, lt-leb}
+use Rattle.std.proofs.Common.{Option, Some, None, nat_eq}
+use Rattle.std.specs.List.{AllWithin, HoldsAt}
+use Rattle.std.specs.Option.{MatchOption, unwrap_or}
+use lib.Pointwise.{pointwise}
 use Rattle.alphabet.specs.Lists.{first, find, either, same}
 
 -- what stands from i on, by its first element
@@ -118,6 +122,22 @@ module _ (test : ℕ → Bool) where
   pub first_next : (l : List ℕ) (i : ℕ) → i < length l → i ≤ first test l → test (get_or l i 0) ≡ false → i + 1 ≤ first test l
   first_next l i h k e = leb-true (i + 1) (first test l) (first_step l i h ∙ rw (le-leb i (first test l) k, e))
 
+  -- a place before which none passes is reached
+  pub first_reaches : (l : List ℕ) (i : ℕ) → i ≤ length l → ((j : ℕ) → j < i → test (get_or l j 0) ≡ false) → i ≤ first test l
+  first_reaches l i h w = at (dec_lt (first test l) i)
+    where
+      at : Dec (first test l < i) → i ≤ first test l
+      at (no c) = omega arith
+      at (yes c) = absurd (false_true (sym (w (first test l) c) ∙ first_passes l (omega arith)))
+
+  -- what the library's `position` answers of bytes, and the length where it answers none
+  pub first_position : (l : List ℕ) → ((i : ℕ) → get_or l i 0 < 256) → (r : Option ℕ)
+      → MatchOption r (AllWithin (λ x. x < 256 → test x ≡ false) l 0 (length l))
+      (λ i. (i < length l) × HoldsAt (λ x. x < 256 → test x ≡ true) l i × AllWithin (λ x. x < 256 → test x ≡ false) l 0 i) → unwrap_or r (length l) ≡ first test l
+  first_position l s None w = sym (first_none l (λ i h. w i 0 (omega arith) h (s i)))
+  first_position l s (Some i) w =
+      sym (first_reached l i w.0 (first_reaches l i (let h = w.0 in omega arith) (λ j h. w.2 j 0 (omega arith) h (s j))) (w.1 0 (s i)))
+
   -- a block without an element that passes is passed over whole
   pub first_block : (l : List ℕ) (i n : ℕ) → i + n ≤ length l → i ≤ first test l → n ≤ first test (take n (drop i l)) → i + n ≤ first test l
   first_block l i n h k w = at (dec_lt (first test l) (i + n))
@@ -154,6 +174,14 @@ find_own l i h = first_least (eqb (get_or l i 0)) l i h (eq-eqb (get_or l i 0) (
 
 -- ---- two lists that are the same
 
+-- as the library's `==` of slices says it
+pub same_pointwise : (k l : List ℕ) → pointwise nat_eq k l ≡ same k l
+unfolding same
+same_pointwise [] [] = refl
+same_pointwise [] (y ∷ l) = refl
+same_pointwise (x ∷ k) [] = refl
+same_pointwise (x ∷ k) (y ∷ l) = ap (λ (t : Bool). eqb x y && t) (same_pointwise k l)
+
 pub same_own : (l : List ℕ) → same l l ≡ true
 unfolding same
 same_own [] = refl
@@ -180,17 +208,3 @@ same_unlike (x ∷ k) (y ∷ l) h = at (eqb x y) (same_unlike k l (λ e. h (ap s
     at : (t : Bool) → same k l ≡ false → (t && same k l) ≡ false
     at true e = e
     at false e = refl
-
-module _ (k l : List ℕ) (i : ℕ) where
-  pub same_end : length k ≤ i → length k ≡ length l → same (drop i k) (drop i l) ≡ true
-  unfolding same
-  same_end h e = let g : length l ≤ i = omega arith in rw (drop_of_length-le k h, drop_of_length-le l g)
-
-  module _ (h : i < length k) (g : i < length l) where
-    pub same_next : get_or k i 0 ≡ get_or l i 0 → same (drop i k) (drop i l) ≡ same (drop (i + 1) k) (drop (i + 1) l)
-    unfolding same
-    same_next e = rw (drop_next k i h, drop_next l i g) (rw (eq-eqb (get_or k i 0) (get_or l i 0) e))
-
-    pub same_not : (get_or k i 0 ≡ get_or l i 0 → ⊥) → same (drop i k) (drop i l) ≡ false
-    unfolding same
-    same_not n = rw (drop_next k i h, drop_next l i g) (rw (ne_eqb (get_or k i 0) (get_or l i 0) n))

@@ -1,5 +1,5 @@
 -- What a byte may be. A byte is a number, and the words are those of document 01, 'Bytes and segments'.
-use Rattle.std.specs.Prelude.{ℕ, ◌+◌, ◌-◌, List, [], ◌∷◌, Bool, cond, not, ◌&&◌, ◌||◌, length, get_or, leb, ltb, eqb}
+use Rattle.std.specs.Prelude.{ℕ, ◌+◌, ◌-◌, List, [], ◌∷◌, Bool, cond, not, ◌&&◌, ◌||◌, Option, Some, None, length, get_or, leb, ltb, eqb}
 use Prim.Native.Char.{code}
 use Prim.Native.String.{String}
 use Prim.Native.String as S
@@ -49,6 +49,10 @@ abbrev pub hex_of : ℕ → ℕ
 hex_of b =
     cond (digit b) (b - byte_of "0")
     (cond (from_to (byte_of "A") (byte_of "F") b) (b - byte_of "A" + 10) (cond (from_to (byte_of "a") (byte_of "f") b) (b - byte_of "a" + 10) 16))
+
+-- the same, where it is one
+abbrev pub hex_said : ℕ → Option ℕ
+hex_said b = cond (ltb (hex_of b) 16) (Some (hex_of b)) None
 
 -- the capital hex digit of a number below 16
 abbrev pub hex_digit : ℕ → ℕ

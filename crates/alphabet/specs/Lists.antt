@@ -1,5 +1,5 @@
 -- Where a byte first stands in a list of bytes, and whether two lists are the same.
-use Rattle.std.specs.Prelude.{ℕ, zero, suc, List, [], ◌∷◌, Bool, true, false, cond, ◌&&◌, ◌||◌, ltb, eqb}
+use Rattle.std.specs.Prelude.{ℕ, zero, suc, ◌<◌, ◌≤◌, ◌≡◌, List, [], ◌∷◌, Bool, true, false, cond, ◌&&◌, ◌||◌, length, ltb, eqb}
 
 -- the place of the first byte that passes the test, or the length where none does
 unfoldable pub first : (ℕ → Bool) → List ℕ → ℕ
@@ -24,3 +24,13 @@ same [] [] = true
 same [] (y ∷ ys) = false
 same (x ∷ xs) [] = false
 same (x ∷ xs) (y ∷ ys) = eqb x y && same xs ys
+
+-- ---- for functions that take a test from the caller
+
+-- what it answers for a byte is whether the byte passes
+abbrev pub Tells : (ℕ → Bool → Type 0) → (ℕ → Bool) → Type 0
+Tells answers passes = (b : ℕ) (r : Bool) → b < 256 → answers b r → r ≡ passes b
+
+-- where it says so of n bytes, none of them is sought
+abbrev pub Clears : (List ℕ → Bool → Type 0) → ℕ → (ℕ → Bool) → Type 0
+Clears answers n sought = (block : List ℕ) → length block ≡ n → answers block true → n ≤ first sought block

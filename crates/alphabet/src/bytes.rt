@@ -1,17 +1,16 @@
 // What a byte may be, by document 01's 'Bytes and segments', where a byte first stands, and whether two texts are the
 // same. The tests are free of branches and nested as their definitions are, so that they need no proof.
 ghost use Rattle.std.specs.Prelude.{◌≡◌, ◌&&◌, ℕ, ◌%◌, ◌≤◌, leb, length, get_or};
-ghost use Rattle.alphabet.specs.Bytes.{printable, allowed, not_allowed, capital, digit, hex_of, hex_digit, is_null};
+ghost use Rattle.alphabet.specs.Bytes.{printable, allowed, not_allowed, capital, digit, hex_of, hex_said, hex_digit, is_null};
 ghost use Rattle.alphabet.specs.Allowed.{height_of, turned_of};
 ghost use Rattle.alphabet.specs.Lists.{first, find, same};
+
+use crate::first::{clear_blocks, first_where};
 
 // CR, which ends every segment.
 pub const CARRIAGE_RETURN: u8 = 13;
 
-// How many bytes are looked at together.
-pub const BLOCK: usize = 32;
-
-// And how many where a byte is sought that seldom stands there.
+// How many bytes are looked at together where a byte is sought that seldom stands there.
 const WIDE: usize = 128;
 
 // Printable ISO 8859/1: what may stand plainly in text.
@@ -56,6 +55,18 @@ pub fn hex_value(b: u8) -> u8
     16
 }
 
+// The number that a hex digit of either case says, or that the byte is none.
+pub fn hex_digit_value(b: u8) -> Option<u8>
+    ensures { result ≡ hex_said b }
+{
+    match b {
+        b'0'..=b'9' => Some(b - b'0'),
+        b'A'..=b'F' => Some(b - b'A' + 10),
+        b'a'..=b'f' => Some(b - b'a' + 10),
+        _ => None,
+    }
+}
+
 // The capital hex digit of n's last four bits.
 pub fn hex_digit(n: u8) -> u8
     ensures { result ≡ hex_digit (n % 16) }
@@ -68,16 +79,14 @@ pub fn hex_digit(n: u8) -> u8
 pub fn byte_at(bytes: &[u8], place: usize) -> u8
     ensures { result ≡ get_or bytes.now place 0 }
 {
-    if place < bytes.len() { bytes[place] } else { 0 }
+    bytes.get(place).copied().unwrap_or(0)
 }
 
 // Exactly two quotes, which is null.
 pub fn is_null(bytes: &[u8]) -> bool
     ensures { result ≡ is_null bytes.now }
 {
-    let first = byte_at(bytes, 0);
-    let second = byte_at(bytes, 1);
-    (bytes.len() == 2) & ((first == 34) & (second == 34))
+    bytes == b"\"\"".as_slice()
 }
 
 // Whether b is none of the bytes. Every byte is looked at and nothing branches, so that the compiler takes many at
@@ -86,10 +95,8 @@ pub fn is_without(bytes: &[u8], b: u8) -> bool
     ensures { result ≡ leb (length bytes.now) (find b bytes.now) }
 {
     let mut without = true;
-    let mut i = 0;
-    while i < bytes.len() {
-        without = without & (b != bytes[i]);
-        i += 1;
+    for byte in bytes {
+        without = without & (b != *byte);
     }
     without
 }
@@ -98,14 +105,7 @@ pub fn is_without(bytes: &[u8], b: u8) -> bool
 pub fn find(bytes: &[u8], b: u8) -> usize
     ensures { result ≡ find b bytes.now }
 {
-    let mut i = 0;
-    while i < bytes.len() {
-        if bytes[i] == b {
-            return i;
-        }
-        i += 1;
-    }
-    bytes.len()
+    first_where(bytes, |byte| b == byte)
 }
 
 // A number that is 32 or more for CR and for the bytes from 32 on, and for no others.
@@ -122,20 +122,6 @@ fn turned(b: u8) -> u8
     if b < 160 { b + 96 } else { b - 160 }
 }
 
-// The lesser of two, in a form of which the compiler makes one instruction for many.
-fn lesser(one: u8, other: u8) -> u8
-    ensures { (k : ℕ) → leb k result ≡ (leb k other && leb k one) }
-{
-    if one < other { one } else { other }
-}
-
-// The greater of two, likewise.
-fn greater(one: u8, other: u8) -> u8
-    ensures { (k : ℕ) → leb result k ≡ (leb other k && leb one k) }
-{
-    if one < other { other } else { one }
-}
-
 // Whether all bytes may stand in a message. As in `is_without`, nothing branches: the least height and the most that
 // is turned tell.
 fn is_all_allowed(bytes: &[u8]) -> bool
@@ -143,27 +129,11 @@ fn is_all_allowed(bytes: &[u8]) -> bool
 {
     let mut least: u8 = 255;
     let mut most: u8 = 0;
-    let mut i = 0;
-    while i < bytes.len() {
-        least = lesser(height(bytes[i]), least);
-        most = greater(turned(bytes[i]), most);
-        i += 1;
+    for byte in bytes {
+        least = least.min(height(*byte));
+        most = most.max(turned(*byte));
     }
     (32 <= least) & (most <= 222)
-}
-
-// A place at or before the first byte that may not stand in a message: blocks without one are passed over whole.
-fn before_not_allowed(bytes: &[u8]) -> usize
-    ensures { result ≤ first not_allowed bytes.now }
-{
-    let mut i = 0;
-    while WIDE <= bytes.len() - i {
-        if !is_all_allowed(&bytes[i..i + WIDE]) {
-            return i;
-        }
-        i += WIDE;
-    }
-    i
 }
 
 // The place of the first byte that may not stand in a message, or the length where there is none, which is the usual
@@ -174,29 +144,13 @@ pub fn first_not_allowed(bytes: &[u8]) -> usize
     if is_all_allowed(bytes) {
         return bytes.len();
     }
-    let mut i = before_not_allowed(bytes);
-    while i < bytes.len() {
-        if !is_allowed(bytes[i]) {
-            return i;
-        }
-        i += 1;
-    }
-    bytes.len()
+    let passed = clear_blocks::<WIDE, _>(bytes, |block| is_all_allowed(block));
+    passed + first_where(&bytes[passed..], |byte| !is_allowed(byte))
 }
 
 // Whether two texts are the same, byte for byte.
 pub fn same(one: &[u8], other: &[u8]) -> bool
     ensures { result ≡ same one.now other.now }
 {
-    if one.len() != other.len() {
-        return false;
-    }
-    let mut i = 0;
-    while i < one.len() {
-        if one[i] != other[i] {
-            return false;
-        }
-        i += 1;
-    }
-    true
+    one == other
 }

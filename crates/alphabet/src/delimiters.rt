@@ -29,16 +29,13 @@ pub fn first_wrong_delimiter(delimiters: Delimiters) -> usize
     ensures { result ≡ first_wrong_delimiter delimiters.bytes }
 {
     let bytes = delimiters.bytes;
-    let mut i = 0;
-    while i < 5 {
-        let b = bytes[i];
-        if !is_permitted(b) {
+    for (i, b) in bytes.iter().enumerate() {
+        if !is_permitted(*b) {
             return i;
         }
-        if find(&bytes, b) < i {
+        if find(&bytes, *b) < i {
             return i;
         }
-        i += 1;
     }
     5
 }

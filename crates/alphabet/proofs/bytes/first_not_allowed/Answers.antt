@@ -1,12 +1,14 @@
--- Rests on the laws of `first`: every byte before i is allowed, at each turn.
-use mathlib.Core.Path.{sym, ap, ◌∙◌}
-use mathlib.Core.Bool.{not}
+-- Rests on what the two searches ensure: every byte before the place passed is allowed, and the first that is not is
+-- looked for from there.
+use mathlib.Core.Path.{sym, ◌∙◌}
 use lib.ListN.{length}
 use native.Mathlib.Omega.{arith}
+use borrow.Author.Rules.{rules}
 use borrow.Author.Tests.{leb-true}
 use Rattle.alphabet.specs.Bytes.{not_allowed}
 use Rattle.alphabet.specs.Lists.{first}
-use Rattle.alphabet.proofs.ListLaws.{first_le, first_reached, first_next}
+use Rattle.alphabet.proofs.BlockLaws.{first_onward, onward_within, whole_clear}
+use Rattle.alphabet.proofs.ListLaws.{first_le}
 use Rattle.alphabet.proofs.bytes.first_not_allowed.Goals as goal
 
 pub returns-then-is_all_allowed : goal.returns-then-is_all_allowed
@@ -16,26 +18,13 @@ returns-then-is_all_allowed c =
     let k = first_le not_allowed s in
     omega arith
 
-pub loop-i-init : goal.loop-i-init
-loop-i-init c =
-    let s = c.args.bytes.now in
-    let k = first_le not_allowed s in
-    let b = c.before_not_allowed-i.ensures in
-    (omega arith, b)
-
-pub returns-then-not-is_allowed : goal.returns-then-not-is_allowed
-returns-then-not-is_allowed c =
-    let s = c.args.bytes.now in
-    sym (first_reached not_allowed s c.loop-i.i (omega arith) c.loop-i.invariant.1 (ap not (sym c.is_allowed.ensures) ∙ c.if-not-is_allowed.true-raw))
-
-pub loop-i-preserved : goal.loop-i-preserved
-loop-i-preserved c =
-    let s = c.args.bytes.now in
-    (omega arith, first_next not_allowed s c.loop-i.i (omega arith) c.loop-i.invariant.1 (ap not (sym c.is_allowed.ensures) ∙ c.if-not-is_allowed.false-raw))
+pub overflow_add-result : goal.overflow_add-result
+overflow_add-result c =
+    let w = onward_within c.args.bytes.now c.clear_blocks-passed.result c.first_where.result c.clear_blocks-passed.ensures.within c.first_where.ensures.within in
+    omega arith
 
 pub returns : goal.returns
 returns c =
-    let s = c.args.bytes.now in
-    let i = c.loop-i.invariant.1 in
-    let k = first_le not_allowed s in
-    omega arith
+    first_onward not_allowed c.args.bytes.now c.clear_blocks-passed.result c.first_where.result
+    (c.clear_blocks-passed.ensures.before not_allowed (λ block n q. whole_clear not_allowed block _ n (search rules)))
+    (c.first_where.ensures.found not_allowed (λ b r h q. search rules))

@@ -1,39 +1,27 @@
 -- Rests on `first_step`, and on the two numbers that tell of a byte: what was looked at is all allowed exactly where the
--- first byte that is not stands at or behind i.
-use Prim.Native.Nat.{ℕ}
-use mathlib.Core.Path.{◌≡◌, sym, ap, ap₂, ◌∙◌}
+-- first byte that is not stands at or behind the next place.
+use mathlib.Core.Path.{sym, ap, ap₂, ◌∙◌}
 use mathlib.Core.Bool.{◌&&◌}
+use Prim.Native.Nat.{ℕ}
 use lib.Dec.{leb}
-use lib.ListN.{length, get_or}
+use lib.ListN.{get_or}
 use native.Mathlib.Omega.{arith}
 use Rattle.alphabet.specs.Allowed.{height_of, turned_of}
 use Rattle.alphabet.specs.Bytes.{allowed, not_allowed}
-use Rattle.alphabet.specs.Lists.{first}
-use Rattle.alphabet.proofs.AllowedLaws.{and_pairs, told}
+use Rattle.alphabet.proofs.AllowedLaws.{least_of, most_of, and_pairs, told}
 use Rattle.alphabet.proofs.BoolLaws.{not_not}
-use Rattle.alphabet.proofs.ListLaws.{first_begin, first_step}
+use Rattle.alphabet.proofs.ListLaws.{first_step}
 use Rattle.alphabet.proofs.bytes.is_all_allowed.Goals as goal
 
-pub loop-i-preserved : goal.loop-i-preserved
-loop-i-preserved c =
+pub loop-byte-preserved : goal.loop-byte-preserved
+loop-byte-preserved c =
     let s = c.args.bytes.now in
-    let i = c.loop-i.i in
+    let i = c.loop-byte.byte-index in
     let b = get_or s i 0 in
-    let small = c.shared_slice_known-1.given i in
-    let both : (leb 32 c.lesser-least.result && leb c.greater-most.result 222) ≡ ((leb 32 c.loop-i.least && leb 32 (height_of b)) && (leb c.loop-i.most 222 && leb (turned_of b) 222)) =
-    ap₂ ◌&&◌ (c.lesser-least.ensures 32 ∙ ap (λ (n : ℕ). leb 32 c.loop-i.least && leb 32 n) c.height.ensures) (c.greater-most.ensures 222 ∙ ap (λ (n : ℕ). leb c.loop-i.most 222 && leb n 222) c.turned.ensures) in (
-      omega arith,
-      both
-          ∙ and_pairs (leb 32 c.loop-i.least) (leb c.loop-i.most 222) (leb 32 (height_of b)) (leb (turned_of b) 222)
-          ∙ ap₂ ◌&&◌ c.loop-i.invariant.1 (told b (omega arith) ∙ sym (not_not (allowed b)))
-          ∙ sym (first_step not_allowed s i (omega (arith, c.loop-i-test.true))),
-    )
-
-pub returns : goal.returns
-returns c =
-    let s = c.args.bytes.now in
-    let e : c.loop-i.i ≡ length s = omega arith in
-    c.loop-i.invariant.1 ∙ ap (λ (n : ℕ). leb n (first not_allowed s)) e
-
-pub loop-i-init : goal.loop-i-init
-loop-i-init c = (omega arith, first_begin not_allowed c.args.bytes.now)
+    let small = (c.type_inv.bytes i).fits in
+    let least = c.min-least.ensures ∙ ap (Prim.Native.Nat.min c.loop-byte.least) c.height.ensures in
+    let most = c.max-most.ensures ∙ ap (Prim.Native.Nat.max c.loop-byte.most) c.turned.ensures in
+    ap₂ ◌&&◌ (ap (leb 32) least ∙ least_of 32 c.loop-byte.least (height_of b)) (ap (λ (n : ℕ). leb n 222) most ∙ most_of 222 c.loop-byte.most (turned_of b))
+    ∙ and_pairs (leb 32 c.loop-byte.least) (leb c.loop-byte.most 222) (leb 32 (height_of b)) (leb (turned_of b) 222)
+    ∙ ap₂ ◌&&◌ c.loop-byte.invariant (told b (omega arith) ∙ sym (not_not (allowed b)))
+    ∙ sym (first_step not_allowed s i c.loop-byte-test.true)

@@ -8,7 +8,7 @@ use Rattle.alphabet.proofs.delimiters.first_wrong_delimiter.Goals as goal
 
 pub loop-i-init : goal.loop-i-init
 unfolding first_wrong_delimiter
-loop-i-init c = (omega arith, sym (zero-add _))
+loop-i-init c = sym (zero-add _)
 
 pub returns-then-not-is_permitted : goal.returns-then-not-is_permitted
 returns-then-not-is_permitted c =
@@ -22,7 +22,7 @@ loop-i-preserved c =
     let ds = c.args.delimiters.bytes in
     let p = sym c.is_permitted.ensures ∙ c.if-not-is_permitted.false in
     let z = wrong_past ds c.loop-i.i (omega arith) (right ds c.loop-i.i p (omega arith)) in
-    (omega arith, omega arith)
+    omega arith
 
 pub returns : goal.returns
 returns c =

@@ -1,4 +1,4 @@
-use Prim.Native.Nat.{◌≤◌, ◌+◌, ◌-◌}
+use Prim.Native.Nat.{◌+◌}
 use mathlib.Core.Path.{◌≡◌}
 use lib.ListN.{drop}
 use Rattle.alphabet.specs.Lists.{first}
@@ -6,7 +6,4 @@ use Rattle.alphabet.specs.Delimiters.{wrong, places, first_wrong_delimiter}
 use Rattle.alphabet.proofs.delimiters.first_wrong_delimiter.Given as goal
 
 abbrev pub invariant-loop-i : goal.invariant-loop-i
-invariant-loop-i l = (l.i ≤ 5) × (first_wrong_delimiter l.bytes ≡ l.i + first (wrong l.bytes) (drop l.i places))
-
-abbrev pub decreases-loop-i : goal.decreases-loop-i
-decreases-loop-i l = 5 - l.i
+invariant-loop-i l = first_wrong_delimiter l.b-items ≡ l.i + first (wrong l.b-items) (drop l.i places)

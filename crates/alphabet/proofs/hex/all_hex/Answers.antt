@@ -1,35 +1,18 @@
--- Rests on the laws of pairs of digits: `all_hex` of the rest, at each turn.
-use mathlib.Core.Path.{sym, ◌∙◌}
-use native.Mathlib.Omega.{arith}
-use Rattle.alphabet.proofs.HexLaws.{hex_end, hex_odd, hex_first, hex_second, hex_next}
+-- Rests on the laws of pairs of hex digits: an even number of bytes, and each of them a digit.
+use mathlib.Core.Path.{◌∙◌}
+use borrow.Author.Rules.{rules}
+use borrow.Author.Tests.{tests, eq-eqb, ne_eqb}
+use Rattle.std.specs.Char.{is_ascii_hexdigit}
+use Rattle.std.proofs.lemmas.Iterator.{YieldsList-from_slice}
+use Rattle.std.proofs.lemmas.Iterator.Search.{all_from_yields_List}
+use Rattle.alphabet.proofs.HexLaws.{hex_even_all, hex_uneven}
 use Rattle.alphabet.proofs.hex.all_hex.Goals as goal
 
-pub returns-then-digits-i-lt2 : goal.returns-then-digits-i-lt2
-returns-then-digits-i-lt2 c =
-    let s = c.args.digits.now in
-    let i = c.loop-i.i in
-    sym (c.loop-i.invariant.1 ∙ hex_odd s i (omega arith) (omega arith))
+pub returns-then-digits-eq0 : goal.returns-then-digits-eq0
+returns-then-digits-eq0 c =
+    let l = c.args.digits.now in
+    all_from_yields_List is_ascii_hexdigit _ _ c.all.result c.all.ensures.ran (YieldsList-from_slice l c.iter.ensures.rest) (λ x b q k. search (rules, tests))
+    ∙ hex_even_all l (eq-eqb _ _ c.if-digits-eq0.true)
 
-pub returns-then-hex_value-ge16 : goal.returns-then-hex_value-ge16
-returns-then-hex_value-ge16 c =
-    let s = c.args.digits.now in
-    let i = c.loop-i.i in
-    sym (c.loop-i.invariant.1 ∙ hex_first s i (omega arith) (omega arith))
-
-pub returns-then-hex_value-ge16-2 : goal.returns-then-hex_value-ge16-2
-returns-then-hex_value-ge16-2 c =
-    let s = c.args.digits.now in
-    let i = c.loop-i.i in
-    sym (c.loop-i.invariant.1 ∙ hex_second s i (omega arith) (omega arith) (omega arith))
-
-pub loop-i-preserved : goal.loop-i-preserved
-loop-i-preserved c =
-    let s = c.args.digits.now in
-    let i = c.loop-i.i in
-    (omega arith, c.loop-i.invariant.1 ∙ hex_next s i (omega arith) (omega arith) (omega arith))
-
-pub returns : goal.returns
-returns c =
-    let s = c.args.digits.now in
-    let i = c.loop-i.i in
-    sym (c.loop-i.invariant.1 ∙ hex_end s i (omega arith))
+pub returns-else-digits-eq0 : goal.returns-else-digits-eq0
+returns-else-digits-eq0 c = let e = ne_eqb _ _ c.if-digits-eq0.false in e ∙ hex_uneven c.args.digits.now e
