@@ -24,13 +24,11 @@ pub fn clear_blocks<const N: usize, F: Fn(&[u8]) -> bool>(bytes: &[u8], is_clear
     ensures within { result ≤ length bytes.now }
     ensures before { (sought : ℕ → Bool) → Clears (FnReturnsAt F.Fn is_clear) N sought → result ≤ first sought bytes.now }
 {
-    let (blocks, _) = bytes.as_chunks::<N>();
-    let mut passed = 0;
-    for block in blocks {
+    let (blocks, rest) = bytes.as_chunks::<N>();
+    for (i, block) in blocks.iter().enumerate() {
         if !is_clear(block) {
-            return passed;
+            return i * N;
         }
-        passed += N;
     }
-    passed
+    bytes.len() - rest.len()
 }

@@ -12,6 +12,7 @@ use lib.Dec.{eqb}
 use lib.ListN.{length, get_or, take, drop, length-drop}
 use lib.Seq.{length-take-le}
 use borrow.Author.Tests.{eqb-true, eqb-false, eq-eqb, ne_eqb}
+use Rattle.std.specs.Int.{w64, from_le_bytes}
 use Rattle.alphabet.specs.Lists.{first, find, either}
 use Rattle.alphabet.proofs.BoolLaws.{and_both}
 use Rattle.search.specs.Words.{word_of, unlike, other_than, marks}
@@ -135,14 +136,16 @@ eight_listed (a ∷ b ∷ c ∷ d ∷ e ∷ f ∷ g ∷ []) h = absurd (omega ar
 eight_listed (a ∷ b ∷ c ∷ d ∷ e ∷ f ∷ g ∷ k ∷ []) h = refl
 eight_listed (a ∷ b ∷ c ∷ d ∷ e ∷ f ∷ g ∷ k ∷ x ∷ r) h = absurd (omega arith)
 
-pub word_listed : (l : List ℕ) (n : ℕ) → length l ≡ 8
-    → n ≡ word_of (get_or l 0 0 ∷ get_or l 1 0 ∷ get_or l 2 0 ∷ get_or l 3 0 ∷ get_or l 4 0 ∷ get_or l 5 0 ∷ get_or l 6 0 ∷ get_or l 7 0 ∷ []) → n ≡ word_of l
-word_listed l n h e = e ∙ ap word_of (eight_listed l h)
-
-pub joined_is : (a b c d e f g h : ℕ)
-    → a + b * 256 + c * 65536 + d * 16777216 + (e + f * 256 + g * 65536 + h * 16777216) * 4294967296 ≡ word_of (a ∷ b ∷ c ∷ d ∷ e ∷ f ∷ g ∷ h ∷ [])
+eight_read : (a b c d e f g h : ℕ) → from_le_bytes w64 (a ∷ b ∷ c ∷ d ∷ e ∷ f ∷ g ∷ h ∷ []) ≡ word_of (a ∷ b ∷ c ∷ d ∷ e ∷ f ∷ g ∷ h ∷ [])
 unfolding word_of
-joined_is a b c d e f g h = omega arith
+eight_read a b c d e f g h = omega arith
+
+-- the library's number of eight bytes
+pub read_is : (l : List ℕ) → length l ≡ 8 → from_le_bytes w64 l ≡ word_of l
+read_is l h =
+    let e = eight_listed l h in
+    ap (from_le_bytes w64) (sym e)
+    ∙ eight_read (get_or l 0 0) (get_or l 1 0) (get_or l 2 0) (get_or l 3 0) (get_or l 4 0) (get_or l 5 0) (get_or l 6 0) (get_or l 7 0) ∙ ap word_of e
 
 -- the length of a word from i on, as the code lends it
 pub word_size : (s : List ℕ) (i : ℕ) → i + 8 ≤ length s → length (take (i + 8 - i) (drop i s)) ≡ 8

@@ -13,19 +13,15 @@ const NEAR: usize = 64;
 fn find_two_far(bytes: &[u8], one: u8, other: u8) -> usize
     ensures { result ≡ first (either one other) bytes.now }
 {
-    let i = before_either(bytes, one, other);
-    i + find_two_by_words(&bytes[i..], one, other)
+    let passed = before_either(bytes, one, other);
+    passed + find_two_by_words(&bytes[passed..], one, other)
 }
 
 // The place of the first byte that is one or the other, or the length where there is none.
 pub fn find_two(bytes: &[u8], one: u8, other: u8) -> usize
     ensures { result ≡ first (either one other) bytes.now }
 {
-    let near = if bytes.len() < NEAR {
-        bytes.len()
-    } else {
-        NEAR
-    };
+    let near = bytes.len().min(NEAR);
     let i = find_two_by_words(&bytes[..near], one, other);
     if i < near {
         return i;

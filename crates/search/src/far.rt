@@ -1,33 +1,19 @@
 // Where a byte first stands that stands far off, as the end of a segment does: blocks without it are passed over whole,
 // and behind these it is found by words.
-ghost use Rattle.std.specs.Prelude.{◌≡◌, ◌≤◌};
+ghost use Rattle.std.specs.Prelude.{◌≡◌};
 ghost use Rattle.alphabet.specs.Bytes.{carriage_return};
 ghost use Rattle.alphabet.specs.Lists.{find};
 
 use crate::words::find_by_words;
 use alphabet::{BLOCK, CARRIAGE_RETURN};
 
-// A place at or before the first b: blocks without it are passed over whole.
-fn before_first(bytes: &[u8], b: u8) -> usize
-    ensures { result ≤ find b bytes.now }
-{
-    let mut i = 0;
-    while BLOCK <= bytes.len() - i {
-        if !alphabet::is_without(&bytes[i..i + BLOCK], b) {
-            return i;
-        }
-        i += BLOCK;
-    }
-    i
-}
-
 // The place of the first b, or the length where there is none: faster than `alphabet::find` where it is far off, and
 // slower where it is near.
 fn find_far(bytes: &[u8], b: u8) -> usize
     ensures { result ≡ find b bytes.now }
 {
-    let i = before_first(bytes, b);
-    i + find_by_words(&bytes[i..], b)
+    let passed = alphabet::clear_blocks::<BLOCK, _>(bytes, |block| alphabet::is_without(block, b));
+    passed + find_by_words(&bytes[passed..], b)
 }
 
 // The place of the first CR, which ends a segment, or the length where there is none. It is the one caller of the search

@@ -27,7 +27,7 @@ const BLOCK_BYTE: u8 = 32;
 pub fn is_among(five: [u8; 5], b: u8) -> bool
     ensures { result ≡ among five b }
 {
-    (b == five[0]) | ((b == five[1]) | ((b == five[2]) | ((b == five[3]) | (b == five[4]))))
+    five.contains(&b)
 }
 
 // Whether the search ends at the byte b.
@@ -45,39 +45,20 @@ fn nearer(test: bool, place: u8, least: u8) -> u8
     ensures { result ≡ cond (test && ltb place least) place least }
 {
     let further = if test { 0 } else { BLOCK_BYTE };
-    let here = place + further;
-    if here < least { here } else { least }
+    (place + further).min(least)
 }
 
 // The place in a block at which the search ends, or the block's length. The places are counted in bytes, so that the
 // compiler takes many at once.
-fn first_of_block(block: &[u8], five: [u8; 5], unprintable: bool) -> usize
-    requires { length block.now ≡ 32 }
+fn first_of_block(block: &[u8; BLOCK], five: [u8; 5], unprintable: bool) -> usize
     ensures { result ≡ first (stops unprintable five) block.now }
 {
     let mut least = BLOCK_BYTE;
-    let mut i: u8 = 0;
-    while i < BLOCK_BYTE {
-        let place = i as usize;
-        let test = is_stop(five, unprintable, block[place]);
+    for i in 0..BLOCK_BYTE {
+        let test = is_stop(five, unprintable, block[i as usize]);
         least = nearer(test, i, least);
-        i += 1;
     }
     least as usize
-}
-
-// The same of fewer bytes than a block has, byte by byte.
-fn first_of_few(bytes: &[u8], five: [u8; 5], unprintable: bool) -> usize
-    ensures { result ≡ first (stops unprintable five) bytes.now }
-{
-    let mut i = 0;
-    while i < bytes.len() {
-        if is_stop(five, unprintable, bytes[i]) {
-            return i;
-        }
-        i += 1;
-    }
-    bytes.len()
 }
 
 // The place of the first byte that is one of the five or, where `unprintable` says so, is not printable; the length
@@ -85,16 +66,14 @@ fn first_of_few(bytes: &[u8], five: [u8; 5], unprintable: bool) -> usize
 pub fn first_stop(bytes: &[u8], five: [u8; 5], unprintable: bool) -> usize
     ensures { result ≡ first (stops unprintable five) bytes.now }
 {
-    let mut i = 0;
-    while BLOCK <= bytes.len() - i {
-        let n = first_of_block(&bytes[i..i + BLOCK], five, unprintable);
+    let (blocks, rest) = bytes.as_chunks::<BLOCK>();
+    for (i, block) in blocks.iter().enumerate() {
+        let n = first_of_block(block, five, unprintable);
         if n < BLOCK {
-            return i + n;
+            return i * BLOCK + n;
         }
-        i += BLOCK;
     }
-    let rest = first_of_few(&bytes[i..], five, unprintable);
-    i + rest
+    bytes.len() - rest.len() + alphabet::first_where(rest, |byte| is_stop(five, unprintable, byte))
 }
 
 // The place of the first byte that is one of the five, or the length where there is none. A byte may stand twice among

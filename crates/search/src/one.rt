@@ -1,7 +1,7 @@
 // Where one byte first stands, for a byte that stands some dozens of bytes off, as the next escape of a text does.
 // Blocks without it are passed over, and of the block that has it a half and a quarter, so that few bytes are left to be
 // looked at one by one.
-ghost use Rattle.std.specs.Prelude.{◌≡◌, ◌≤◌};
+ghost use Rattle.std.specs.Prelude.{◌≡◌, ◌≤◌, length};
 ghost use Rattle.alphabet.specs.Lists.{find};
 
 use alphabet::BLOCK;
@@ -22,30 +22,18 @@ fn past(bytes: &[u8], b: u8, i: usize, n: usize) -> usize
 
 // The place of the first b in a block or less, or the length where there is none.
 fn find_within(bytes: &[u8], b: u8) -> usize
-    ensures { result ≡ find b bytes.now }
+    ensures within { result ≤ length bytes.now }
+    ensures found { result ≡ find b bytes.now }
 {
     let half = past(bytes, b, 0, 16);
-    let mut i = past(bytes, b, half, 8);
-    while i < bytes.len() {
-        if bytes[i] == b {
-            return i;
-        }
-        i += 1;
-    }
-    bytes.len()
+    let start = past(bytes, b, half, 8);
+    start + alphabet::find(&bytes[start..], b)
 }
 
 // The place of the first b, or the length where there is none.
 pub fn find_one(bytes: &[u8], b: u8) -> usize
     ensures { result ≡ find b bytes.now }
 {
-    let mut i = 0;
-    while BLOCK <= bytes.len() - i {
-        let block = &bytes[i..i + BLOCK];
-        if !alphabet::is_without(block, b) {
-            return i + find_within(block, b);
-        }
-        i += BLOCK;
-    }
-    i + find_within(&bytes[i..], b)
+    let passed = alphabet::clear_blocks::<BLOCK, _>(bytes, |block| alphabet::is_without(block, b));
+    passed + find_within(&bytes[passed..], b)
 }

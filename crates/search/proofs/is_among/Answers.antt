@@ -1,12 +1,15 @@
--- Rests on `among_is`: the test against each of the five is the test of where the byte stands among them.
-use mathlib.Core.Path.{◌≡◌}
+-- Rests on `any_found`: what the library's `contains` says.
+use mathlib.Core.Path.{◌≡◌, ap, ◌∙◌}
+use Prim.Native.Nat.{ℕ}
+use lib.Dec.{ltb}
 use lib.ListN.{length}
 use borrow.Author.Rules.{rules}
-use Rattle.alphabet.proofs.BlockLaws.{among_is}
+use Rattle.alphabet.specs.Lists.{find}
+use Rattle.search.proofs.AmongLaws.{any_found}
 use Rattle.search.proofs.is_among.Goals as goal
 
 pub returns : goal.returns
 returns c =
     let a = c.args in
     let n : length a.five ≡ 5 = search rules in
-    among_is a.five a.b n
+    c.contains.ensures.value ∙ any_found a.five a.b ∙ ap (λ (k : ℕ). ltb (find a.b a.five) k) n

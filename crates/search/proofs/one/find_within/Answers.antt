@@ -1,34 +1,33 @@
--- Rests on the laws of `first`: no b stands before i, at each turn.
-use mathlib.Core.Path.{sym}
-use lib.Dec.{eqb}
+-- Rests on the laws of `first`: no b stands before the place passed, and it is looked for from there.
 use native.Mathlib.Omega.{arith}
-use borrow.Author.Tests.{eq-eqb, ne_eqb}
-use Rattle.alphabet.proofs.ListLaws.{first_le, first_reached, first_next}
+use lib.Dec.{eqb}
+use Rattle.alphabet.proofs.ListLaws.{first_le}
+use Rattle.alphabet.proofs.BlockLaws.{first_onward}
 use Rattle.search.proofs.one.find_within.Goals as goal
 
-pub loop-i-init : goal.loop-i-init
-loop-i-init c =
-    let a = c.args in
-    let k = first_le (eqb a.b) a.bytes.now in
-    let h = c.past-i.ensures in
-    (omega arith, h)
-
-pub returns-then-bytes-i : goal.returns-then-bytes-i
-returns-then-bytes-i c =
-    let a = c.args in
-    sym (first_reached (eqb a.b) a.bytes.now c.loop-i.i (omega arith) c.loop-i.invariant.1 (eq-eqb a.b _ (sym c.if-bytes-i.true)))
-
-pub loop-i-preserved : goal.loop-i-preserved
-loop-i-preserved c =
-    let a = c.args in
-    (omega arith, first_next (eqb a.b) a.bytes.now c.loop-i.i (omega arith) c.loop-i.invariant.1 (ne_eqb a.b _ (λ e. c.if-bytes-i.false (sym e))))
-
-pub returns : goal.returns
-returns c =
-    let a = c.args in
-    let i = c.loop-i.invariant.1 in
-    let k = first_le (eqb a.b) a.bytes.now in
+pub slice_bounds-find-count : goal.slice_bounds-find-count
+slice_bounds-find-count c =
+    let m = first_le (eqb c.args.b) c.args.bytes.now in
+    let h = c.past-start.ensures in
     omega arith
 
-pub past-i-requires : goal.past-i-requires
-past-i-requires c = c.past-half.ensures
+pub slice_bounds-find-start : goal.slice_bounds-find-start
+slice_bounds-find-start c =
+    let m = first_le (eqb c.args.b) c.args.bytes.now in
+    let h = c.past-start.ensures in
+    omega arith
+
+pub returns-clause-found : goal.returns-clause-found
+returns-clause-found c = first_onward (eqb c.args.b) c.args.bytes.now c.past-start.result c.find.result c.past-start.ensures c.find.ensures
+
+pub returns-clause-within : goal.returns-clause-within
+returns-clause-within c =
+    let m = first_le (eqb c.args.b) c.args.bytes.now in
+    let e = first_onward (eqb c.args.b) c.args.bytes.now c.past-start.result c.find.result c.past-start.ensures c.find.ensures in
+    omega arith
+
+pub overflow_add-result : goal.overflow_add-result
+overflow_add-result c =
+    let m = first_le (eqb c.args.b) c.args.bytes.now in
+    let e = first_onward (eqb c.args.b) c.args.bytes.now c.past-start.result c.find.result c.past-start.ensures c.find.ensures in
+    omega arith

@@ -1,11 +1,7 @@
-use Prim.Native.Nat.{◌≤◌, ◌<◌, ◌-◌}
-use lib.ListN.{length}
+use Prim.Native.Nat.{◌≤◌, ◌<◌}
 use Rattle.alphabet.specs.Lists.{first}
 use Rattle.search.specs.Two.{near}
 use Rattle.search.proofs.two.is_far.Given as goal
 
-abbrev pub invariant-loop-i : goal.invariant-loop-i
-invariant-loop-i l = (l.i ≤ length l.bytes) × (l.bound < l.least → l.i ≤ first (near l.mask l.bound) l.bytes)
-
-abbrev pub decreases-loop-i : goal.decreases-loop-i
-decreases-loop-i l = length l.bytes - l.i
+abbrev pub invariant-loop-byte : goal.invariant-loop-byte
+invariant-loop-byte l = l.bound < l.least → l.byte-index ≤ first (near l.mask l.bound) l.bytes
