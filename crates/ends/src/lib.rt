@@ -33,7 +33,7 @@ fn note_word(
         if count == ROOM {
             return count;
         }
-        ends[count] = place + (u64::trailing_zeros(found) / 8) as usize;
+        ends[count] = place + (found.trailing_zeros() / 8) as usize;
         count += 1;
         found = found & (found - 1);
     }
@@ -47,8 +47,7 @@ fn note_rest(bytes: &[u8], separator: u8, ends: &mut [usize], from: usize, start
     ensures { Reached separator bytes.now result (length bytes.now) ends.new }
 {
     let mut count = from;
-    let mut i = start;
-    while i < bytes.len() {
+    for i in start..bytes.len() {
         if bytes[i] == separator {
             if count == ROOM {
                 return count;
@@ -56,7 +55,6 @@ fn note_rest(bytes: &[u8], separator: u8, ends: &mut [usize], from: usize, start
             ends[count] = i;
             count += 1;
         }
-        i += 1;
     }
     count
 }
@@ -67,10 +65,11 @@ fn note_end(bytes: &[u8], separator: u8, most: usize, ends: &mut [usize], from: 
     requires reached { Reached separator bytes.now from (length bytes.now) ends.old }
     ensures { Noted separator bytes.now most ends.new }
 {
-    let mut k = from;
-    while (k <= most) & (k < ROOM) {
+    for k in from..ROOM {
+        if most < k {
+            return;
+        }
         ends[k] = bytes.len();
-        k += 1;
     }
 }
 
@@ -80,17 +79,16 @@ fn note_in(bytes: &[u8], separator: u8, most: usize, ends: &mut [usize])
     requires { length ends.old ≡ 16 }
     ensures { Noted separator bytes.now most ends.new }
 {
+    let (words, rest) = bytes.as_chunks::<WORD>();
     let mut count = 0;
-    let mut i = 0;
-    while WORD <= bytes.len() - i {
-        let marked = search::sought(&bytes[i..i + WORD], separator, separator);
-        count = note_word(bytes, separator, ends, count, i, marked);
-        i += WORD;
+    for (i, word) in words.iter().enumerate() {
+        let marked = search::sought(word, separator, separator);
+        count = note_word(bytes, separator, ends, count, i * WORD, marked);
         if most < count {
             return;
         }
     }
-    let noted = note_rest(bytes, separator, ends, count, i);
+    let noted = note_rest(bytes, separator, ends, count, bytes.len() - rest.len());
     note_end(bytes, separator, most, ends, noted);
 }
 

@@ -9,22 +9,7 @@ use alphabet::Delimiters;
 pub fn place_of(five: [u8; 5], b: u8) -> usize
     ensures { result ≡ find b five }
 {
-    if b == five[0] {
-        return 0;
-    }
-    if b == five[1] {
-        return 1;
-    }
-    if b == five[2] {
-        return 2;
-    }
-    if b == five[3] {
-        return 3;
-    }
-    if b == five[4] {
-        return 4;
-    }
-    5
+    alphabet::find(&five, b)
 }
 
 // How many bytes at the front of a text stand plainly.
