@@ -1,45 +1,20 @@
--- A search by blocks: the test of a byte against each of five, a search that looks at every byte of a block, and one that goes on from a place, for
--- any test. `First-Block` of ListLaws says which blocks are passed over. Assumes nothing.
+-- A search by blocks, for any test: one that looks at every byte of a block, the blocks of a slice, and one that goes on from a place. `first_block` of
+-- ListLaws says which blocks are passed over. Assumes nothing.
 use mathlib.Core.Path.{◌≡◌, refl, sym, ap, ◌∙◌}
 use mathlib.Core.List.{List, [], ◌∷◌}
-use mathlib.Core.Bool.{Bool, true, false, cond, ◌&&◌, ◌||◌}
+use mathlib.Core.Bool.{Bool, true, false, cond, ◌&&◌}
 use Prim.Native.Nat.{ℕ, zero, suc, ◌+◌, ◌-◌, ◌*◌, ◌/◌, ◌≤◌, ◌<◌}
 use native.Mathlib.Decide.{dec_lt}
 use native.Mathlib.Numerals.{add-one}
 use native.Mathlib.Omega.{arith}
-use lib.Dec.{leb, ltb, eqb}
+use lib.Dec.{leb, ltb}
 use lib.ListN.{length, get_or, take, drop, length-drop}
 use lib.Seq.{drop-drop, length-take-le}
 use borrow.Author.Tests.{le-leb, lt-leb, lt-ltb, le-ltb, leb-true}
 use Rattle.std.specs.Simd.{first_chunks}
 use Rattle.std.proofs.Math.Nat.{suc-mul, zero-mul, div-mul-le_self}
-use Rattle.alphabet.specs.Lists.{first, among}
+use Rattle.alphabet.specs.Lists.{first}
 use Rattle.alphabet.proofs.ListLaws.{first_passes, first_before, first_le, first_block, rest_of}
-
--- ---- the test of a byte, against each of the five
-
--- whether b is one of five
-one_of_lem : (b c d e f g : ℕ) → (eqb b c || (eqb b d || (eqb b e || (eqb b f || eqb b g)))) ≡ among (c ∷ d ∷ e ∷ f ∷ g ∷ []) b
-unfolding first
-one_of_lem b c d e f g = at (eqb b c) (eqb b d) (eqb b e) (eqb b f) (eqb b g)
-  where
-    at : (p q r s t : Bool) → (p || (q || (r || (s || t)))) ≡ ltb (cond p 0 (suc (cond q 0 (suc (cond r 0 (suc (cond s 0 (suc (cond t 0 1))))))))) 5
-    at true q r s t = refl
-    at false true r s t = refl
-    at false false true s t = refl
-    at false false false true t = refl
-    at false false false false true = refl
-    at false false false false false = refl
-
-pub among_is : (ds : List ℕ) (b : ℕ) → length ds ≡ 5
-    → (eqb b (get_or ds 0 0) || (eqb b (get_or ds 1 0) || (eqb b (get_or ds 2 0) || (eqb b (get_or ds 3 0) || eqb b (get_or ds 4 0))))) ≡ among ds b
-among_is [] b h = absurd (omega arith)
-among_is (c ∷ []) b h = absurd (omega arith)
-among_is (c ∷ d ∷ []) b h = absurd (omega arith)
-among_is (c ∷ d ∷ e ∷ []) b h = absurd (omega arith)
-among_is (c ∷ d ∷ e ∷ f ∷ []) b h = absurd (omega arith)
-among_is (c ∷ d ∷ e ∷ f ∷ g ∷ []) b h = one_of_lem b c d e f g
-among_is (c ∷ d ∷ e ∷ f ∷ g ∷ x ∷ r) b h = absurd (omega arith)
 
 -- ---- a search that looks at every byte of a block
 
@@ -124,17 +99,6 @@ module _ (test : ℕ → Bool) (l : List ℕ) where
       at : (t : Bool) → leb i (first test l) ≡ t → cond t (length l) (first test l) ≡ first test l
       at true e = let k = leb-true i (first test l) e in let m = first_le test l in omega arith
       at false e = refl
-
--- the lesser of two places, the second where a test holds
-module _ (p l : ℕ) where
-  pub nearer_here : (t : Bool) → t ≡ true → p < l → p ≡ cond (t && ltb p l) p l
-  nearer_here t e h = rw (e, lt-ltb p l h)
-
-  pub nearer_behind : (t : Bool) → t ≡ true → l ≤ p → l ≡ cond (t && ltb p l) p l
-  nearer_behind t e h = rw (e, le-ltb p l h)
-
-  pub nearer_none : (t : Bool) → t ≡ false → l ≡ cond (t && ltb p l) p l
-  nearer_none t e = rw e
 
 -- ---- a search that goes on from a place, and one that ends inside a block
 

@@ -3,14 +3,13 @@
 use mathlib.Core.Path.{◌≡◌, refl, sym, ap, ap₂, ◌∙◌}
 use mathlib.Core.List.{List, [], ◌∷◌}
 use mathlib.Core.Bool.{Bool, true, false, cond, ◌&&◌, ◌||◌}
-use Prim.Native.Nat.{ℕ, zero, suc, ◌+◌, ◌-◌, ◌*◌, ◌/◌, ◌%◌, ◌^◌, ◌≤◌, ◌<◌}
+use Prim.Native.Nat.{ℕ, zero, suc, ◌+◌, ◌*◌, ◌/◌, ◌%◌, ◌^◌, ◌<◌}
 use native.Mathlib.Nat.{suc-add, zero-add, mul-one}
 use native.Mathlib.Omega.{arith}
 use lib.Bits.{bit_and, bit_or, bit_xor, and_block, or_block, xor_block, and_lt, or_lt, xor_lt, xor_self, xor_add_and, and_le_l, and_le_r, shifted_half, shifted_even}
 use lib.Count.{count_trailing_zeros, under}
 use lib.Dec.{eqb}
-use lib.ListN.{length, get_or, take, drop, length-drop}
-use lib.Seq.{length-take-le}
+use lib.ListN.{length, get_or}
 use borrow.Author.Tests.{eqb-true, eqb-false, eq-eqb, ne_eqb}
 use Rattle.std.specs.Int.{w64, from_le_bytes}
 use Rattle.alphabet.specs.Lists.{first, find, either}
@@ -146,13 +145,6 @@ read_is l h =
     let e = eight_listed l h in
     ap (from_le_bytes w64) (sym e)
     ∙ eight_read (get_or l 0 0) (get_or l 1 0) (get_or l 2 0) (get_or l 3 0) (get_or l 4 0) (get_or l 5 0) (get_or l 6 0) (get_or l 7 0) ∙ ap word_of e
-
--- the length of a word from i on, as the code lends it
-pub word_size : (s : List ℕ) (i : ℕ) → i + 8 ≤ length s → length (take (i + 8 - i) (drop i s)) ≡ 8
-word_size s i h =
-    let d = length-drop i s in
-    let k = length-take-le (i + 8 - i) (drop i s) (omega arith) in
-    omega arith
 
 -- ---- the zeros below the lowest mark
 
