@@ -1,8 +1,8 @@
 -- The code of an acknowledgement, by document 01, 'The acknowledgement', and document 02, W2; and how it is written.
-use Rattle.std.specs.Prelude.{ℕ, List, Bool, cond, ◌&&◌, ◌||◌, eqb}
+use Rattle.std.specs.Prelude.{ℕ, List, Bool, cond, ◌&&◌, ◌||◌, eqb, Ok, Err}
 use Rattle.alphabet.specs.Answers.{number_of}
 use Rattle.alphabet.specs.Bytes.{ascii}
-use Rattle.fault.specs.declared.FaultRecord.{FaultRecord}
+use Rattle.fault.specs.Faults.{Judgement}
 use Rattle.acknowledgement_code.specs.declared.Code.{Code}
 use Rattle.acknowledgement_code.specs.declared.Code.TheVariants.{Accept, Error, Reject}
 
@@ -11,13 +11,11 @@ use Rattle.acknowledgement_code.specs.declared.Code.TheVariants.{Accept, Error, 
 abbrev pub rejects : ℕ → ℕ → ℕ → Bool
 rejects number place field = eqb number 20 || (eqb number 33 && (eqb place 0 && (eqb field 11 || eqb field 12)))
 
--- "Code AA exactly when reading, structure and fields all accept": number 0 is the verdict that all accept. "the rest
--- stays AE". "Where several faults stand, the first in the judges' order decides the letter.": the record is the
--- verdict's, and tells that one
-unfoldable pub code_of : FaultRecord → Code
-code_of r =
-    cond (eqb (number_of r.kind) 0) Accept
-    (cond (rejects (number_of r.kind) r.place r.field) Reject Error)
+-- "Code AA exactly when reading, structure and fields all accept". "the rest stays AE". "Where several faults stand, the
+-- first in the judges' order decides the letter.": the record is the verdict's, and tells that one
+unfoldable pub code_of : Judgement → Code
+code_of (Ok _) = Accept
+code_of (Err r) = cond (rejects (number_of r.kind) r.place r.field) Reject Error
 
 -- how a code is written
 abbrev pub letters_of : Code → List ℕ
