@@ -1,129 +1,113 @@
 // A number or a time asked of an element of a message. An element that is not present gives its state alone: an empty
 // box is not a zero.
-ghost use Rattle.std.specs.Prelude.{◌≡◌};
-ghost use Rattle.value.specs.Asked.{number_from, time_from, nm_found, si_found, dt_found, tm_found, ts_found};
-ghost use Rattle.element.specs.States.{is_present};
+ghost use Rattle.std.specs.Prelude.{◌≡◌, MatchResult, Err};
+ghost use Rattle.std.specs.Fn.{FnReturnsAt};
+ghost use Rattle.element.specs.Finding.{found, bytes_at};
+ghost use Rattle.value.specs.Asked.{value_at, fault_of, nm_found, si_found, dt_found, tm_found, ts_found};
+ghost use Rattle.value.specs.declared.asked.NoValue.TheVariants.{NotFound, NotSaid};
 
-use alphabet::Answer;
+use alphabet::{Fault, Refusal};
 use calendar::Time;
-use element::{Address, Found, State};
-use numbers::ReadNumber;
-use times::ReadTime;
+use element::{Address, State};
+use numbers::Number;
 
-// The answer: a refusal, or the element's state and, where it is present, its number.
+// An element's state and, where it is present, its value.
 #[derive(Clone, Copy)]
-pub struct NumberFound {
-    pub answer: Answer,
-    pub state: State,
-    pub value: i64,
-    pub decimals: usize,
+pub enum Value<T> {
+    Absent,
+    Empty,
+    Null,
+    Present(T),
 }
 
-// The answer: a refusal, or the element's state and, where it is present, its time.
+// Why there is no answer: the element was not found, or it is present and its bytes say no such value.
 #[derive(Clone, Copy)]
-pub struct TimeFound {
-    pub answer: Answer,
-    pub state: State,
-    pub time: Time,
+pub enum NoValue {
+    NotFound(Fault),
+    NotSaid(Refusal),
 }
 
-fn number_from(found: Found, read: ReadNumber) -> NumberFound
-    ensures { result ≡ number_from found read }
+impl From<Fault> for NoValue {
+    ghost from_gives = { λ fault r. r ≡ NotFound fault };
+
+    fn from(fault: Fault) -> NoValue {
+        NoValue::NotFound(fault)
+    }
+}
+
+impl From<Refusal> for NoValue {
+    ghost from_gives = { λ kind r. r ≡ NotSaid kind };
+
+    fn from(kind: Refusal) -> NoValue {
+        NoValue::NotSaid(kind)
+    }
+}
+
+// A refusal with its place. What an element's bytes do not say is refused at 0.
+impl From<NoValue> for Fault {
+    ghost from_gives = { λ why r. r ≡ fault_of why };
+
+    fn from(why: NoValue) -> Fault {
+        match why {
+            NoValue::NotFound(fault) => fault,
+            NoValue::NotSaid(kind) => Fault { kind, place: 0 },
+        }
+    }
+}
+
+// The answer of an element in that state, whose bytes say what was read of them.
+fn value_at<T: Copy>(state: State, read: Result<T, Refusal>) -> Result<Value<T>, NoValue>
+    ensures { result ≡ value_at state read }
 {
-    let element = found.element;
-    let state = element.state;
-    if element::is_present(state) {
-        let kind = read.kind;
-        let answer = Answer {
-            kind: kind,
-            place: 0,
-            length: 0,
-        };
-        return NumberFound {
-            answer: answer,
-            state: state,
-            value: read.value,
-            decimals: read.decimals,
-        };
-    }
-    let answer = found.answer;
-    NumberFound {
-        answer: answer,
-        state: state,
-        value: 0,
-        decimals: 0,
+    match state {
+        State::Absent => Ok(Value::Absent),
+        State::Empty => Ok(Value::Empty),
+        State::Null => Ok(Value::Null),
+        State::Present => Ok(Value::Present(read?)),
     }
 }
 
-fn time_from(found: Found, read: ReadTime) -> TimeFound
-    ensures { result ≡ time_from found read }
+// The answer of the element at an address, whose bytes are read as `read` reads them.
+fn asked<T: Copy, F: Fn(&[u8]) -> Result<T, Refusal>>(
+    message: &[u8],
+    address: Address,
+    read: F,
+) -> Result<Value<T>, NoValue>
+    requires { F.IsAlwaysCallable read }
+    ensures { MatchResult (found message.now address)
+        (λ e. (said : _) × FnReturnsAt F.Fn read (bytes_at message.now e) said × (result ≡ value_at e.state said))
+        (λ fault. result ≡ Err (NotFound fault)) }
 {
-    let element = found.element;
-    let state = element.state;
-    if element::is_present(state) {
-        let kind = read.kind;
-        let time = read.time;
-        let answer = Answer {
-            kind: kind,
-            place: 0,
-            length: 0,
-        };
-        return TimeFound {
-            answer: answer,
-            state: state,
-            time: time,
-        };
-    }
-    let answer = found.answer;
-    let none = calendar::no_time();
-    TimeFound {
-        answer: answer,
-        state: state,
-        time: none,
-    }
+    let element = element::find(message, address)?;
+    value_at(element.state, read(element::bytes_at(message, element)))
 }
 
-pub fn nm(message: &[u8], address: Address) -> NumberFound
+pub fn nm(message: &[u8], address: Address) -> Result<Value<Number>, NoValue>
     ensures { result ≡ nm_found message.now address }
 {
-    let found = element::find(message, address);
-    let element = found.element;
-    let read = numbers::read_nm(element::bytes_at(message, element));
-    number_from(found, read)
+    asked(message, address, |bytes| numbers::read_nm(bytes))
 }
 
-pub fn si(message: &[u8], address: Address) -> NumberFound
+pub fn si(message: &[u8], address: Address) -> Result<Value<Number>, NoValue>
     ensures { result ≡ si_found message.now address }
 {
-    let found = element::find(message, address);
-    let element = found.element;
-    let read = numbers::read_si(element::bytes_at(message, element));
-    number_from(found, read)
+    asked(message, address, |bytes| numbers::read_si(bytes))
 }
 
-pub fn dt(message: &[u8], address: Address) -> TimeFound
+pub fn dt(message: &[u8], address: Address) -> Result<Value<Time>, NoValue>
     ensures { result ≡ dt_found message.now address }
 {
-    let found = element::find(message, address);
-    let element = found.element;
-    let read = times::read_dt(element::bytes_at(message, element));
-    time_from(found, read)
+    asked(message, address, |bytes| times::read_dt(bytes))
 }
 
-pub fn tm(message: &[u8], address: Address) -> TimeFound
+pub fn tm(message: &[u8], address: Address) -> Result<Value<Time>, NoValue>
     ensures { result ≡ tm_found message.now address }
 {
-    let found = element::find(message, address);
-    let element = found.element;
-    let read = times::read_tm(element::bytes_at(message, element));
-    time_from(found, read)
+    asked(message, address, |bytes| times::read_tm(bytes))
 }
 
-pub fn ts(message: &[u8], address: Address) -> TimeFound
+pub fn ts(message: &[u8], address: Address) -> Result<Value<Time>, NoValue>
     ensures { result ≡ ts_found message.now address }
 {
-    let found = element::find(message, address);
-    let element = found.element;
-    let read = times::read_ts(element::bytes_at(message, element));
-    time_from(found, read)
+    asked(message, address, |bytes| times::read_ts(bytes))
 }

@@ -3,4 +3,4 @@
 
 mod asked;
 
-pub use asked::{NumberFound, TimeFound, dt, nm, si, tm, ts};
+pub use asked::{NoValue, Value, dt, nm, si, tm, ts};
