@@ -10,13 +10,12 @@ use lib.Dec.{leb, eqb}
 use lib.ListN.{length, get_or, drop}
 use lib.Seq.{get_or-take}
 use borrow.Author.Tests.{eqb-true, eqb-false, eq-eqb, leb-true, not-true}
+use Rattle.std.specs.Prelude.{None, Some, Option}
+use Rattle.alphabet.specs.Answers.{passes, checked}
 use Rattle.alphabet.specs.Bytes.{carriage_return}
 use Rattle.alphabet.specs.Lists.{find}
 use Rattle.alphabet.specs.Parts.{split, standing}
-use Rattle.alphabet.specs.declared.answers.Check.TheVariants.{Passes}
-use Rattle.alphabet.specs.declared.answers.Refusal.TheVariants.{None}
 use Rattle.alphabet.specs.declared.parts.Part.{Part}
-use Rattle.alphabet.specs.declared.parts.Part.TheVariants.{At, Absent}
 use Rattle.alphabet.proofs.BoolLaws.{false_true, and_both}
 use Rattle.alphabet.proofs.PartLaws.{split_nothing}
 use Rattle.reading.specs.Message.{Message}
@@ -37,7 +36,7 @@ use Rattle.laws.proofs.Asking.{answered_exactly}
 use Rattle.laws.proofs.FoundLaws.{shown_is, absent_nowhere}
 use Rattle.field_table.specs.Table.{rows, no_row}
 use Rattle.rules.specs.Rules.{judged_part, is_said, said_field, row_check}
-use Rattle.fields.specs.Judging.{Fault, Sound, name_at, repetitions_in, repetitions_of, said_in, located, first_fault, row_fault, segment_faults, judging}
+use Rattle.fields.specs.Judging.{Fault, sound, name_at, repetitions_in, repetitions_of, said_in, located, first_fault, row_fault, segment_faults, judging}
 use Rattle.field_table.specs.declared.Row.{Row}
 
 -- no bytes have no part with bytes
@@ -46,12 +45,12 @@ nothing_in sep zero = ap (λ (ps : List (List ℕ)). get_or ps 0 []) (split_noth
 nothing_in sep (suc i) = ap (λ (ps : List (List ℕ)). get_or ps (suc i) []) (split_nothing sep)
 
 -- the repetitions of a part hold those of its bytes
-repetition_bytes : (m : List ℕ) (part : Part) (r : ℕ) → get_or (repetitions_in m part) r [] ≡ get_or (split (get_or (delimiters_of m) 2 0) (part_bytes m part)) r []
-repetition_bytes m Absent r = sym (nothing_in (get_or (delimiters_of m) 2 0) r)
-repetition_bytes m (At s e) r = refl
+repetition_bytes : (m : List ℕ) (part : Option Part) (r : ℕ) → get_or (repetitions_in m part) r [] ≡ get_or (split (get_or (delimiters_of m) 2 0) (part_bytes m part)) r []
+repetition_bytes m None r = sym (nothing_in (get_or (delimiters_of m) 2 0) r)
+repetition_bytes m (Some part) r = refl
 
 module _ (m : List ℕ) (segment field r : ℕ) (four : 4 ≤ length m) (free : fixed segment field ≡ false) where
-  abbrev field_part : Part
+  abbrev field_part : Option Part
   field_part = field_in m segment (segment_at m segment) field
 
   within_field_part : Within m field_part
@@ -90,27 +89,27 @@ module _ (m : List ℕ) (segment field r : ℕ) (four : 4 ≤ length m) (free : 
   unfolding below
   whole_element = split_element 0
 
-  pub counted_element : (r < length (repetitions_of m segment (segment_at m segment) field)) ↔ (element_at m (address segment field (suc r) 0 0) ≡ Absent → ⊥)
+  pub counted_element : (r < length (repetitions_of m segment (segment_at m segment) field)) ↔ (element_at m (address segment field (suc r) 0 0) ≡ None → ⊥)
   counted_element =
       let e = ap length split_field in
       ((λ h q. past field_part (sym whole_element ∙ q) (omega arith)), (λ n. let t = there field_part (λ q. n (whole_element ∙ q)) in omega arith))
     where
-      past : (p : Part) → part_in (get_or (delimiters_of m) 2 0) m p r ≡ Absent → r < length (repetitions_in m p) → ⊥
-      past Absent q h = omega arith
-      past (At s e) q h = let n = absent_means (get_or (delimiters_of m) 2 0) m s e r q in omega arith
+      past : (p : Option Part) → part_in (get_or (delimiters_of m) 2 0) m p r ≡ None → r < length (repetitions_in m p) → ⊥
+      past None q h = omega arith
+      past (Some part) q h = let n = absent_means (get_or (delimiters_of m) 2 0) m part.start part.end r q in omega arith
 
-      there : (p : Part) → (part_in (get_or (delimiters_of m) 2 0) m p r ≡ Absent → ⊥) → r < length (repetitions_in m p)
-      there Absent n = absurd (n (in_absent (get_or (delimiters_of m) 2 0) m Absent r refl))
-      there (At s e) n = at (dec_lt r (length (split (get_or (delimiters_of m) 2 0) (between m s e))))
+      there : (p : Option Part) → (part_in (get_or (delimiters_of m) 2 0) m p r ≡ None → ⊥) → r < length (repetitions_in m p)
+      there None n = absurd (n (in_absent (get_or (delimiters_of m) 2 0) m None r refl))
+      there (Some part) n = at (dec_lt r (length (split (get_or (delimiters_of m) 2 0) (between m part.start part.end))))
         where
-          at : Dec (r < length (split (get_or (delimiters_of m) 2 0) (between m s e))) → r < length (split (get_or (delimiters_of m) 2 0) (between m s e))
+          at : Dec (r < length (split (get_or (delimiters_of m) 2 0) (between m part.start part.end))) → r < length (split (get_or (delimiters_of m) 2 0) (between m part.start part.end))
           at (yes h) = h
-          at (no h) = absurd (n (means_absent (get_or (delimiters_of m) 2 0) m s e r (omega (arith, h))))
+          at (no h) = absurd (n (means_absent (get_or (delimiters_of m) 2 0) m part.start part.end r (omega (arith, h))))
 
 -- ---- the segments as the judge walks along them
 
 walked : (rs : List Row) (m : List ℕ) (number start : ℕ) (ss : List (List ℕ)) (k : ℕ) → k < length ss
-    → get_or (segment_faults rs m number start ss) k Sound ≡ first_fault (map (row_fault m (number + k) (standing start ss k) (get_or ss k [])) rs)
+    → get_or (segment_faults rs m number start ss) k sound ≡ first_fault (map (row_fault m (number + k) (standing start ss k) (get_or ss k [])) rs)
 unfolding segment_faults standing
 walked rs m number start [] k h = absurd (omega arith)
 walked rs m number start (s ∷ ss) zero h = let e : number + 0 ≡ number = omega arith in rw e
@@ -124,7 +123,7 @@ one_each rs m number start [] = refl
 one_each rs m number start (s ∷ ss) = ap suc (one_each rs m (number + 1) (start + length s + 1) ss)
 
 -- a list by the numbers of its places
-numbered : (l : List Fault) (f : ℕ → Fault) (k : ℕ) → ((i : ℕ) → i < length l → get_or l i Sound ≡ f (k + i)) → l ≡ map f (numbers_from k (length l))
+numbered : (l : List Fault) (f : ℕ → Fault) (k : ℕ) → ((i : ℕ) → i < length l → get_or l i sound ≡ f (k + i)) → l ≡ map f (numbers_from k (length l))
 unfolding numbers_from
 numbered [] f k h = refl
 numbered (x ∷ l) f k h =
@@ -143,7 +142,7 @@ in_order m =
     ap first_fault (numbered (segment_faults rows m 0 0 (segments m)) (λ (k : ℕ). first_fault (map (finds m k) rows)) 0 each)
     ∙ ap (λ (n : ℕ). first_fault (map (λ (k : ℕ). first_fault (map (finds m k) rows)) (numbers_from 0 n))) (one_each rows m 0 0 (segments m))
   where
-    each : (i : ℕ) → i < length (segment_faults rows m 0 0 (segments m)) → get_or (segment_faults rows m 0 0 (segments m)) i Sound ≡ first_fault (map (finds m (0 + i)) rows)
+    each : (i : ℕ) → i < length (segment_faults rows m 0 0 (segments m)) → get_or (segment_faults rows m 0 0 (segments m)) i sound ≡ first_fault (map (finds m (0 + i)) rows)
     each i h =
         let n = one_each rows m 0 0 (segments m) in
         let e : 0 + i ≡ i = omega arith in
@@ -215,7 +214,7 @@ module _ (m : List ℕ) (g : Message m) where
       let k = and_both (eqb (get_or m 1 0) 83) (eqb (get_or m 2 0) 72) h.1 in
       rw (early_byte 0 77 (omega arith) h.0, early_byte 1 83 (omega arith) k.0, early_byte 2 72 (omega arith) k.1)
 
-module _ (m : List ℕ) (done : reading m ≡ Passes) (k : ℕ) (there : k < length (segments m)) where
+module _ (m : List ℕ) (done : reading m ≡ passes) (k : ℕ) (there : k < length (segments m)) where
   abbrev bytes : List ℕ
   bytes = get_or (segments m) k []
 
@@ -223,7 +222,7 @@ module _ (m : List ℕ) (done : reading m ≡ Passes) (k : ℕ) (there : k < len
   four = let n = (accepted m done).opened.nine_bytes in omega arith
 
   -- a question for one of its elements is answered
-  answers : (f r c : ℕ) → Asks (address k f r c 0) → (found m (address k f r c 0)).answer.kind ≡ None
+  answers : (f r c : ℕ) → Asks (address k f r c 0) → checked (found m (address k f r c 0)) ≡ passes
   answers f r c asks = (answered_exactly m (address k f r c 0)).1 (done, asks, there)
 
   asks_component : (f r : ℕ) → 1 ≤ f → (component : ℕ) → Asks (address k f (suc r) component 0)
@@ -277,10 +276,10 @@ module _ (m : List ℕ) (done : reading m ≡ Passes) (k : ℕ) (there : k < len
       repetitions : List (List ℕ)
       repetitions = repetitions_of m k (segment_at m k) row.field
 
-      at : (t : Bool) → eqb row.segment (name_at k bytes) ≡ t → RowFinds m k row (cond t (located k row.field (row_check (delimiters_of m) row said repetitions)) Sound)
+      at : (t : Bool) → eqb row.segment (name_at k bytes) ≡ t → RowFinds m k row (cond t (located k row.field (row_check (delimiters_of m) row said repetitions)) sound)
       at true e = let q = eqb-true row.segment (name_at k bytes) e in own said repetitions (q ∙ own_name) (held row fit q)
       at false e = other (λ q. eqb-false row.segment (name_at k bytes) e (q ∙ sym own_name))
 
-pub judged_by_elements : (m : List ℕ) → reading m ≡ Passes → JudgedByElements m
+pub judged_by_elements : (m : List ℕ) → reading m ≡ passes → JudgedByElements m
 judged_by_elements m done =
     record { finds = finds m; by_elements = λ k i there h. row_finds m done k there (get_or rows i no_row) (row_fits i h); in_order = in_order m }

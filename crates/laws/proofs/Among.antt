@@ -6,11 +6,10 @@ use Prim.Native.Nat.{ℕ, zero, suc, ◌+◌, ◌≤◌, ◌<◌}
 use native.Mathlib.Omega.{arith}
 use lib.Dec.{eqb}
 use borrow.Author.Tests.{eqb-true, eqb-false}
-use Rattle.alphabet.specs.Answers.{number_of, fails_if, or_else, answered}
+use Rattle.std.specs.Prelude.{Ok, Err}
+use Rattle.alphabet.specs.Answers.{number_of, fails_if, or_else, Check, number_given}
 use Rattle.alphabet.proofs.BoolLaws.{or_neither}
 use Rattle.alphabet.specs.declared.answers.Refusal.{Refusal}
-use Rattle.alphabet.specs.declared.answers.Check.{Check}
-use Rattle.alphabet.specs.declared.answers.Check.TheVariants.{Passes, Fails}
 use Rattle.structure.specs.Listed.{In, here, there}
 
 -- the list is looked through by computing
@@ -56,11 +55,11 @@ in_range_lem k (suc count) n h l =
 
 -- what a check answers
 abbrev pub Given : List ℕ → Check → Type 0
-Given l c = In (number_of (answered c).kind) l
+Given l c = In (number_given c) l
 
 pub given_or : (l : List ℕ) (c d : Check) → Given l c → Given l d → Given l (or_else c d)
-given_or l Passes d p q = q
-given_or l (Fails kind place) d p q = p
+given_or l (Ok _) d p q = q
+given_or l (Err fault) d p q = p
 
 pub given_if : (l : List ℕ) (t : Bool) (kind : Refusal) (place : ℕ) → In 0 l → In (number_of kind) l → Given l (fails_if t kind place)
 given_if l true kind place z n = n

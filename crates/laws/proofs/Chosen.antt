@@ -5,23 +5,24 @@ use mathlib.Core.Bool.{Bool, true, false, cond}
 use mathlib.Core.List.{List}
 use Prim.Native.Nat.{ℕ}
 use native.Mathlib.Omega.{arith}
+use Rattle.alphabet.proofs.CheckLaws.{fails_same}
+use Rattle.std.specs.Prelude.{Err}
+use Rattle.alphabet.specs.Answers.{passes, fails}
 use Rattle.alphabet.specs.Bytes.{ascii}
 use Rattle.alphabet.specs.Lists.{same}
-use Rattle.alphabet.specs.declared.answers.Check.TheVariants.{Passes, Fails}
 use Rattle.alphabet.specs.declared.answers.Refusal.{Refusal}
 use Rattle.alphabet.specs.declared.answers.Refusal.TheVariants.{NoStructure}
 use Rattle.alphabet.proofs.BoolLaws.{and_both}
 use Rattle.alphabet.proofs.ListLaws.{same_is, same_own}
 use Rattle.reading.specs.Reading.{reading}
-use Rattle.element.specs.Finding.{found, nowhere, lookup_check, raw_bytes}
+use Rattle.element.specs.Finding.{found, lookup_check, raw_bytes}
 use Rattle.element.specs.declared.address.Address.{Address}
 use Rattle.structure.specs.Shapes.{Shape}
 use Rattle.laws.specs.Types.{ListedAs, oru, acknowledged, merged, admitted, transferred, cancelled}
 use Rattle.element.specs.Addresses.{type_address}
 use Rattle.structure.specs.Structures.{ListedStructure, Choice, chosen, unlisted, meets, choose, structure_for, Lists, built_in, observation_report, acknowledgement, merge, admission, transfer, cancel}
-use Rattle.fault.specs.Faults.{plain}
+use Rattle.fault.specs.Faults.{plain, Judgement}
 use Rattle.structure.specs.Judged.{AnswersBy, unread, read, no_structure, by}
-use Rattle.fault.specs.declared.FaultRecord.{FaultRecord}
 
 -- ---- the type chooses the structure that is listed for it, and no other
 
@@ -68,21 +69,20 @@ listed_exactly m s = (
 
 -- ---- a message that was not read, and one whose type is not listed
 
-pub find_unread : (m : List ℕ) (a : Address) (kind : Refusal) (place : ℕ) → reading m ≡ Fails kind place
-    → found m a ≡ record { answer = record { kind = kind; place = place; length = 0 }; element = nowhere }
+pub find_unread : (m : List ℕ) (a : Address) (kind : Refusal) (place : ℕ) → reading m ≡ fails kind place
+    → found m a ≡ fails kind place
 unfolding found lookup_check
 find_unread m a kind place e = rw e
 
-pub judge_unread : (book : List ListedStructure) (m : List ℕ) (kind : Refusal) (place : ℕ) {j : FaultRecord} → reading m ≡ Fails kind place → AnswersBy book m j
-    → j ≡ plain kind place
+pub judge_unread : (book : List ListedStructure) (m : List ℕ) (kind : Refusal) (place : ℕ) {j : Judgement} → reading m ≡ fails kind place → AnswersBy book m j
+    → j ≡ Err (plain kind place)
 judge_unread book m kind place e (unread k p f) =
-    let g : Fails k p ≡ Fails kind place = sym f ∙ e in
-    let a : k ≡ kind = cc in
-    let b : p ≡ place = cc in
-    ap (λ (x : Refusal). plain x p) a ∙ ap (plain kind) b
+    let g : fails k p ≡ fails kind place = sym f ∙ e in
+    let same = fails_same g in
+    ap (λ (x : Refusal). Err (plain x p)) same.0 ∙ ap (λ (n : ℕ). Err (plain kind n)) same.1
 judge_unread book m kind place e (read f s) = absurd (let z : ◌≡◌ {A = ℕ} 0 1 = cc in omega arith)
 
-pub judge_unlisted : (book : List ListedStructure) (m : List ℕ) {j : FaultRecord} → reading m ≡ Passes → structure_for book m ≡ unlisted → AnswersBy book m j → j ≡ plain NoStructure 0
+pub judge_unlisted : (book : List ListedStructure) (m : List ℕ) {j : Judgement} → reading m ≡ passes → structure_for book m ≡ unlisted → AnswersBy book m j → j ≡ Err (plain NoStructure 0)
 judge_unlisted book m e g (unread k p f) = absurd (let z : ◌≡◌ {A = ℕ} 0 1 = cc in omega arith)
 judge_unlisted book m e g (read f (no_structure h)) = refl
 judge_unlisted book m e g (read f (by s h k)) = absurd (let z : ◌≡◌ {A = ℕ} 0 1 = cc in omega arith)

@@ -2,18 +2,18 @@
 -- judge's own walk along a message is not its meaning.
 use Rattle.std.specs.Prelude.{◌≡◌, true, List, [], ◌∷◌, map, ◌↔◌, ℕ, zero, suc, ◌+◌, ◌<◌, length, get_or}
 use Rattle.reading.specs.Segments.{delimiters_of, segments, name_of}
-use Rattle.element.specs.Finding.{found, element_bytes}
+use Rattle.element.specs.Finding.{found, element_bytes, element_found}
 use Rattle.element.specs.declared.states.State.TheVariants.{Absent}
 use Rattle.field_table.specs.Table.{rows, no_row}
 use Rattle.rules.specs.Rules.{judged_part, is_said, said_field, row_check}
 use Rattle.field_table.specs.declared.Row.{Row}
-use Rattle.fields.specs.Judging.{Fault, Sound, located, first_fault, judging}
+use Rattle.fields.specs.Judging.{Fault, sound, located, first_fault, judging}
 use Rattle.laws.specs.Elements.{address}
 
 -- a row against the segment of number k: `repetitions` are those of its field there, and `said` is what says its type
 pub record HeldAgainst (m : List ℕ) (k : ℕ) (row : Row) (said : List ℕ) (repetitions : List (List ℕ)) : Type 0 where
   -- "the repetitions in turn": as many as are not absent
-  pub counted : (r : ℕ) → (r < length repetitions) ↔ ((found m (address k row.field (suc r) 0 0)).element.state ≡ Absent → ⊥)
+  pub counted : (r : ℕ) → (r < length repetitions) ↔ ((element_found (found m (address k row.field (suc r) 0 0))).state ≡ Absent → ⊥)
   -- "part judged": of repetition r + 1 it is the element at its address, byte for byte
   pub judged : (r component : ℕ) → judged_part (delimiters_of m) component (get_or repetitions r []) ≡ element_bytes m (address k row.field (suc r) component 0)
   -- "as OBX-2 says": repetition 1 of that field, whole
@@ -23,7 +23,7 @@ pub record HeldAgainst (m : List ℕ) (k : ℕ) (row : Row) (said : List ℕ) (r
 pub data RowFinds (m : List ℕ) (k : ℕ) (row : Row) : Fault → Type 0 where
   own : (said : List ℕ) (repetitions : List (List ℕ)) → row.segment ≡ name_of (get_or (segments m) k []) → HeldAgainst m k row said repetitions
       → RowFinds m k row (located k row.field (row_check (delimiters_of m) row said repetitions))
-  other : (row.segment ≡ name_of (get_or (segments m) k []) → ⊥) → RowFinds m k row Sound
+  other : (row.segment ≡ name_of (get_or (segments m) k []) → ⊥) → RowFinds m k row sound
 
 -- n numbers, one after another
 unfoldable pub numbers_from : ℕ → ℕ → List ℕ
