@@ -73,10 +73,9 @@ fn note_end(bytes: &[u8], separator: u8, most: usize, ends: &mut [usize], from: 
     }
 }
 
-// The same as `note`, of room that is lent as a slice: of that the length is known. The walk ends as soon as there are
+// Notes where the parts up to the one of the index `most` end, as far as there is room. The walk ends as soon as there are
 // ends enough.
-fn note_in(bytes: &[u8], separator: u8, most: usize, ends: &mut [usize])
-    requires { length ends.old ≡ 16 }
+pub fn note(bytes: &[u8], separator: u8, most: usize, ends: &mut [usize; ROOM])
     ensures { Noted separator bytes.now most ends.new }
 {
     let (words, rest) = bytes.as_chunks::<WORD>();
@@ -90,13 +89,6 @@ fn note_in(bytes: &[u8], separator: u8, most: usize, ends: &mut [usize])
     }
     let noted = note_rest(bytes, separator, ends, count, bytes.len() - rest.len());
     note_end(bytes, separator, most, ends, noted);
-}
-
-// Notes where the parts up to the one of the index `most` end, as far as there is room.
-pub fn note(bytes: &[u8], separator: u8, most: usize, ends: &mut [usize; 16])
-    ensures { Noted separator bytes.now most ends.new }
-{
-    note_in(bytes, separator, most, ends);
 }
 
 // The part of an index, not 0, by its noted end and that of the one before it; no bytes where there is none.

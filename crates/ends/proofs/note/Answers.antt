@@ -4,16 +4,17 @@ use mathlib.Core.Path.{◌≡◌, refl, subst, ap, ◌∙◌}
 use mathlib.Core.List.{List}
 use lib.ListN.{length, get_or, take, drop}
 use native.Mathlib.Omega.{arith}
+use borrow.Author.Rules.{rules}
 use Rattle.alphabet.specs.Lists.{either}
 use Rattle.alphabet.proofs.BlockLaws.{chunk_at, chunk_within, chunk_next}
 use Rattle.search.specs.Words.{marks}
 use Rattle.ends.specs.Ends.{Reached}
 use Rattle.ends.proofs.NoteLaws.{reached_none, front_noted}
-use Rattle.ends.proofs.note_in.Goals.{After-sought-marked, After-note_rest-noted}
-use Rattle.ends.proofs.note_in.Goals as goal
+use Rattle.ends.proofs.note.Goals.{After-sought-marked, After-note_rest-noted}
+use Rattle.ends.proofs.note.Goals as goal
 
 pub loop-i-init : goal.loop-i-init
-loop-i-init c = (c.requires, reached_none c.args.separator c.args.bytes.now c.args.ends.now)
+loop-i-init c = (search rules, reached_none c.args.separator c.args.bytes.now c.args.ends.now)
 
 here : (c : After-sought-marked) → c.loop-i.i < length c.args.bytes.now / 8
 here c = subst (λ (k : ℕ). c.loop-i.i < k) c.as_chunks.ensures.front_len c.loop-i-test.true
@@ -65,7 +66,7 @@ note_rest-noted-requires-clause-reached c =
     subst (λ (x : ℕ). Reached a.separator a.bytes.now c.loop-i.count x c.loop-i.ends) e c.loop-i.invariant.1
 
 pub note_end-requires-clause-ends_len : goal.note_end-requires-clause-ends_len
-note_end-requires-clause-ends_len c = c.ends-2-1.given ∙ c.loop-i.invariant.0
+note_end-requires-clause-ends_len c = search rules
 
 pub note_end-requires-clause-reached : goal.note_end-requires-clause-reached
 note_end-requires-clause-reached c = c.note_rest-noted.ensures
