@@ -14,16 +14,17 @@ pub const ROOM: usize = 16;
 const WORD: usize = 8;
 
 // Notes the ends in the word that begins at `place` and has these marks, and returns how many are noted by then. Each
-// turn takes the lowest mark away. The bytes and the separator stand in the contract alone, here and in `note_end`.
+// turn takes the lowest mark away. The bytes and the separator stand in the contract alone, here and in `note_end`. The
+// ends are an array with a count, for no heap is used.
 fn note_word(
     bytes: &[u8],
     separator: u8,
-    ends: &mut [usize],
+    ends: &mut [usize; ROOM],
     from: usize,
     place: usize,
     marked: u64,
 ) -> usize
-    requires ends_len { (length ends.old ≡ 16) × Marked separator bytes.now place marked }
+    requires marks { Marked separator bytes.now place marked }
     requires reached { Reached separator bytes.now from place ends.old }
     ensures { Reached separator bytes.now result (place + 8) ends.new }
 {
@@ -41,8 +42,14 @@ fn note_word(
 }
 
 // Notes the ends from `start` on, byte by byte, where there are fewer bytes than make a word.
-fn note_rest(bytes: &[u8], separator: u8, ends: &mut [usize], from: usize, start: usize) -> usize
-    requires ends_len { (length ends.old ≡ 16) × (start ≤ length bytes.now) }
+fn note_rest(
+    bytes: &[u8],
+    separator: u8,
+    ends: &mut [usize; ROOM],
+    from: usize,
+    start: usize,
+) -> usize
+    requires within { start ≤ length bytes.now }
     requires reached { Reached separator bytes.now from start ends.old }
     ensures { Reached separator bytes.now result (length bytes.now) ends.new }
 {
@@ -60,9 +67,8 @@ fn note_rest(bytes: &[u8], separator: u8, ends: &mut [usize], from: usize, start
 }
 
 // Notes that the parts that are left up to `most` end where the bytes do: the last part, and those that are absent.
-fn note_end(bytes: &[u8], separator: u8, most: usize, ends: &mut [usize], from: usize)
-    requires ends_len { length ends.old ≡ 16 }
-    requires reached { Reached separator bytes.now from (length bytes.now) ends.old }
+fn note_end(bytes: &[u8], separator: u8, most: usize, ends: &mut [usize; ROOM], from: usize)
+    requires { Reached separator bytes.now from (length bytes.now) ends.old }
     ensures { Noted separator bytes.now most ends.new }
 {
     for k in from..ROOM {

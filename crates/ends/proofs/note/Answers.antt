@@ -30,10 +30,10 @@ marked c =
     c.sought-marked.ensures
     ∙ ap (marks (either a.separator a.separator)) (ap (λ (bs : List (List ℕ)). get_or bs i _) c.as_chunks.ensures.front ∙ chunk_at 8 (length l / 8) l i _ (here c))
 
-pub note_word-count-requires-clause-ends_len : goal.note_word-count-requires-clause-ends_len
-note_word-count-requires-clause-ends_len c =
-    let at = (goal.at.note_word-count-requires-clause-ends_len c).After-sought-marked in
-    (c.loop-i.invariant.0, (chunk_within 8 c.loop-i.i c.args.bytes.now (here at), marked at))
+pub note_word-count-requires-clause-marks : goal.note_word-count-requires-clause-marks
+note_word-count-requires-clause-marks c =
+    let at = (goal.at.note_word-count-requires-clause-marks c).After-sought-marked in
+    (chunk_within 8 c.loop-i.i c.args.bytes.now (here at), marked at)
 
 pub note_word-count-requires-clause-reached : goal.note_word-count-requires-clause-reached
 note_word-count-requires-clause-reached c = c.loop-i.invariant.1
@@ -52,8 +52,8 @@ loop-i-preserved c =
     let n = c.loop-i.invariant.0 in
     (omega arith, subst (λ (k : ℕ). Reached a.separator a.bytes.now q.result k q.new.ends) (chunk_next 8 c.loop-i.i (c.loop-i.i * 8) refl) q.ensures)
 
-pub note_rest-noted-requires-clause-ends_len : goal.note_rest-noted-requires-clause-ends_len
-note_rest-noted-requires-clause-ends_len c = (c.loop-i.invariant.0, omega arith)
+pub note_rest-noted-requires-clause-within : goal.note_rest-noted-requires-clause-within
+note_rest-noted-requires-clause-within c = omega arith
 
 pub note_rest-noted-requires-clause-reached : goal.note_rest-noted-requires-clause-reached
 note_rest-noted-requires-clause-reached c =
@@ -65,11 +65,8 @@ note_rest-noted-requires-clause-reached c =
     let e : c.loop-i.i * 8 ≡ length a.bytes.now - length c.as_chunks.result.1.now = omega arith in
     subst (λ (x : ℕ). Reached a.separator a.bytes.now c.loop-i.count x c.loop-i.ends) e c.loop-i.invariant.1
 
-pub note_end-requires-clause-ends_len : goal.note_end-requires-clause-ends_len
-note_end-requires-clause-ends_len c = search rules
-
-pub note_end-requires-clause-reached : goal.note_end-requires-clause-reached
-note_end-requires-clause-reached c = c.note_rest-noted.ensures
+pub note_end-requires : goal.note_end-requires
+note_end-requires c = c.note_rest-noted.ensures
 
 pub returns : goal.returns
 returns c = c.note_end.ensures

@@ -2,11 +2,12 @@
 use mathlib.Core.Path.{◌∙◌}
 use lib.ListN.{length, length-set}
 use native.Mathlib.Omega.{arith}
+use borrow.Author.Rules.{rules}
 use Rattle.ends.proofs.NoteLaws.{reached_end, front_noted}
 use Rattle.ends.proofs.note_end.Goals as goal
 
 pub loop-k-init : goal.loop-k-init
-loop-k-init c = (c.requires.ends_len, c.requires.reached)
+loop-k-init c = (search rules, c.requires)
 
 pub loop-k-preserved : goal.loop-k-preserved
 loop-k-preserved c =

@@ -3,6 +3,7 @@ use Prim.Native.Nat.{ℕ, ◌+◌, ◌<◌}
 use mathlib.Core.Path.{◌≡◌, subst, ◌∙◌}
 use lib.ListN.{length, set, length-set}
 use native.Mathlib.Omega.{arith}
+use borrow.Author.Rules.{rules}
 use Rattle.ends.specs.Ends.{Reached}
 use Rattle.ends.proofs.NoteLaws.{reached_here, reached_past, reached_full, reached_as}
 use Rattle.ends.proofs.note_rest.Goals.{Else-count-eq-ROOM, else-bytes-i, then-bytes-i+else-count-eq-ROOM}
@@ -43,13 +44,13 @@ returns c =
     subst (λ (x : ℕ). Reached a.separator a.bytes.now c.loop-i.count x c.loop-i.ends) e c.loop-i.invariant.2
 
 pub loop-i-init : goal.loop-i-init
-loop-i-init c = (c.requires.ends_len.1, c.requires.ends_len.0, c.requires.reached)
+loop-i-init c = (c.requires.within, search rules, c.requires.reached)
 
 pub offset_bounds-ends-count : goal.offset_bounds-ends-count
 offset_bounds-ends-count c = let h = room c in omega arith
 
 pub bounds-ends-count : goal.bounds-ends-count
-bounds-ends-count c = let h = room c in omega arith
+bounds-ends-count c = let h = room (goal.at.bounds-ends-count c).Else-count-eq-ROOM in omega arith
 
 pub overflow_add-count : goal.overflow_add-count
-overflow_add-count c = let h = room c in omega arith
+overflow_add-count c = let h = room (goal.at.overflow_add-count c).Else-count-eq-ROOM in omega arith
