@@ -7,11 +7,12 @@ use native.Mathlib.Omega.{arith}
 use lib.Dec.{ltb, eqb}
 use lib.ListN.{length, get_or, take, drop, length-drop}
 use borrow.Author.Tests.{ltb-true, ne_eqb}
+use Rattle.std.specs.Prelude.{Ok}
+use Rattle.alphabet.specs.Answers.{Refusable, passes, fails}
 use Rattle.alphabet.specs.Lists.{first, find}
 use Rattle.alphabet.specs.Bytes.{from_to, printable}
 use Rattle.alphabet.specs.declared.answers.Refusal.{Refusal}
 use Rattle.alphabet.specs.declared.answers.Refusal.TheVariants.{NotAllowed, Separator, UnknownEscape, UnclosedEscape}
-use Rattle.alphabet.specs.declared.answers.Check.{Check}
 use Rattle.alphabet.proofs.BoolLaws.{from_to_lem}
 use Rattle.alphabet.proofs.ListLaws.{rest_of, first_past}
 use Rattle.escaping.specs.Escape.{escape_of}
@@ -24,10 +25,9 @@ use Rattle.text.proofs.RunLaws.{scan_from}
 use Rattle.format_commands.specs.Commands.{command}
 use Rattle.format_commands.specs.Items.{Item, byte, order, saying, formatted_text, items_of}
 use Rattle.formatting.specs.declared.page.Page.{Page}
-use Rattle.formatting.specs.declared.laying.Laying.{Laying}
 use Rattle.formatting.specs.Pages.{Sound, Follows}
 use Rattle.formatting.specs.Runs.{clear}
-use Rattle.formatting.specs.Laying.{wrong_plain, found_of, failing, Lays}
+use Rattle.formatting.specs.Laying.{wrong_plain, found_of, Lays}
 use Rattle.formatting.proofs.PageLaws.{follows_none, follows_then}
 
 -- what a sequence stands for
@@ -84,14 +84,13 @@ module _ {ds s : List ℕ} {i : ℕ} {c : Page} {t d : List ℕ} {c' : Page} {t'
       }
 
   -- a fault
-  walk_fault : (k : Refusal) (r : Laying) → scan formatted_text ds i 0 (drop i s) ≡ fault k i → r ≡ failing k i c' → Lays ds s c t d r t' d'
+  walk_fault : (k : Refusal) (r : Refusable Page) → scan formatted_text ds i 0 (drop i s) ≡ fault k i → r ≡ fails k i → Lays ds s c t d r t' d'
   unfolding found_of
-  walk_fault k r e q =
-      subst (λ (x : Laying). Lays ds s c t d x t' d') (sym q) (record { items = w.items; reads = w.reads ∙ ap (before w.items) e; follows = w.follows })
+  walk_fault k r e q = record { items = w.items; page = c'; found = fails k i; gives = q; reads = w.reads ∙ ap (before w.items) e; follows = w.follows }
 
-  pub walk_end : length s ≤ i → Lays ds s c t d (record { found = Check.Passes; page = c' }) t' d'
+  pub walk_end : length s ≤ i → Lays ds s c t d (Ok c') t' d'
   unfolding found_of
-  walk_end h = record { items = w.items; reads = w.reads ∙ ap (before w.items) (scan_end formatted_text ds s i h); follows = w.follows }
+  walk_end h = record { items = w.items; page = c'; found = passes; gives = refl; reads = w.reads ∙ ap (before w.items) (scan_end formatted_text ds s i h); follows = w.follows }
 
   module _ (within : i < length s) where
     -- ---- at an escape delimiter
@@ -106,7 +105,7 @@ module _ {ds s : List ℕ} {i : ℕ} {c : Page} {t d : List ℕ} {c' : Page} {t'
       found : find (escape_of ds) (drop (i + 1) s) ≡ n
       found = ap (find (escape_of ds)) (sym whole) ∙ sym e
 
-      pub walk_unclosed : (r : Laying) → length rest ≤ n → r ≡ failing UnclosedEscape i c' → Lays ds s c t d r t' d'
+      pub walk_unclosed : (r : Refusable Page) → length rest ≤ n → r ≡ fails UnclosedEscape i → Lays ds s c t d r t' d'
       walk_unclosed r h =
           let l = ap length whole in
           let g = found in
@@ -116,7 +115,7 @@ module _ {ds s : List ℕ} {i : ℕ} {c : Page} {t d : List ℕ} {c' : Page} {t'
         inside_same : take n rest ≡ take n (drop (i + 1) s)
         inside_same = ap (take n) whole
 
-        pub walk_unknown : (r : Laying) → (command (take n rest) || known (take n rest)) ≡ false → r ≡ failing UnknownEscape i c' → Lays ds s c t d r t' d'
+        pub walk_unknown : (r : Refusable Page) → (command (take n rest) || known (take n rest)) ≡ false → r ≡ fails UnknownEscape i → Lays ds s c t d r t' d'
         walk_unknown r k =
             let l = ap length whole in
             walk_fault UnknownEscape r
@@ -152,11 +151,11 @@ module _ {ds s : List ℕ} {i : ℕ} {c : Page} {t d : List ℕ} {c' : Page} {t'
       unfolding special
       plainly a b = rw (a, b)
 
-      pub walk_wrong : (r : Laying) (k : Refusal) → i + n ≡ i → k ≡ wrong_plain (get_or s i 0) → r ≡ failing k i c' → Lays ds s c t d r t' d'
+      pub walk_wrong : (r : Refusable Page) (k : Refusal) → i + n ≡ i → k ≡ wrong_plain (get_or s i 0) → r ≡ fails k i → Lays ds s c t d r t' d'
       unfolding wrong_plain
       walk_wrong r k z g = by (printable (get_or s i 0)) refl (ltb (find (get_or s i 0) ds) 5) refl
         where
-          by : (x : Bool) → printable (get_or s i 0) ≡ x → (y : Bool) → ltb (find (get_or s i 0) ds) 5 ≡ y → r ≡ failing k i c' → Lays ds s c t d r t' d'
+          by : (x : Bool) → printable (get_or s i 0) ≡ x → (y : Bool) → ltb (find (get_or s i 0) ds) 5 ≡ y → r ≡ fails k i → Lays ds s c t d r t' d'
           by false a y b h = walk_fault k r (rest_stop formatted_text ds s i k within (step_unprintable formatted_text ds (get_or s i 0) (drop (i + 1) s) q a ∙ ap stop (sym (g ∙ ap (λ (v : Bool). cond v Separator NotAllowed) a)))) h
           by true a true b h =
               walk_fault k r

@@ -8,10 +8,11 @@ use lib.Dec.{leb, ltb, eqb}
 use lib.ListN.{length, take, replicate, length-append, length-replicate, replicate-append-replicate}
 use borrow.Author.Tests.{eq-eqb, ne_eqb, le-leb, lt-leb, leb-true, leb-false}
 use Rattle.alphabet.proofs.BoolLaws.{false_true, and_both}
+use Rattle.std.specs.Prelude.{Option, Some, None}
 use Rattle.format_commands.specs.declared.numbers.Amount.{Amount}
 use Rattle.format_commands.specs.declared.orders.Order.{Order}
-use Rattle.format_commands.specs.declared.orders.Order.TheVariants.{Unknown, Highlight, Break, Centre, Fill, Unfill, Down, Across, Margin, Once}
-use Rattle.format_commands.specs.Commands.{order_of, held_size, held_order}
+use Rattle.format_commands.specs.declared.orders.Order.TheVariants.{Highlight, Break, Centre, Fill, Unfill, Down, Across, Margin, Once}
+use Rattle.format_commands.specs.Commands.{order_of, held_size, held, held_order}
 use Rattle.format_commands.specs.Items.{order}
 use Rattle.format_commands.proofs.CommandLaws.{held_own, held_most}
 use Rattle.formatting.specs.declared.page.Page.{Page}
@@ -35,8 +36,8 @@ acts_same act act' c t d c' t' d' e a =
     }
 
 -- the same order, known to be one
-pub acts_order : (o o' : Order) (c : Page) (t d : List ℕ) (c' : Page) (t' d' : List ℕ) → o ≡ o' → Acts (obey o') c t d c' t' d' → Acts (obey o) c t d c' t' d'
-acts_order o o' c t d c' t' d' e a = subst (λ (q : Order). Acts (obey q) c t d c' t' d') (sym e) a
+pub acts_order : (o o' : Order) (c : Page) (t d : List ℕ) (c' : Page) (t' d' : List ℕ) → o ≡ o' → Acts (obey (Some o')) c t d c' t' d' → Acts (obey (Some o)) c t d c' t' d'
+acts_order o o' c t d c' t' d' e a = subst (λ (q : Order). Acts (obey (Some q)) c t d c' t' d') (sym e) a
 
 -- ---- what changes a number alone
 
@@ -123,19 +124,19 @@ module _ (c : Page) (t d : List ℕ) (f : Sound c t d) (z : c.word ≡ 0) where
       acts_plain (λ (s : Sheet). laid (set_fill b s)) c (filling b c) t d f (fill_slight c f.slight z b) refl refl (λ (q : c.unfit ≡ true). q)
       (λ (d₀ : List ℕ) (s : Sheet) (m : Matches d₀ s c t d) (n : is_empty s.word ≡ true). fill_matches m n b)
 
-  pub acts_margin : (a : Amount) (n : ℕ) → fits c.margin a ≡ true → n ≡ moved c.margin a → n ≤ 200 → Acts (obey (Margin a)) c t d (margin_at n c) t d
+  pub acts_margin : (a : Amount) (n : ℕ) → fits c.margin a ≡ true → n ≡ moved c.margin a → n ≤ 200 → Acts (obey (Some (Margin a))) c t d (margin_at n c) t d
   unfolding obey
   acts_margin a n e q h =
-      acts_plain (obey (Margin a)) c (margin_at n c) t d f (margin_slight c f.slight z n h) refl refl (λ (q : c.unfit ≡ true). q)
+      acts_plain (obey (Some (Margin a))) c (margin_at n c) t d f (margin_slight c f.slight z n h) refl refl (λ (q : c.unfit ≡ true). q)
       (λ (d₀ : List ℕ) (s : Sheet) (m : Matches d₀ s c t d) (k : is_empty s.word ≡ true).
       let same : moved c.margin a ≡ moved s.margin a = ap (λ (x : ℕ). moved x a) m.margin in
       subst (λ (l : Laid). Tells d₀ l (margin_at n c) t d) (sym (ap (λ (b : Bool). cond b (laid (set_margin (moved s.margin a) s)) unfit) (ap (λ (x : ℕ). fits x a) (sym m.margin) ∙ e)))
       (margin_matches m k n (moved s.margin a) (q ∙ same) (let y = q ∙ same in omega arith)))
 
-  pub acts_once : (a : Amount) (n : ℕ) → fits c.margin a ≡ true → n ≡ moved c.margin a → n ≤ 200 → Acts (obey (Once a)) c t d (left_at n c) t d
+  pub acts_once : (a : Amount) (n : ℕ) → fits c.margin a ≡ true → n ≡ moved c.margin a → n ≤ 200 → Acts (obey (Some (Once a))) c t d (left_at n c) t d
   unfolding obey
   acts_once a n e q h =
-      acts_plain (obey (Once a)) c (left_at n c) t d f (left_slight c f.slight z n (omega arith)) refl refl (λ (q : c.unfit ≡ true). q)
+      acts_plain (obey (Some (Once a))) c (left_at n c) t d f (left_slight c f.slight z n (omega arith)) refl refl (λ (q : c.unfit ≡ true). q)
       (λ (d₀ : List ℕ) (s : Sheet) (m : Matches d₀ s c t d) (k : is_empty s.word ≡ true).
       let same : moved c.margin a ≡ moved s.margin a = ap (λ (x : ℕ). moved x a) m.margin in
       subst (λ (l : Laid). Tells d₀ l (left_at n c) t d) (sym (ap (λ (b : Bool). cond b (laid (set_left (moved s.margin a) s)) unfit) (ap (λ (x : ℕ). fits x a) (sym m.margin) ∙ e)))
@@ -165,7 +166,7 @@ module _ (c : Page) (t d : List ℕ) (f : Sound c t d) (z : c.word ≡ 0) where
       small p q = let y = position_small c in omega arith
 
   -- the line is ended, and the next one is centred
-  pub acts_centre : (k : Page) (d' : List ℕ) → Acts (λ (s : Sheet). laid (end_line s)) c t d k t d' → k.word ≡ 0 → Acts (obey Centre) c t d (centring k) t d'
+  pub acts_centre : (k : Page) (d' : List ℕ) → Acts (λ (s : Sheet). laid (end_line s)) c t d k t d' → k.word ≡ 0 → Acts (obey (Some Centre)) c t d (centring k) t d'
   unfolding obey end_line
   acts_centre k d' a h =
       acts_map end_line (λ (s : Sheet). set_centre (end_line s)) c k (centring k) t d t d' a (centre_slight k a.sound.slight h) refl refl refl
@@ -194,33 +195,33 @@ small_held P q n = by (leb n 200) refl
         ap (λ (k : ℕ). cond (leb k 200 && q k) (P k) unfit) x
     by false e = ap (λ (b : Bool). cond (b && q (held_size n)) (P (held_size n)) unfit) (held_leb n ∙ e) ∙ sym (ap (λ (b : Bool). cond (b && q n) (P n) unfit) e)
 
-pub obey_held : (o : Order) (s : Sheet) → obey (held_order o) s ≡ obey o s
-unfolding obey held_order
-obey_held Unknown s = refl
-obey_held Highlight s = refl
-obey_held Break s = refl
-obey_held Centre s = refl
-obey_held Fill s = refl
-obey_held Unfill s = refl
-obey_held (Down a) s = small_held (λ (n : ℕ). laid (down n s)) (λ (n : ℕ). not (a.minus && ltb 0 n)) a.size
-obey_held (Across a) s = small_held (λ (n : ℕ). laid (owe n s)) (λ (n : ℕ). not (a.minus && ltb 0 n)) a.size
-obey_held (Margin a) s =
+pub obey_held : (o : Option Order) (s : Sheet) → obey (held_order o) s ≡ obey o s
+unfolding obey held held_order
+obey_held None s = refl
+obey_held (Some Highlight) s = refl
+obey_held (Some Break) s = refl
+obey_held (Some Centre) s = refl
+obey_held (Some Fill) s = refl
+obey_held (Some Unfill) s = refl
+obey_held (Some (Down a)) s = small_held (λ (n : ℕ). laid (down n s)) (λ (n : ℕ). not (a.minus && ltb 0 n)) a.size
+obey_held (Some (Across a)) s = small_held (λ (n : ℕ). laid (owe n s)) (λ (n : ℕ). not (a.minus && ltb 0 n)) a.size
+obey_held (Some (Margin a)) s =
     small_held (λ (n : ℕ). laid (set_margin (cond a.minus (s.margin - n) (s.margin + n)) s)) (λ (n : ℕ). (a.minus && leb n s.margin) || (not a.minus && leb (s.margin + n) 200)) a.size
-obey_held (Once a) s =
+obey_held (Some (Once a)) s =
     small_held (λ (n : ℕ). laid (set_left (cond a.minus (s.margin - n) (s.margin + n)) s)) (λ (n : ℕ). (a.minus && leb n s.margin) || (not a.minus && leb (s.margin + n) 200)) a.size
 
-pub quiet_held : (o : Order) → quiet (held_order o) ≡ quiet o
-unfolding held_order
-quiet_held Unknown = refl
-quiet_held Highlight = refl
-quiet_held Break = refl
-quiet_held Centre = refl
-quiet_held Fill = refl
-quiet_held Unfill = refl
-quiet_held (Down a) = refl
-quiet_held (Across a) = refl
-quiet_held (Margin a) = refl
-quiet_held (Once a) = refl
+pub quiet_held : (o : Option Order) → quiet (held_order o) ≡ quiet o
+unfolding held held_order
+quiet_held None = refl
+quiet_held (Some Highlight) = refl
+quiet_held (Some Break) = refl
+quiet_held (Some Centre) = refl
+quiet_held (Some Fill) = refl
+quiet_held (Some Unfill) = refl
+quiet_held (Some (Down a)) = refl
+quiet_held (Some (Across a)) = refl
+quiet_held (Some (Margin a)) = refl
+quiet_held (Some (Once a)) = refl
 
 -- ---- a command as an item
 
@@ -232,7 +233,7 @@ move_loud : (s : Sheet) (inside : List ℕ) → quiet (order_of inside) ≡ fals
 unfolding move obeyed
 move_loud s inside e = rw e
 
-module _ (inside : List ℕ) (o : Order) (e : o ≡ held_order (order_of inside)) (c : Page) (t d : List ℕ) (f : Sound c t d) where
+module _ (inside : List ℕ) (o : Option Order) (e : o ≡ held_order (order_of inside)) (c : Page) (t d : List ℕ) (f : Sound c t d) where
   is_quiet : quiet (order_of inside) ≡ quiet o
   is_quiet = sym (quiet_held (order_of inside)) ∙ ap quiet (sym e)
 
@@ -253,7 +254,7 @@ module _ (inside : List ℕ) (o : Order) (e : o ≡ held_order (order_of inside)
   pub order_follows : (k c' : Page) (d' : List ℕ) → quiet o ≡ false → k ≡ closed c → Acts (obey o) k t d c' t d' → Follows (order inside ∷ []) c t d c' t d'
   order_follows k c' d' q g a =
       acts_follow (order inside) (obey (order_of inside)) c t d c' t d'
-      (subst (λ (p : Page). Acts (obey (order_of inside)) p t d c' t d') g (acts_same (obey o) (obey (order_of inside)) k t d c' t d' (λ (s : Sheet). ap (λ (x : Order). obey x s) e ∙ obey_held (order_of inside) s) a))
+      (subst (λ (p : Page). Acts (obey (order_of inside)) p t d c' t d') g (acts_same (obey o) (obey (order_of inside)) k t d c' t d' (λ (s : Sheet). ap (λ (x : Option Order). obey x s) e ∙ obey_held (order_of inside) s) a))
       (λ (s : Sheet) (h : s.after_cr ≡ c.after). moves_one s (order inside) ∙ move_loud s inside (is_quiet ∙ q))
 
 -- ---- numbers in their ranges, as the code tests them
@@ -292,30 +293,30 @@ pub natural_most : (a : Amount) → natural a ≡ true → a.size ≤ 200
 natural_most a e = natural_small a e
 
 module _ (a : Amount) (s : Sheet) where
-  pub obey_down : natural a ≡ true → laid (down a.size s) ≡ obey (Down a) s
+  pub obey_down : natural a ≡ true → laid (down a.size s) ≡ obey (Some (Down a)) s
   unfolding obey
   obey_down e = rw e
 
-  pub stop_down : natural a ≡ false → obey (Down a) s ≡ unfit
+  pub stop_down : natural a ≡ false → obey (Some (Down a)) s ≡ unfit
   unfolding obey
   stop_down e = rw e
 
-  pub obey_across : natural a ≡ true → laid (owe a.size s) ≡ obey (Across a) s
+  pub obey_across : natural a ≡ true → laid (owe a.size s) ≡ obey (Some (Across a)) s
   unfolding obey
   obey_across e = rw e
 
-  pub stop_across : natural a ≡ false → obey (Across a) s ≡ unfit
+  pub stop_across : natural a ≡ false → obey (Some (Across a)) s ≡ unfit
   unfolding obey
   stop_across e = rw e
 
-  pub stop_margin : (m : ℕ) → fits m a ≡ false → m ≡ s.margin → obey (Margin a) s ≡ unfit
+  pub stop_margin : (m : ℕ) → fits m a ≡ false → m ≡ s.margin → obey (Some (Margin a)) s ≡ unfit
   unfolding obey
   stop_margin m e q = rw (ap (λ (x : ℕ). fits x a) (sym q) ∙ e)
 
-  pub stop_once : (m : ℕ) → fits m a ≡ false → m ≡ s.margin → obey (Once a) s ≡ unfit
+  pub stop_once : (m : ℕ) → fits m a ≡ false → m ≡ s.margin → obey (Some (Once a)) s ≡ unfit
   unfolding obey
   stop_once m e q = rw (ap (λ (x : ℕ). fits x a) (sym q) ∙ e)
 
-pub obey_plain : (s : Sheet) → (obey Highlight s ≡ laid s) × (obey Break s ≡ laid (end_line s)) × (obey Fill s ≡ laid (set_fill true s)) × (obey Unfill s ≡ laid (set_fill false s)) × (obey Unknown s ≡ unfit)
+pub obey_plain : (s : Sheet) → (obey (Some Highlight) s ≡ laid s) × (obey (Some Break) s ≡ laid (end_line s)) × (obey (Some Fill) s ≡ laid (set_fill true s)) × (obey (Some Unfill) s ≡ laid (set_fill false s))
 unfolding obey
-obey_plain s = (refl, refl, refl, refl, refl)
+obey_plain s = (refl, refl, refl, refl)

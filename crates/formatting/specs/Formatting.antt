@@ -1,5 +1,5 @@
 -- The outcome of formatting a text, by docs/FORMATTED.md: its refusals in their order, and its lines.
-use Rattle.std.specs.Prelude.{ℕ, List, cond, ltb}
+use Rattle.std.specs.Prelude.{ℕ, List, cond, ltb, Ok, Err}
 use Rattle.alphabet.specs.Bytes.{is_null}
 use Rattle.alphabet.specs.Delimiters.{first_wrong_delimiter}
 use Rattle.alphabet.specs.declared.answers.Refusal.TheVariants.{Delimiter, NullText, Layout}
@@ -13,8 +13,8 @@ told (lines t) = text t
 told none = fault Layout 0
 
 unfoldable pub laid_out : Outcome Item → Outcome ℕ
-laid_out (text xs) = told (lines_of xs)
-laid_out (fault k p) = fault k p
+laid_out (Ok xs) = told (lines_of xs)
+laid_out (Err f) = Err f
 
 -- "3, 15, then the leftmost of 4, 11, 12, 13, then 42 (place 0), then 14"
 unfoldable pub formatting : List ℕ → List ℕ → ℕ → Outcome ℕ

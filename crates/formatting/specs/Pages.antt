@@ -1,7 +1,7 @@
 -- The page in numbers, for the contracts of private functions: each definition is that of `Sheet`, of lengths in the
 -- place of lists, and with what is owed and where a line begins held at 201. `Follows` says of a function that it does
 -- what items do, whatever follows them.
-use Rattle.std.specs.Prelude.{ℕ, suc, ◌+◌, ◌-◌, ◌/◌, ◌≤◌, ◌<◌, ◌≡◌, List, [], ◌∷◌, ◌++◌, Bool, true, false, cond, not, ◌&&◌, length, take, ltb, eqb}
+use Rattle.std.specs.Prelude.{ℕ, suc, ◌+◌, ◌-◌, ◌/◌, ◌≤◌, ◌<◌, ◌≡◌, List, [], ◌∷◌, ◌++◌, Bool, true, false, Some, cond, not, ◌&&◌, length, take, ltb, eqb}
 use Rattle.alphabet.specs.Filling.{over}
 use Rattle.format_commands.specs.declared.orders.Order.{Order}
 use Rattle.format_commands.specs.Commands.{order_of, held_size, held_order}
@@ -187,4 +187,4 @@ spoiling c =
 
 -- as the command goes of which `asked` is what its bytes ask for, held
 abbrev pub Obeys : Order → Page → List ℕ → List ℕ → Page → List ℕ → List ℕ → Type 0
-Obeys asked c t d c' t' d' = (inside : List ℕ) → asked ≡ held_order (order_of inside) → Follows (order inside ∷ []) c t d c' t' d'
+Obeys asked c t d c' t' d' = (inside : List ℕ) → Some asked ≡ held_order (order_of inside) → Follows (order inside ∷ []) c t d c' t' d'

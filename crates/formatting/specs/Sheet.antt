@@ -1,8 +1,8 @@
 -- From items to lines, by docs/FORMATTED.md: the state of the scan and what each item does to it. Numbers are exact.
-use Rattle.std.specs.Prelude.{ℕ, ◌+◌, ◌-◌, ◌/◌, List, [], ◌∷◌, ◌++◌, Bool, true, false, cond, not, ◌&&◌, ◌||◌, length, replicate, leb, ltb, eqb}
+use Rattle.std.specs.Prelude.{ℕ, ◌+◌, ◌-◌, ◌/◌, List, [], ◌∷◌, ◌++◌, Bool, true, false, Option, Some, None, cond, not, ◌&&◌, ◌||◌, length, replicate, leb, ltb, eqb}
 use Rattle.format_commands.specs.declared.numbers.Amount.{Amount}
 use Rattle.format_commands.specs.declared.orders.Order.{Order}
-use Rattle.format_commands.specs.declared.orders.Order.TheVariants.{Unknown, Highlight, Break, Centre, Fill, Unfill, Down, Across, Margin, Once}
+use Rattle.format_commands.specs.declared.orders.Order.TheVariants.{Highlight, Break, Centre, Fill, Unfill, Down, Across, Margin, Once}
 use Rattle.format_commands.specs.Commands.{order_of}
 use Rattle.format_commands.specs.Items.{Item, byte, order}
 
@@ -122,17 +122,17 @@ unfoldable pub down : ℕ → Sheet → Sheet
 down n s = cond (eqb n 0) s (set_left (position s) (empty_lines (n - 1) (end_line s)))
 
 -- what a command does behind its word
-unfoldable pub obey : Order → Sheet → Laid
-obey Unknown s = unfit
-obey Highlight s = laid s
-obey Break s = laid (end_line s)
-obey Centre s = laid (set_centre (end_line s))
-obey Fill s = laid (set_fill true s)
-obey Unfill s = laid (set_fill false s)
-obey (Down a) s = cond (natural a) (laid (down a.size s)) unfit
-obey (Across a) s = cond (natural a) (laid (owe a.size s)) unfit
-obey (Margin a) s = cond (fits s.margin a) (laid (set_margin (moved s.margin a) s)) unfit
-obey (Once a) s = cond (fits s.margin a) (laid (set_left (moved s.margin a) s)) unfit
+unfoldable pub obey : Option Order → Sheet → Laid
+obey None s = unfit
+obey (Some Highlight) s = laid s
+obey (Some Break) s = laid (end_line s)
+obey (Some Centre) s = laid (set_centre (end_line s))
+obey (Some Fill) s = laid (set_fill true s)
+obey (Some Unfill) s = laid (set_fill false s)
+obey (Some (Down a)) s = cond (natural a) (laid (down a.size s)) unfit
+obey (Some (Across a)) s = cond (natural a) (laid (owe a.size s)) unfit
+obey (Some (Margin a)) s = cond (fits s.margin a) (laid (set_margin (moved s.margin a) s)) unfit
+obey (Some (Once a)) s = cond (fits s.margin a) (laid (set_left (moved s.margin a) s)) unfit
 
 -- "A word is a run of bytes other than blank, CR and LF"
 abbrev pub of_word : ℕ → Bool
@@ -142,20 +142,20 @@ of_word b = not (eqb b 32 || (eqb b 13 || eqb b 10))
 unfoldable pub space : ℕ → Bool → Sheet → Sheet
 space b cr s = cond (eqb b 32) (owe 1 s) (cond (eqb b 10 && cr) s (note_cr (eqb b 13) (end_line s)))
 
-abbrev pub quiet : Order → Bool
-quiet Unknown = false
-quiet Highlight = true
-quiet Break = false
-quiet Centre = false
-quiet Fill = false
-quiet Unfill = false
-quiet (Down a) = false
-quiet (Across a) = false
-quiet (Margin a) = false
-quiet (Once a) = false
+abbrev pub quiet : Option Order → Bool
+quiet None = false
+quiet (Some Highlight) = true
+quiet (Some Break) = false
+quiet (Some Centre) = false
+quiet (Some Fill) = false
+quiet (Some Unfill) = false
+quiet (Some (Down a)) = false
+quiet (Some (Across a)) = false
+quiet (Some (Margin a)) = false
+quiet (Some (Once a)) = false
 
 -- a command "first ends the word"; a highlight "leaves no trace, not even between two halves of a word"
-unfoldable pub obeyed : Order → Sheet → Laid
+unfoldable pub obeyed : Option Order → Sheet → Laid
 obeyed o s = cond (quiet o) (laid s) (then_laid (end_word (note_cr false s)) (obey o))
 
 unfoldable pub move : Sheet → Item → Laid

@@ -10,9 +10,8 @@ use crate::laying::lay;
 use crate::page::{Page, first_page};
 use crate::words::empty_line;
 use crate::writing::show_line;
-use alphabet::{Answer, Check, Delimiters, Refusal};
-use escaping::refused;
-use text::Judged;
+use alphabet::{Delimiters, Fault, Refusal, fails_if};
+use text::check_text;
 
 // The longest texts whose lines are first written as a small draft, a middle one and a large one.
 const SHORT: usize = 1_536;
@@ -31,83 +30,60 @@ fn finish(page: Page, line: &[u8], buffer: &mut [u8]) -> Page
 }
 
 // What a page says at the end: 42, then 14, then the length of its lines.
-fn conclude(page: Page) -> Judged
+#[tactic(auto, unfolding(crate::specs::Laying::concluded))]
+fn conclude(page: Page) -> Result<usize, Fault>
     ensures { result ≡ concluded page }
 {
-    if page.unfit {
-        return Judged::Fault {
-            kind: Refusal::Layout,
-            place: 0,
-        };
-    }
-    if page.short {
-        return Judged::Fault {
-            kind: Refusal::NoRoom,
-            place: 0,
-        };
-    }
-    Judged::Text(page.place)
+    fails_if(page.unfit, Refusal::Layout, 0)?;
+    fails_if(page.short, Refusal::NoRoom, 0)?;
+    Ok(page.place)
 }
 
 // Measures the lines of a text, or writes them.
-fn typeset(delimiters: Delimiters, text: &[u8], writes: bool, buffer: &mut [u8]) -> Judged
+fn typeset(
+    delimiters: Delimiters,
+    text: &[u8],
+    writes: bool,
+    buffer: &mut [u8],
+) -> Result<usize, Fault>
     ensures { Typesets delimiters.bytes text.now writes buffer.old result
         buffer.new }
 {
     let mut line = empty_line();
-    let laid = lay(first_page(writes), &mut line, buffer, delimiters, text);
-    let found = laid.found;
-    match found {
-        Check::Fails { kind, place } => Judged::Fault {
-            kind: kind,
-            place: place,
-        },
-        Check::Passes => conclude(finish(laid.page, &line, buffer)),
-    }
+    let page = lay(first_page(writes), &mut line, buffer, delimiters, text)?;
+    conclude(finish(page, &line, buffer))
 }
 
 // Measures the lines, so that a refusal writes nothing, and then writes them: the text is walked twice.
-fn measure_first(delimiters: Delimiters, text: &[u8], buffer: &mut [u8]) -> Answer
+fn measure_first(delimiters: Delimiters, text: &[u8], buffer: &mut [u8]) -> Result<usize, Fault>
     ensures value { result ≡ answer (laid_in delimiters.bytes text.now (length buffer.old)) }
     ensures buffer_after { buffer.new
         ≡ filled (laid_in delimiters.bytes text.now (length buffer.old))
         buffer.old }
 {
-    let found = typeset(delimiters, text, false, buffer);
-    match found {
-        Judged::Fault { kind, place } => refused(kind, place),
-        Judged::Text(n) => {
-            typeset(delimiters, text, true, buffer);
-            Answer {
-                kind: Refusal::None,
-                place: 0,
-                length: n,
-            }
-        }
-    }
+    typeset(delimiters, text, false, buffer)?;
+    typeset(delimiters, text, true, buffer)
 }
 
 // Writes the lines into memory of our own, as a draft, and hands them over: where they fit there, the text is walked
 // once.
-fn draft_first(delimiters: Delimiters, text: &[u8], draft: &mut [u8], buffer: &mut [u8]) -> Answer
+fn draft_first(
+    delimiters: Delimiters,
+    text: &[u8],
+    draft: &mut [u8],
+    buffer: &mut [u8],
+) -> Result<usize, Fault>
     ensures value { result ≡ answer (laid_in delimiters.bytes text.now (length buffer.old)) }
     ensures buffer_after { buffer.new
         ≡ filled (laid_in delimiters.bytes text.now (length buffer.old))
         buffer.old }
 {
-    let found = typeset(delimiters, text, true, draft);
-    let Judged::Text(n) = found else {
+    let Ok(n) = typeset(delimiters, text, true, draft) else {
         return measure_first(delimiters, text, buffer);
     };
-    if buffer.len() < n {
-        return refused(Refusal::NoRoom, 0);
-    }
+    fails_if(buffer.len() < n, Refusal::NoRoom, 0)?;
     alphabet::put(buffer, 0, &draft[..n]);
-    Answer {
-        kind: Refusal::None,
-        place: 0,
-        length: n,
-    }
+    Ok(n)
 }
 
 // Room for drafts, of three sizes, since a short text should not wait for a large one to be cleared. What it is filled
@@ -126,7 +102,7 @@ fn large_draft() -> [u8; 32_768] {
 
 // Turns a text that is not null into lines, under permitted delimiters: by way of the smallest draft that holds them if
 // they are not much longer than the text.
-fn lay_out(delimiters: Delimiters, text: &[u8], buffer: &mut [u8]) -> Answer
+fn lay_out(delimiters: Delimiters, text: &[u8], buffer: &mut [u8]) -> Result<usize, Fault>
     ensures value { result ≡ answer (laid_in delimiters.bytes text.now (length buffer.old)) }
     ensures buffer_after { buffer.new
         ≡ filled (laid_in delimiters.bytes text.now (length buffer.old))
@@ -147,19 +123,13 @@ fn lay_out(delimiters: Delimiters, text: &[u8], buffer: &mut [u8]) -> Answer
     measure_first(delimiters, text, buffer)
 }
 
-// Turns a formatted text into plain lines, and writes them to the front of the buffer.
-pub fn format(delimiters: Delimiters, text: &[u8], buffer: &mut [u8]) -> Answer
+// Turns a formatted text into plain lines, writes them to the front of the buffer, and gives their length there.
+pub fn format(delimiters: Delimiters, text: &[u8], buffer: &mut [u8]) -> Result<usize, Fault>
     ensures value { result ≡ answer (formatting delimiters.bytes text.now (length buffer.old)) }
     ensures buffer_after { buffer.new
         ≡ filled (formatting delimiters.bytes text.now (length buffer.old))
         buffer.old }
 {
-    let wrong = alphabet::first_wrong_delimiter(delimiters);
-    if wrong < 5 {
-        return refused(Refusal::Delimiter, wrong);
-    }
-    if alphabet::is_null(text) {
-        return refused(Refusal::NullText, 0);
-    }
+    check_text(delimiters, text)?;
     lay_out(delimiters, text, buffer)
 }

@@ -1,5 +1,5 @@
 // What a command does to the page, behind the word that it ends.
-ghost use Rattle.std.specs.Prelude.{◌≡◌, true, ◌≤◌};
+ghost use Rattle.std.specs.Prelude.{◌≡◌, true, ◌≤◌, Some};
 ghost use Rattle.format_commands.specs.declared.orders.Order.TheVariants.{Centre, Down, Across, Margin, Once};
 ghost use Rattle.formatting.specs.Sheet.{laid, down, natural, fits, moved, quiet, obey as Sheet·obey};
 ghost use Rattle.formatting.specs.Pages.{Sound, Acts, Obeys, filling, spoiling};
@@ -63,7 +63,7 @@ fn go_down(page: Page, n: usize, line: &[u8], buffer: &mut [u8]) -> Page
 // `.sp`: lines down.
 fn space_down(page: Page, a: Amount, line: &[u8], buffer: &mut [u8]) -> Page
     requires { (Sound page line.now buffer.old) × (page.word ≡ 0) }
-    ensures { Acts (Sheet·obey (Down a)) page line.now buffer.old result line.now
+    ensures { Acts (Sheet·obey (Some (Down a))) page line.now buffer.old result line.now
         buffer.new }
 {
     if !is_natural(a) {
@@ -75,7 +75,7 @@ fn space_down(page: Page, a: Amount, line: &[u8], buffer: &mut [u8]) -> Page
 // `.sk`: blanks to the right.
 fn skip(page: Page, a: Amount, line: &[u8], buffer: &[u8]) -> Page
     requires { (Sound page line.now buffer.now) × (page.word ≡ 0) }
-    ensures { Acts (Sheet·obey (Across a)) page line.now buffer.now result line.now
+    ensures { Acts (Sheet·obey (Some (Across a))) page line.now buffer.now result line.now
         buffer.now }
 {
     if !is_natural(a) {
@@ -87,7 +87,7 @@ fn skip(page: Page, a: Amount, line: &[u8], buffer: &[u8]) -> Page
 // `.in`: the margin of this line, where it is empty, and of those behind it.
 fn indent(mut page: Page, a: Amount, line: &[u8], buffer: &[u8]) -> Page
     requires { (Sound page line.now buffer.now) × (page.word ≡ 0) }
-    ensures { Acts (Sheet·obey (Margin a)) page line.now buffer.now result line.now
+    ensures { Acts (Sheet·obey (Some (Margin a))) page line.now buffer.now result line.now
         buffer.now }
 {
     if !is_fit(page.margin, a) {
@@ -102,7 +102,7 @@ fn indent(mut page: Page, a: Amount, line: &[u8], buffer: &[u8]) -> Page
 // `.ti`: where this line begins, if it is empty.
 fn indent_once(mut page: Page, a: Amount, line: &[u8], buffer: &[u8]) -> Page
     requires { (Sound page line.now buffer.now) × (page.word ≡ 0) }
-    ensures { Acts (Sheet·obey (Once a)) page line.now buffer.now result line.now
+    ensures { Acts (Sheet·obey (Some (Once a))) page line.now buffer.now result line.now
         buffer.now }
 {
     if !is_fit(page.margin, a) {
@@ -124,7 +124,7 @@ fn set_fill(mut page: Page, fill: bool) -> Page
 // `.ce`: the line is ended, and the next one is centred.
 fn centre_next(page: Page, line: &[u8], buffer: &mut [u8]) -> Page
     requires { (Sound page line.now buffer.old) × (page.word ≡ 0) }
-    ensures { Acts (Sheet·obey Centre) page line.now buffer.old result line.now
+    ensures { Acts (Sheet·obey (Some Centre)) page line.now buffer.old result line.now
         buffer.new }
 {
     let mut ended = end_lines(page, 1, line, buffer);
@@ -135,11 +135,10 @@ fn centre_next(page: Page, line: &[u8], buffer: &mut [u8]) -> Page
 // What a command does behind its word.
 fn obey(asked: Order, page: Page, line: &[u8], buffer: &mut [u8]) -> Page
     requires { (Sound page line.now buffer.old) × (page.word ≡ 0) }
-    ensures { Acts (Sheet·obey asked) page line.now buffer.old result line.now
+    ensures { Acts (Sheet·obey (Some asked)) page line.now buffer.old result line.now
         buffer.new }
 {
     match asked {
-        Order::Unknown => spoil(page),
         Order::Highlight => page,
         Order::Break => end_lines(page, 1, line, buffer),
         Order::Centre => centre_next(page, line, buffer),
@@ -154,20 +153,9 @@ fn obey(asked: Order, page: Page, line: &[u8], buffer: &mut [u8]) -> Page
 
 // Whether an order leaves no trace.
 fn is_quiet(asked: Order) -> bool
-    ensures { result ≡ quiet asked }
+    ensures { result ≡ quiet (Some asked) }
 {
-    match asked {
-        Order::Unknown => false,
-        Order::Highlight => true,
-        Order::Break => false,
-        Order::Centre => false,
-        Order::Fill => false,
-        Order::Unfill => false,
-        Order::Down(_) => false,
-        Order::Across(_) => false,
-        Order::Margin(_) => false,
-        Order::Once(_) => false,
-    }
+    matches!(asked, Order::Highlight)
 }
 
 // A command: it ends the word, and acts; a highlight does neither.

@@ -1,51 +1,32 @@
--- Each return is a case of `formatting`.
-use mathlib.Core.Path.{sym, ap, ◌∙◌}
-use native.Mathlib.Omega.{arith}
+-- Each exit is a case of `formatting`.
+use Prim.Native.Nat.{ℕ}
+use mathlib.Core.Path.{◌≡◌, sym, ap, ◌∙◌}
 use lib.ListN.{length}
-use Rattle.alphabet.specs.declared.answers.Refusal.TheVariants.{Delimiter}
-use Rattle.escaping.specs.Outcomes.{fault, answer, filled}
-use Rattle.escaping.proofs.OutcomeLaws.{ended}
-use Rattle.formatting.proofs.FormatLaws.{formatting_bad, formatting_null, formatting_laid}
+use borrow.Author.Rules.{rules}
+use Rattle.std.specs.Prelude.{Err}
+use Rattle.escaping.specs.Outcomes.{Outcome, answer, filled}
+use Rattle.escaping.proofs.OutcomeLaws.{refused}
+use Rattle.formatting.specs.Formatting.{formatting}
+use Rattle.formatting.proofs.FormatLaws.{formatting_stops, formatting_laid}
+use Rattle.formatting.proofs.formatting.format.Goals.{After-from_residual}
 use Rattle.formatting.proofs.formatting.format.Goals as goal
 
-pub returns-then-wrong-lt5-clause-value : goal.returns-then-wrong-lt5-clause-value
-unfolding answer filled
-returns-then-wrong-lt5-clause-value c =
-    let a = c.args in
-    let d = a.buffer.now in
-    let r = ended _ _ d (formatting_bad a.delimiters.bytes a.text.now (length d) (omega arith) ∙ ap (fault Delimiter) (sym c.first_wrong_delimiter-wrong.ensures)) in c.refused.ensures ∙ r.0
+wrong : (c : After-from_residual) → formatting c.args.delimiters.bytes c.args.text.now (length c.args.buffer.now) ≡ Err c.in_err-check_text.field-0.0
+wrong c = formatting_stops _ _ _ (sym c.check_text.ensures ∙ c.in_err-check_text.was)
 
-pub returns-then-wrong-lt5-clause-buffer_after : goal.returns-then-wrong-lt5-clause-buffer_after
-unfolding answer filled
-returns-then-wrong-lt5-clause-buffer_after c =
-    let a = c.args in
-    let d = a.buffer.now in
-    let r = ended _ _ d (formatting_bad a.delimiters.bytes a.text.now (length d) (omega arith) ∙ ap (fault Delimiter) (sym c.first_wrong_delimiter-wrong.ensures)) in r.1
+pub returns-in_err-check_text-clause-value : goal.returns-in_err-check_text-clause-value
+returns-in_err-check_text-clause-value c = rw ((refused c.args.buffer.now (wrong c)).0) (search rules)
 
-pub returns-then-is_null-clause-value : goal.returns-then-is_null-clause-value
-unfolding answer filled
-returns-then-is_null-clause-value c =
-    let a = c.args in
-    let d = a.buffer.now in
-    let r = ended _ _ d (formatting_null a.delimiters.bytes a.text.now (length d) (omega arith) (sym c.is_null.ensures ∙ c.if-is_null.true)) in c.refused-then-is_null.ensures ∙ r.0
-
-pub returns-then-is_null-clause-buffer_after : goal.returns-then-is_null-clause-buffer_after
-unfolding answer filled
-returns-then-is_null-clause-buffer_after c =
-    let a = c.args in
-    let d = a.buffer.now in
-    let r = ended _ _ d (formatting_null a.delimiters.bytes a.text.now (length d) (omega arith) (sym c.is_null.ensures ∙ c.if-is_null.true)) in r.1
+pub returns-in_err-check_text-clause-buffer_after : goal.returns-in_err-check_text-clause-buffer_after
+returns-in_err-check_text-clause-buffer_after c = sym (refused c.args.buffer.now (wrong c)).1
 
 pub returns-clause-value : goal.returns-clause-value
 returns-clause-value c =
     let a = c.args in
-    let d = a.buffer.now in
-    let l = c.lay_out.ensures in
-    let o = sym (formatting_laid a.delimiters.bytes a.text.now (length d) (omega arith) (sym c.is_null.ensures ∙ c.if-is_null.false)) in l.value ∙ ap answer o
+    c.lay_out.ensures.value ∙ ap answer (sym (formatting_laid a.delimiters.bytes a.text.now _ (sym c.check_text.ensures ∙ c.in_ok-check_text.was)))
 
 pub returns-clause-buffer_after : goal.returns-clause-buffer_after
 returns-clause-buffer_after c =
     let a = c.args in
-    let d = a.buffer.now in
-    let l = c.lay_out.ensures in
-    let o = sym (formatting_laid a.delimiters.bytes a.text.now (length d) (omega arith) (sym c.is_null.ensures ∙ c.if-is_null.false)) in l.buffer_after ∙ ap (λ (v : _). filled v d) o
+    c.lay_out.ensures.buffer_after
+    ∙ ap (λ (o : Outcome ℕ). filled o a.buffer.now) (sym (formatting_laid a.delimiters.bytes a.text.now _ (sym c.check_text.ensures ∙ c.in_ok-check_text.was)))

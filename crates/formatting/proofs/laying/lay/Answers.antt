@@ -13,12 +13,12 @@ pub loop-i-init : goal.loop-i-init
 loop-i-init c = (omega arith, walk_start c.args.delimiters.bytes c.args.text.now c.requires)
 
 pub returns-then-rest-n : goal.returns-then-rest-n
-returns-then-rest-n c = walk_unclosed c.loop-i.invariant.1 c.loop-i-test.true c.if-text-i.true c.find-n.result c.find-n.ensures c.fails.result c.if-rest-n.true c.fails.ensures
+returns-then-rest-n c = walk_unclosed c.loop-i.invariant.1 c.loop-i-test.true c.if-text-i.true c.find-n.result c.find-n.ensures c.fault.result c.if-rest-n.true c.fault.ensures
 
 pub returns-then-not-is_sequence : goal.returns-then-not-is_sequence
 returns-then-not-is_sequence c =
     let n = c.if-rest-n.false in
-    walk_unknown c.loop-i.invariant.1 c.loop-i-test.true c.if-text-i.true c.find-n.result c.find-n.ensures (omega arith) c.fails-then-not-is_sequence.result (sym c.is_sequence.ensures ∙ c.if-not-is_sequence.true) c.fails-then-not-is_sequence.ensures
+    walk_unknown c.loop-i.invariant.1 c.loop-i-test.true c.if-text-i.true c.find-n.result c.find-n.ensures (omega arith) c.fault-then-not-is_sequence.result (sym c.is_sequence.ensures ∙ c.if-not-is_sequence.true) c.fault-then-not-is_sequence.ensures
 
 pub take_sequence-p-requires : goal.take_sequence-p-requires
 take_sequence-p-requires c =
@@ -49,7 +49,7 @@ loop-i-preserved-then-text-i c =
     (short c, walk_sequence c.loop-i.invariant.1 c.loop-i-test.true c.if-text-i.true c.find-n.result c.find-n.ensures (omega arith) (sym c.is_sequence.ensures ∙ c.if-not-is_sequence.false) c.take_sequence-p.ensures)
 
 pub returns-then-end-i : goal.returns-then-end-i
-returns-then-end-i c = walk_wrong c.loop-i.invariant.1 c.loop-i-test.true c.if-text-i.false c.plain_run.result c.plain_run.ensures c.fails-then-end-i.result c.wrong_plain.result c.if-end-i.true c.wrong_plain.ensures c.fails-then-end-i.ensures
+returns-then-end-i c = walk_wrong c.loop-i.invariant.1 c.loop-i-test.true c.if-text-i.false c.plain_run.result c.plain_run.ensures c.fault-then-end-i.result c.wrong_plain.result c.if-end-i.true c.wrong_plain.ensures c.fault-then-end-i.ensures
 
 pub take_run-p-requires : goal.take_run-p-requires
 take_run-p-requires c =

@@ -1,6 +1,7 @@
 -- Rests on a margin that is moved.
 use mathlib.Core.Path.{sym, subst, ◌∙◌}
 use native.Mathlib.Omega.{arith}
+use Rattle.std.specs.Prelude.{Some}
 use Rattle.formatting.specs.declared.page.Page.{Page}
 use Rattle.format_commands.specs.declared.orders.Order.TheVariants.{Once}
 use Rattle.formatting.specs.Sheet.{obey}
@@ -12,7 +13,7 @@ pub returns-then-not-is_fit : goal.returns-then-not-is_fit
 returns-then-not-is_fit c =
     let g = c.args in
     let e = sym c.is_fit.ensures ∙ c.if-not-is_fit.true in
-    subst (λ (k : Page). Acts (obey (Once g.a)) g.page g.line.now g.buffer.now k g.line.now g.buffer.now) (sym c.spoil.ensures)
+    subst (λ (k : Page). Acts (obey (Some (Once g.a))) g.page g.line.now g.buffer.now k g.line.now g.buffer.now) (sym c.spoil.ensures)
     (acts_spoilt g.page g.line.now g.buffer.now c.requires.0 c.requires.1 _ (λ s n m. stop_once g.a s g.page.margin e m))
 
 pub moved_by-left-requires : goal.moved_by-left-requires

@@ -1,5 +1,6 @@
 -- Rests on a number that counts lines.
 use mathlib.Core.Path.{sym, subst, ◌∙◌}
+use Rattle.std.specs.Prelude.{Some}
 use Rattle.formatting.specs.declared.page.Page.{Page}
 use Rattle.format_commands.specs.declared.orders.Order.TheVariants.{Down}
 use Rattle.formatting.specs.Sheet.{obey}
@@ -11,7 +12,7 @@ pub returns-then-not-is_natural : goal.returns-then-not-is_natural
 returns-then-not-is_natural c =
     let g = c.args in
     let e = sym c.is_natural.ensures ∙ c.if-not-is_natural.true in
-    subst (λ (k : Page). Acts (obey (Down g.a)) g.page g.line.now g.buffer.now k g.line.now g.buffer.now) (sym c.spoil.ensures)
+    subst (λ (k : Page). Acts (obey (Some (Down g.a))) g.page g.line.now g.buffer.now k g.line.now g.buffer.now) (sym c.spoil.ensures)
     (acts_spoilt g.page g.line.now g.buffer.now c.requires.0 c.requires.1 _ (λ s n m. stop_down g.a s e))
 
 pub returns : goal.returns
