@@ -1,78 +1,88 @@
 // Where a fault of a message stands, in words: a byte, a segment, the end of the message, or a field and its
 // repetition.
+use alphabet::Refusal;
 use element::Address;
 use fault::FaultRecord;
 use terminal::Output;
 
-// The number of the last of so many segments.
-pub fn last_of(count: usize) -> usize {
-    if count == 0 { 0 } else { count - 1 }
+// What is meant by a fault: a byte of the message, a segment, the end behind so many segments, or a field.
+#[derive(Clone, Copy)]
+pub enum Place {
+    Byte(usize),
+    Segment(usize),
+    EndBehind(usize),
+    Field(Address),
 }
 
-// The address of the field that is meant by a fault. Where no structure is known that is the message's type, and where
-// a field has too many repetitions it is the whole of it.
-pub fn meant(fault: FaultRecord) -> Address {
-    let kind = fault.kind;
-    let number = alphabet::number(kind);
-    let is_type = number == 20;
-    Address {
-        segment: if is_type { 0 } else { fault.place },
-        field: if is_type { 9 } else { fault.field },
-        repetition: if number == 36 { 0 } else { fault.repetition },
+// A field of a segment, or one of its repetitions; 0 is the whole of it.
+fn field_at(segment: usize, field: usize, repetition: usize) -> Place {
+    Place::Field(Address {
+        segment,
+        field,
+        repetition,
         component: 0,
         subcomponent: 0,
-    }
+    })
 }
 
-// The address as it is told: in a field that has the fault in its first repetition, the field.
-fn told(address: Address) -> Address {
-    if address.repetition == 1 {
-        return Address {
-            segment: address.segment,
-            field: address.field,
-            repetition: 0,
-            component: 0,
-            subcomponent: 0,
-        };
+// What is meant by a fault. Where no structure is known that is the message's type, and where a field has too many
+// repetitions it is the whole of it.
+pub fn meant(fault: FaultRecord) -> Place {
+    match fault.kind {
+        Refusal::NoStructure => field_at(0, 9, fault.repetition),
+        Refusal::SegmentMisplaced => Place::Segment(fault.place),
+        Refusal::EndedEarly => Place::EndBehind(fault.place),
+        Refusal::Repeated => field_at(fault.place, fault.field, 0),
+        Refusal::RequiredMissing
+        | Refusal::BreaksForm
+        | Refusal::NotListed
+        | Refusal::RequiredNull
+        | Refusal::ValueWithoutType
+        | Refusal::ValueTooLong => field_at(fault.place, fault.field, fault.repetition),
+        _ => Place::Byte(fault.place),
     }
-    address
 }
 
 // Names the byte at a place, and its segment.
-fn name_byte(out: Output, message: &[u8], place: usize) -> Output {
+fn name_byte(out: &mut Output, message: &[u8], place: usize) {
     let segment = places::segment_around(message, place);
-    let out = terminal::print_counted(out, b"byte ", place, b", in segment ");
-    terminal::print_number(out, segment.number)
+    out.print_counted(b"byte ", place, b", in segment ");
+    out.print_number(segment.number);
 }
 
 // Names a segment: its number, and its own name.
-fn name_segment(out: Output, before: &[u8], message: &[u8], number: usize) -> Output {
+fn name_segment(out: &mut Output, before: &[u8], message: &[u8], number: usize) {
     let segment = places::segment_bytes(message, number);
-    let out = terminal::print_counted(out, before, number, b", ");
-    terminal::print(out, places::piece(segment, 0, 3))
+    out.print_counted(before, number, b", ");
+    out.print(places::piece(segment, 0, 3));
 }
 
-// Names a field, or one of its repetitions, by its address and by the name that HL7 gives it; and its segment.
-fn name_field(out: Output, message: &[u8], address: Address) -> Output {
+// Names a field, or one of its repetitions, by its address and by the name that HL7 gives it; and its segment. The first
+// repetition is told as the field.
+fn name_field(out: &mut Output, message: &[u8], address: Address) {
     let segment = places::segment_bytes(message, address.segment);
-    let out = places::print_address(out, segment, told(address), 0);
-    let out = explaining::print_field_name(out, segment, address.field);
-    let out = terminal::print(out, b", in segment ");
-    terminal::print_number(out, address.segment)
+    let told = if address.repetition == 1 {
+        Address {
+            repetition: 0,
+            ..address
+        }
+    } else {
+        address
+    };
+    places::print_address(out, segment, told, 0);
+    explaining::print_field_name(out, segment, address.field);
+    out.print(b", in segment ");
+    out.print_number(address.segment);
 }
 
-// Names the place of a fault by what it is for that number. A message that has no bytes or too many has no place.
-pub fn name_place(out: Output, message: &[u8], fault: FaultRecord) -> Output {
-    let kind = fault.kind;
-    let number = alphabet::number(kind);
-    if number < 20 {
-        return name_byte(out, message, fault.place);
+// Names a place.
+pub fn name_place(out: &mut Output, message: &[u8], place: Place) {
+    match place {
+        Place::Byte(at) => name_byte(out, message, at),
+        Place::Segment(number) => name_segment(out, b"segment ", message, number),
+        Place::EndBehind(count) => {
+            name_segment(out, b"behind segment ", message, count.saturating_sub(1));
+        }
+        Place::Field(address) => name_field(out, message, address),
     }
-    if number == 21 {
-        return name_segment(out, b"segment ", message, fault.place);
-    }
-    if number == 22 {
-        return name_segment(out, b"behind segment ", message, last_of(fault.place));
-    }
-    name_field(out, message, meant(fault))
 }
