@@ -32,7 +32,6 @@ pub mod ErrorTold
 pub mod Acknowledged
 pub mod RejectedLaws
 pub mod PresentLaws
-pub mod AskedFacts
 pub mod TextRoom
 pub mod NameLists
 pub mod Among

@@ -1,24 +1,23 @@
 -- What demand 2 says of the number and the time of an element: "its number or its time"; "an element not present gives
 -- its state alone".
-use Rattle.std.specs.Prelude.{pos}
-use Rattle.calendar.specs.Calendar.{no_time}
-use Rattle.element.specs.declared.Found.{Found}
-use Rattle.element.specs.declared.states.State.TheVariants.{Present}
-use Rattle.numbers.specs.declared.numerals.ReadNumber.{ReadNumber}
-use Rattle.times.specs.declared.moments.ReadTime.{ReadTime}
-use Rattle.value.specs.declared.asked.NumberFound.{NumberFound}
-use Rattle.value.specs.declared.asked.TimeFound.{TimeFound}
+use Rattle.std.specs.Prelude.{◌≡◌, Result, Ok, Err}
+use Rattle.alphabet.specs.Answers.{Refusable}
+use Rattle.alphabet.specs.declared.answers.Fault.{Fault}
+use Rattle.alphabet.specs.declared.answers.Refusal.{Refusal}
+use Rattle.element.specs.declared.Element.{Element}
+use Rattle.element.specs.declared.states.State.{State}
+use Rattle.value.specs.Asked.{Asked}
+use Rattle.value.specs.declared.asked.Value.TheVariants.{Absent, Empty, Null, Present}
+use Rattle.value.specs.declared.asked.NoValue.TheVariants.{NotFound, NotSaid}
 
 -- the answer of an element that is present: what its bytes spell, or why they spell nothing
-abbrev pub number_said : ReadNumber → NumberFound
-number_said r = record { answer = record { kind = r.kind; place = 0; length = 0 }; state = Present; value = r.value; decimals = r.decimals }
-
-abbrev pub time_said : ReadTime → TimeFound
-time_said r = record { answer = record { kind = r.kind; place = 0; length = 0 }; state = Present; time = r.time }
+abbrev pub said : {T : Type 0} → Result T Refusal → Asked T
+said (Ok value) = Ok (Present value)
+said (Err kind) = Err (NotSaid kind)
 
 -- the answer of any other: its state alone, or why it was not found
-abbrev pub state_alone : Found → NumberFound
-state_alone f = record { answer = f.answer; state = f.element.state; value = pos 0; decimals = 0 }
-
-abbrev pub timeless_state : Found → TimeFound
-timeless_state f = record { answer = f.answer; state = f.element.state; time = no_time }
+pub data StateAlone {T : Type 0} : Refusable Element → Asked T → Type 0 where
+  absent : (e : Element) → e.state ≡ State.Absent → StateAlone (Ok e) (Ok Absent)
+  empty : (e : Element) → e.state ≡ State.Empty → StateAlone (Ok e) (Ok Empty)
+  null : (e : Element) → e.state ≡ State.Null → StateAlone (Ok e) (Ok Null)
+  not_found : (fault : Fault) → StateAlone (Err fault) (Err (NotFound fault))
