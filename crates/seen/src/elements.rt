@@ -1,14 +1,29 @@
 // An element, and the number or the time that it says, as C sees them: a state is 0 absent, 1 empty, 2 null, 3 present;
 // an element that is not present has no number: an empty box is not a zero.
 ghost use Rattle.std.specs.Prelude.{◌≡◌};
-ghost use Rattle.seen.specs.Seen.{state_seen, figure_seen, sign_seen, date_seen, clock_seen, offset_seen, element_seen, number_seen, time_seen, address_of};
+ghost use Rattle.alphabet.specs.Answers.{number_of};
+ghost use Rattle.seen.specs.Seen.{state_seen, figure_seen, sign_seen, date_seen, clock_seen, offset_seen, element_seen, state_told, number_told, place_told, said, number_seen, time_seen, address_of};
 
-use calendar::{Clock, Date, Figure, Offset, Sign};
-use element::{Address, Found, State};
-use value::{NumberFound, TimeFound};
+use alphabet::{Fault, Refusal};
+use calendar::{Clock, Date, Offset, Sign, Time};
+use element::{Address, Element, State};
+use numbers::Number;
+use value::{NoValue, Value};
 
 // What stands for a figure of a time that was not sent: no figure is as large.
 const NOT_SENT: u64 = 0xffff_ffff_ffff_ffff;
+
+// What stands for a number and for a time where there is none.
+const NO_NUMBER: Number = Number {
+    value: 0,
+    decimals: 0,
+};
+
+const NO_TIME: Time = Time {
+    date: Date::NOT_SENT,
+    clock: Clock::NOT_SENT,
+    offset: None,
+};
 
 // A number of the table and its place, or the state and where the bytes stand: from `start` up to `end`.
 #[repr(C)]
@@ -73,7 +88,7 @@ pub struct CTime {
     pub offset: COffset,
 }
 
-fn state_shown(state: State) -> u32
+fn state_number(state: State) -> u32
     ensures { result ≡ state_seen state }
 {
     match state {
@@ -84,122 +99,176 @@ fn state_shown(state: State) -> u32
     }
 }
 
-fn figure_shown(figure: Figure) -> u64
+fn figure_number(figure: Option<u64>) -> u64
     ensures { result ≡ figure_seen figure }
 {
-    match figure {
-        Figure::NotSent => NOT_SENT,
-        Figure::Sent(n) => n,
-    }
+    figure.unwrap_or(NOT_SENT)
 }
 
-fn sign_shown(sign: Sign) -> u64
+fn sign_number(sign: Sign) -> u64
     ensures { result ≡ sign_seen sign }
 {
     match sign {
-        Sign::NotSent => 0,
         Sign::Plus => 1,
         Sign::Minus => 2,
     }
 }
 
-// An element as C sees it.
-pub fn element_shown(found: Found) -> CElement
-    ensures { result ≡ element_seen found }
+// The paper's number of a refusal, as wide as C has it.
+fn refusal_number(kind: Refusal) -> u32
+    ensures { result ≡ number_of kind }
 {
-    let answer = found.answer;
-    let element = found.element;
-    let kind = answer.kind;
-    let state = element.state;
-    CElement {
-        number: alphabet::number(kind) as u32,
-        state: state_shown(state),
-        place: answer.place,
-        start: element.start,
-        end: element.end,
+    u32::from(u8::from(kind))
+}
+
+// An element as C sees it.
+impl From<Result<Element, Fault>> for CElement {
+    ghost from_gives = { λ found r. r ≡ element_seen found };
+
+    fn from(found: Result<Element, Fault>) -> CElement {
+        match found {
+            Ok(element) => CElement {
+                number: 0,
+                state: state_number(element.state),
+                place: 0,
+                start: element.start,
+                end: element.end,
+            },
+            Err(fault) => CElement {
+                number: refusal_number(fault.kind),
+                state: state_number(State::Absent),
+                place: fault.place,
+                start: 0,
+                end: 0,
+            },
+        }
+    }
+}
+
+// The state of an element that was asked for its value: absent where it was not found, and present where its bytes say
+// no such value.
+fn state_of<T: Copy>(asked: Result<Value<T>, NoValue>) -> u32
+    ensures { result ≡ state_seen (state_told asked) }
+{
+    match asked {
+        Ok(Value::Absent) => state_number(State::Absent),
+        Ok(Value::Empty) => state_number(State::Empty),
+        Ok(Value::Null) => state_number(State::Null),
+        Ok(Value::Present(_)) => state_number(State::Present),
+        Err(NoValue::NotFound(_)) => state_number(State::Absent),
+        Err(NoValue::NotSaid(_)) => state_number(State::Present),
+    }
+}
+
+// The number of the refusal, or 0.
+fn number_of<T: Copy>(asked: Result<Value<T>, NoValue>) -> u32
+    ensures { result ≡ number_told asked }
+{
+    match asked {
+        Ok(_) => 0,
+        Err(why) => refusal_number(Fault::from(why).kind),
+    }
+}
+
+// The place of the refusal, or 0.
+fn place_of<T: Copy>(asked: Result<Value<T>, NoValue>) -> usize
+    ensures { result ≡ place_told asked }
+{
+    match asked {
+        Ok(_) => 0,
+        Err(why) => Fault::from(why).place,
+    }
+}
+
+// The value, where there is one.
+fn said<T: Copy>(asked: Result<Value<T>, NoValue>) -> Option<T>
+    ensures { result ≡ said asked }
+{
+    match asked {
+        Ok(Value::Present(value)) => Some(value),
+        _ => None,
     }
 }
 
 // A number as C sees it.
-pub fn number_shown(found: NumberFound) -> CNumber
-    ensures { result ≡ number_seen found }
-{
-    let answer = found.answer;
-    let kind = answer.kind;
-    let state = found.state;
-    CNumber {
-        number: alphabet::number(kind) as u32,
-        state: state_shown(state),
-        place: answer.place,
-        value: found.value,
-        decimals: found.decimals,
+impl From<Result<Value<Number>, NoValue>> for CNumber {
+    ghost from_gives = { λ asked r. r ≡ number_seen asked };
+
+    fn from(asked: Result<Value<Number>, NoValue>) -> CNumber {
+        let number = said(asked).unwrap_or(NO_NUMBER);
+        CNumber {
+            number: number_of(asked),
+            state: state_of(asked),
+            place: place_of(asked),
+            value: number.value,
+            decimals: number.decimals,
+        }
     }
 }
 
-fn date_shown(date: Date) -> CDate
-    ensures { result ≡ date_seen date }
-{
-    let year = date.year;
-    let month = date.month;
-    let day = date.day;
-    CDate {
-        year: figure_shown(year),
-        month: figure_shown(month),
-        day: figure_shown(day),
+impl From<Date> for CDate {
+    ghost from_gives = { λ date r. r ≡ date_seen date };
+
+    fn from(date: Date) -> CDate {
+        CDate {
+            year: figure_number(date.year),
+            month: figure_number(date.month),
+            day: figure_number(date.day),
+        }
     }
 }
 
-fn clock_shown(clock: Clock) -> CClock
-    ensures { result ≡ clock_seen clock }
-{
-    let hour = clock.hour;
-    let minute = clock.minute;
-    let second = clock.second;
-    let fraction = clock.fraction;
-    CClock {
-        hour: figure_shown(hour),
-        minute: figure_shown(minute),
-        second: figure_shown(second),
-        fraction: figure_shown(fraction),
-        digits: clock.digits,
+impl From<Clock> for CClock {
+    ghost from_gives = { λ clock r. r ≡ clock_seen clock };
+
+    fn from(clock: Clock) -> CClock {
+        CClock {
+            hour: figure_number(clock.hour),
+            minute: figure_number(clock.minute),
+            second: figure_number(clock.second),
+            fraction: figure_number(clock.fraction.map(|fraction| fraction.value)),
+            digits: clock.fraction.map_or(0, |fraction| fraction.digits),
+        }
     }
 }
 
-fn offset_shown(offset: Offset) -> COffset
-    ensures { result ≡ offset_seen offset }
-{
-    let sign = offset.sign;
-    COffset {
-        sign: sign_shown(sign),
-        hours: offset.hours,
-        minutes: offset.minutes,
+impl From<Option<Offset>> for COffset {
+    ghost from_gives = { λ offset r. r ≡ offset_seen offset };
+
+    fn from(offset: Option<Offset>) -> COffset {
+        match offset {
+            Some(sent) => COffset {
+                sign: sign_number(sent.sign),
+                hours: sent.hours,
+                minutes: sent.minutes,
+            },
+            None => COffset {
+                sign: 0,
+                hours: 0,
+                minutes: 0,
+            },
+        }
     }
 }
 
 // A time as C sees it.
-pub fn time_shown(found: TimeFound) -> CTime
-    ensures { result ≡ time_seen found }
-{
-    let answer = found.answer;
-    let kind = answer.kind;
-    let state = found.state;
-    let time = found.time;
-    let date = time.date;
-    let clock = time.clock;
-    let offset = time.offset;
-    let number = alphabet::number(kind) as u32;
-    let shown = state_shown(state);
-    CTime {
-        number: number,
-        state: shown,
-        place: answer.place,
-        date: date_shown(date),
-        clock: clock_shown(clock),
-        offset: offset_shown(offset),
+impl From<Result<Value<Time>, NoValue>> for CTime {
+    ghost from_gives = { λ asked r. r ≡ time_seen asked };
+
+    fn from(asked: Result<Value<Time>, NoValue>) -> CTime {
+        let time = said(asked).unwrap_or(NO_TIME);
+        CTime {
+            number: number_of(asked),
+            state: state_of(asked),
+            place: place_of(asked),
+            date: CDate::from(time.date),
+            clock: CClock::from(time.clock),
+            offset: COffset::from(time.offset),
+        }
     }
 }
 
-// An address out of its five numbers.
+// An address out of its five numbers, which C hands over one by one.
 pub fn address_of(
     segment: usize,
     field: usize,
@@ -210,10 +279,10 @@ pub fn address_of(
     ensures { result ≡ address_of segment field repetition component subcomponent }
 {
     Address {
-        segment: segment,
-        field: field,
-        repetition: repetition,
-        component: component,
-        subcomponent: subcomponent,
+        segment,
+        field,
+        repetition,
+        component,
+        subcomponent,
     }
 }

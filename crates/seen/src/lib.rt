@@ -5,8 +5,5 @@
 mod elements;
 mod segment;
 
-pub use elements::{
-    CClock, CDate, CElement, CNumber, COffset, CTime, address_of, element_shown, number_shown,
-    time_shown,
-};
-pub use segment::{CSegment, segment_shown};
+pub use elements::{CClock, CDate, CElement, CNumber, COffset, CTime, address_of};
+pub use segment::CSegment;

@@ -2,7 +2,8 @@
 ghost use Rattle.std.specs.Prelude.{◌≡◌};
 ghost use Rattle.seen.specs.Seen.{segment_seen};
 
-use segments::SegmentFound;
+use alphabet::Fault;
+use segments::Segment;
 
 // A number of the table and its place, or the name, three bytes with the first highest, and where the segment stands:
 // from `start` up to `end`, where its CR is.
@@ -17,16 +18,25 @@ pub struct CSegment {
 }
 
 // A segment as C sees it.
-pub fn segment_shown(found: SegmentFound) -> CSegment
-    ensures { result ≡ segment_seen found }
-{
-    let answer = found.answer;
-    let kind = answer.kind;
-    CSegment {
-        number: alphabet::number(kind) as u32,
-        name: found.name,
-        place: answer.place,
-        start: found.start,
-        end: found.end,
+impl From<Result<Segment, Fault>> for CSegment {
+    ghost from_gives = { λ found r. r ≡ segment_seen found };
+
+    fn from(found: Result<Segment, Fault>) -> CSegment {
+        match found {
+            Ok(segment) => CSegment {
+                number: 0,
+                name: segment.name,
+                place: 0,
+                start: segment.start,
+                end: segment.end,
+            },
+            Err(fault) => CSegment {
+                number: u32::from(u8::from(fault.kind)),
+                name: 0,
+                place: fault.place,
+                start: 0,
+                end: 0,
+            },
+        }
     }
 }
