@@ -14,7 +14,9 @@ use Rattle.alphabet.specs.Bytes.{carriage_return, ascii}
 use Rattle.alphabet.specs.Parts.{join}
 use Rattle.reading.specs.Message.{ended}
 use Rattle.reading.specs.Segments.{delimiters_of, field_separator}
+use Rattle.fault.specs.Faults.{Judgement}
 use Rattle.fault.specs.declared.FaultRecord.{FaultRecord}
+use Rattle.std.specs.Prelude.{Ok, Err}
 use Rattle.together.specs.Together.{together}
 use Rattle.error_segment.specs.Numerals.{numeral}
 use Rattle.error_segment.specs.Errors.{error_code, faulty, count_of, sequence_of, field_position, nowhere, error_place, error_parts, error_line, error_lines}
@@ -65,18 +67,6 @@ tail_whole l n s e h = let k = length-drop s l in take_all (n - s) (drop s l) (o
 pub tail_short : (l : List ℕ) (n s : ℕ) → length l ≡ n → s ≤ n → length (take (n - s) (drop s l)) ≤ n
 tail_short l n s e h = let k = length-drop s l in let q = ap length (tail_whole l n s e h) in omega arith
 
--- ---- the position of the field
-
-module _ (number field : ℕ) where
-  pub position_none : number ≡ 21 → [] ≡ field_position number field
-  position_none e = ap (λ (n : ℕ). field_position n field) (sym e)
-
-  pub position_type : number ≡ 20 → numeral 9 ≡ field_position number field
-  position_type e = ap (λ (n : ℕ). field_position n field) (sym e)
-
-  pub position_field : (number ≡ 21 → ⊥) → (number ≡ 20 → ⊥) → numeral field ≡ field_position number field
-  position_field e f = rw (ne_eqb number 21 e) (rw (ne_eqb number 20 f))
-
 -- ---- the line as pieces
 
 count_piece : (p : List ℕ) (ps : List (List ℕ)) → length (together (p ∷ ps)) ≡ length p + length (together ps)
@@ -125,22 +115,18 @@ module _ (sep between : ℕ) (a b c d : List ℕ) where
 
 -- ---- the segment by the verdict's record
 
+pub no_error : (m : List ℕ) {found : Judgement} → found ≡ Ok tt → ended (error_lines m found) ≡ []
+unfolding ended
+no_error m e = ap (λ (x : Judgement). ended (error_lines m x)) e
+
 module _ (m : List ℕ) (r : FaultRecord) where
-  pub no_error : number_of r.kind ≡ 0 → ended (error_lines m r) ≡ []
-  unfolding ended
-  no_error e = rw (eq-eqb (number_of r.kind) 0 e)
-
-  module _ (some : number_of r.kind ≡ 0 → ⊥) where
-    line_ended : ended (error_lines m r) ≡ error_line m r ++ (carriage_return ∷ [])
-    unfolding ended
-    line_ended = rw (ne_eqb (number_of r.kind) 0 some)
-
-    -- the pieces of its parts are the segment with its CR
-    pub pieces_ended : (ds a b c d : List ℕ) → ds ≡ delimiters_of m → error_parts m r ≡ a ∷ b ∷ c ∷ d ∷ [] → together (line_pieces a b c d (marks_of ds)) ≡ ended (error_lines m r)
-    unfolding error_line
-    pieces_ended ds a b c d e q =
-        ap (λ (x : List ℕ). together (line_pieces a b c d (marks_of x))) e ∙ line_is (field_separator m) (get_or m 4 0) a b c d
-        ∙ ap (λ (x : List (List ℕ)). join (field_separator m) (ascii "ERR" ∷ join (get_or m 4 0) x ∷ []) ++ (carriage_return ∷ [])) (sym q) ∙ sym line_ended
+  -- the pieces of its parts are the segment with its CR
+  pub pieces_ended : {found : Judgement} → found ≡ Err r → (ds a b c d : List ℕ) → ds ≡ delimiters_of m → error_parts m r ≡ a ∷ b ∷ c ∷ d ∷ [] → together (line_pieces a b c d (marks_of ds)) ≡ ended (error_lines m found)
+  unfolding error_line ended
+  pieces_ended f ds a b c d e q =
+      ap (λ (x : List ℕ). together (line_pieces a b c d (marks_of x))) e ∙ line_is (field_separator m) (get_or m 4 0) a b c d
+      ∙ ap (λ (x : List (List ℕ)). join (field_separator m) (ascii "ERR" ∷ join (get_or m 4 0) x ∷ []) ++ (carriage_return ∷ [])) (sym q)
+      ∙ sym (ap (λ (x : Judgement). ended (error_lines m x)) f)
 
   pub parts_nowhere : nowhere (number_of r.kind) ≡ true → error_parts m r ≡ [] ∷ [] ∷ [] ∷ numeral (error_code (number_of r.kind) r.place r.field) ∷ []
   unfolding error_parts error_place

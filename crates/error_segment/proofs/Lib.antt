@@ -1,3 +1,4 @@
 pub mod NumeralLaws
 pub mod ErrorLaws
 pub mod LocateLaws
+pub mod KindLaws

@@ -139,11 +139,7 @@ module _ {ss left : List (List ℕ)} {names : List ℕ} {number : ℕ} (p : Pass
         let l = map_length name_of ss in
         take_all (place + 1) (map name_of ss) (omega arith) ∙ ap (map name_of) over ∙ sym p.kept
 
--- ---- what is said of a segment: where it stands, and its number q among those of its name
-
-module _ (m : List ℕ) (s e : ℕ) where
-  pub empty_here : (f : List ℕ) → s ≡ 0 → e ≡ 0 → f ≡ [] → (s ≤ e) × (e ≤ length m) × (take (e - s) (drop s m) ≡ f)
-  empty_here f a b n = (omega arith, omega arith, ap₂ (λ (i j : ℕ). take (j - i) (drop i m)) a b ∙ sym n)
+-- ---- the number q of a segment among those of its name
 
 -- the count where the first segment of the bytes l stands behind these names, and where l has none
 module _ (names l : List ℕ) where

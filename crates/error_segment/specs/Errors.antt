@@ -1,11 +1,12 @@
 -- The ERR segment of an acknowledgement, by document 02, W4: what stands in it, from the message m that is answered and
 -- the verdict's record r.
-use Rattle.std.specs.Prelude.{ℕ, ◌+◌, List, [], ◌∷◌, ◌++◌, Bool, cond, ◌&&◌, ◌||◌, eqb, leb, get_or, take}
+use Rattle.std.specs.Prelude.{ℕ, ◌+◌, List, [], ◌∷◌, ◌++◌, Bool, cond, ◌&&◌, ◌||◌, eqb, leb, get_or, take, Ok, Err}
 use Rattle.alphabet.specs.Answers.{number_of}
 use Rattle.alphabet.specs.Bytes.{ascii}
 use Rattle.alphabet.specs.Parts.{join}
 use Rattle.reading.specs.Segments.{segments, field_separator, name_of}
 use Rattle.structure.specs.SegmentNames.{segment_names}
+use Rattle.fault.specs.Faults.{Judgement}
 use Rattle.fault.specs.declared.FaultRecord.{FaultRecord}
 use Rattle.error_segment.specs.Numerals.{numeral}
 
@@ -64,6 +65,7 @@ error_parts m r =
 unfoldable pub error_line : List ℕ → FaultRecord → List ℕ
 error_line m r = join (field_separator m) (ascii "ERR" ∷ join (get_or m 4 0) (error_parts m r) ∷ [])
 
--- "an ERR segment after MSA when we answer AE or AR": number 0 alone is AA
-abbrev pub error_lines : List ℕ → FaultRecord → List (List ℕ)
-error_lines m r = cond (eqb (number_of r.kind) 0) [] (error_line m r ∷ [])
+-- "an ERR segment after MSA when we answer AE or AR": what is accepted is AA
+abbrev pub error_lines : List ℕ → Judgement → List (List ℕ)
+error_lines m (Ok _) = []
+error_lines m (Err r) = error_line m r ∷ []

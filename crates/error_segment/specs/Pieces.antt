@@ -1,5 +1,6 @@
 -- The ERR segment as the pieces that the code writes one behind another, for private functions alone.
-use Rattle.std.specs.Prelude.{ℕ, ◌-◌, ◌≤◌, ◌≡◌, List, [], ◌∷◌, ◌++◌, length, get_or, take, drop}
+use Rattle.std.specs.Prelude.{ℕ, ◌-◌, ◌≤◌, ◌≡◌, List, [], ◌∷◌, ◌++◌, length, get_or, take, drop, Option, Some, None}
+use Rattle.alphabet.specs.declared.parts.Part.{Part}
 use Rattle.alphabet.specs.Bytes.{carriage_return, ascii}
 use Rattle.error_segment.specs.Errors.{faulty, sequence_of}
 use Rattle.error_segment.specs.declared.locating.Located.{Located}
@@ -9,11 +10,14 @@ use Rattle.error_segment.specs.declared.numerals.Numeral.{Numeral}
 abbrev pub said : Numeral → List ℕ
 said n = drop n.start n.digits
 
--- where the segment of a number stands, no bytes where there is none, and its sequence
+-- where some bytes of a message stand; nowhere, there are none
+abbrev pub StandsAt : List ℕ → List ℕ → Option Part → Type 0
+StandsAt m bytes (Some part) = (part.start ≤ part.end) × (part.end ≤ length m) × (take (part.end - part.start) (drop part.start m) ≡ bytes)
+StandsAt m bytes None = bytes ≡ []
+
+-- where the segment of a number stands, and its sequence
 abbrev pub LocatedAt : List ℕ → ℕ → Located → Type 0
-LocatedAt m place r =
-    (r.start ≤ r.end) × (r.end ≤ length m) × (take (r.end - r.start) (drop r.start m) ≡ faulty m place)
-    × (r.sequence ≡ sequence_of m place)
+LocatedAt m place r = StandsAt m (faulty m place) r.segment × (r.sequence ≡ sequence_of m place)
 
 -- ERR, the separators of fields and of components, and CR
 abbrev pub marks_of : List ℕ → List ℕ

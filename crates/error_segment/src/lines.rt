@@ -10,9 +10,8 @@ ghost use Rattle.error_segment.specs.Pieces.{said, marks_of, line_pieces};
 use crate::codes::error_code;
 use crate::locating::locate;
 use crate::numerals::{Numeral, no_numeral, numeral_of};
-use crate::places::{field_position, name_in, points_nowhere};
+use crate::places::{field_position, name_at, points_nowhere};
 use alphabet::Delimiters;
-use escaping::Room;
 use fault::FaultRecord;
 
 // What stands around the parts: the name, the separators of fields and of components, and CR.
@@ -52,11 +51,7 @@ fn put_line<'a>(
     let pieces = [
         front, name, between, sequence, between, field, between, code, end,
     ];
-    let size = together::put(&pieces, 80, line);
-    match size {
-        Room::Takes(n) => n,
-        Room::Short => 0,
-    }
+    together::put(&pieces, 80, line).unwrap()
 }
 
 // Puts a line of a name and of three numerals.
@@ -95,18 +90,16 @@ fn put_parts(
 
 // Writes the ERR segment of a message, with its CR, to the front of a buffer, and returns its length: 0 where the
 // message is accepted.
-pub fn put_segment(message: &[u8], found: FaultRecord, line: &mut [u8; 80]) -> usize
+pub fn put_segment(message: &[u8], found: Result<(), FaultRecord>, line: &mut [u8; 80]) -> usize
     ensures value { result ≡ length (ended (error_lines message.now found)) }
     ensures line_after { line.new ≡ over (ended (error_lines message.now found)) line.old }
 {
-    let kind = found.kind;
-    let number = alphabet::number(kind);
-    if number == 0 {
+    let Err(fault) = found else {
         return 0;
-    }
+    };
     let delimiters = reading::delimiters_of(message);
-    let code = numeral_of(error_code(number, found.place, found.field));
-    if points_nowhere(number) {
+    let code = numeral_of(error_code(fault.kind, fault.place, fault.field));
+    if points_nowhere(fault.kind) {
         return put_parts(
             &message[..0],
             no_numeral(),
@@ -116,11 +109,9 @@ pub fn put_segment(message: &[u8], found: FaultRecord, line: &mut [u8; 80]) -> u
             line,
         );
     }
-    let located = locate(message, found.place);
-    let start = located.start;
-    let end = located.end;
+    let located = locate(message, fault.place);
     let sequence = numeral_of(located.sequence);
-    let field = field_position(number, found.field);
-    let name = name_in(&message[start..end]);
+    let field = field_position(fault.kind, fault.field);
+    let name = name_at(message, located.segment);
     put_parts(name, sequence, field, code, delimiters, line)
 }

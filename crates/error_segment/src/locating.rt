@@ -1,11 +1,11 @@
 // Where the segment at fault stands, and which one of its name it is. One walk tells both: it keeps the names that it
 // passes, and counts them when it knows the name that is asked for. There is room for few names and for many, since room
 // has to be cleared; a place past both, which no message that was read has, takes two walks.
-ghost use Rattle.std.specs.Prelude.{◌≡◌, ◌++◌, ◌+◌, ◌-◌, ◌≤◌, ◌<◌, length, take, drop};
+ghost use Rattle.std.specs.Prelude.{◌≡◌, ◌++◌, ◌+◌, ◌≤◌, length, take, drop, None};
 ghost use Rattle.reading.specs.Segments.{name_of};
 ghost use Rattle.structure.specs.SegmentNames.{segment_names};
 ghost use Rattle.error_segment.specs.Errors.{faulty, count_of};
-ghost use Rattle.error_segment.specs.Pieces.{LocatedAt};
+ghost use Rattle.error_segment.specs.Pieces.{StandsAt, LocatedAt};
 
 use alphabet::Part;
 
@@ -14,11 +14,10 @@ const FEW: usize = 256;
 
 const MANY: usize = 4096;
 
-// Where a segment stands, from 0 to 0 where there is none, and how many of its name stand up to and with it.
+// Where a segment stands, if there is one, and how many of its name stand up to and with it.
 #[derive(Clone, Copy)]
 pub struct Located {
-    pub start: usize,
-    pub end: usize,
+    pub segment: Option<Part>,
     pub sequence: usize,
 }
 
@@ -42,23 +41,20 @@ fn count_of(names: &[u32], name: u32) -> usize
     ensures { result ≡ count_of name names.now }
 {
     let mut count = 0;
-    let mut number = 0;
-    while number < names.len() {
-        if names[number] == name {
+    for known in names {
+        if *known == name {
             count += 1;
         }
-        number += 1;
     }
     count
 }
 
 // No segment, behind all that have these names. The name of no bytes is 0, which a segment of zeros has too.
 fn located_nowhere(names: &[u32]) -> Located
-    ensures { (result.start ≡ 0) × (result.end ≡ 0) × (result.sequence ≡ count_of 0 names.now) }
+    ensures { (result.segment ≡ None) × (result.sequence ≡ count_of 0 names.now) }
 {
     Located {
-        start: 0,
-        end: 0,
+        segment: None,
         sequence: count_of(names, 0),
     }
 }
@@ -66,9 +62,7 @@ fn located_nowhere(names: &[u32]) -> Located
 // The segment that begins at `start`, behind those that have these names.
 fn located_at(message: &[u8], start: usize, names: &[u32]) -> Located
     requires { length names.now ≤ 4096 }
-    ensures { (result.start ≤ result.end) × (result.end ≤ length message.now)
-        × (take (result.end - result.start) (drop result.start message.now)
-        ≡ faulty (drop start message.now) 0)
+    ensures { StandsAt message.now (faulty (drop start message.now) 0) result.segment
         × (result.sequence
         ≡ count_of (name_of (faulty (drop start message.now) 0))
         (names.now ++ take 1 (segment_names (drop start message.now)))) }
@@ -79,8 +73,7 @@ fn located_at(message: &[u8], start: usize, names: &[u32]) -> Located
     }
     let name = reading::name_of(&message[start..end]);
     Located {
-        start: start,
-        end: end,
+        segment: Some(Part { start, end }),
         sequence: count_of(names, name) + 1,
     }
 }
@@ -130,21 +123,16 @@ fn sequence_of(message: &[u8], place: usize, name: u32) -> usize
 fn locate_far(message: &[u8], place: usize) -> Located
     ensures { LocatedAt message.now place result }
 {
-    let segment = reading::segment_at(message, place);
-    match segment {
-        Part::At { start, end } => {
-            let name = reading::name_of(&message[start..end]);
-            Located {
-                start: start,
-                end: end,
-                sequence: sequence_of(message, place, name),
-            }
-        }
-        Part::Absent => Located {
-            start: 0,
-            end: 0,
+    let Some(part) = reading::segment_at(message, place) else {
+        return Located {
+            segment: None,
             sequence: sequence_of(message, place, 0),
-        },
+        };
+    };
+    let name = reading::name_of(&message[part.start..part.end]);
+    Located {
+        segment: Some(part),
+        sequence: sequence_of(message, place, name),
     }
 }
 

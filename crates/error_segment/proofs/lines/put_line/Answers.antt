@@ -1,19 +1,22 @@
 -- Rests on the law of the line's room: it always fits.
-use mathlib.Core.Path.{sym, ◌∙◌}
+use mathlib.Core.Path.{◌≡◌, sym, ap, ◌∙◌}
 use Prim.Native.Nat.{◌≤◌}
+use Rattle.std.specs.Prelude.{Some}
+use Rattle.std.specs.Option.{is_some}
+use Rattle.std.proofs.lemmas.Option.{same_Some}
 use native.Mathlib.Omega.{arith}
 use lib.ListN.{length}
 use lib.Seq.{length-take-le}
-use Rattle.escaping.proofs.OutcomeLaws.{takes_is, short_is}
+use Rattle.escaping.proofs.OutcomeLaws.{room_takes}
 use Rattle.together.specs.Together.{together, least}
 use Rattle.together.proofs.PieceLaws.{least_above, fitted_takes}
 use Rattle.error_segment.specs.Pieces.{line_pieces}
 use Rattle.error_segment.proofs.ErrorLaws.{line_room}
-use Rattle.error_segment.proofs.lines.put_line.Goals.{After-put-size}
+use Rattle.error_segment.proofs.lines.put_line.Goals.{After-put}
 use Rattle.error_segment.proofs.lines.put_line.Goals as goal
 
 -- the line fits into its buffer, and into 80 bytes
-room : (c : After-put-size)
+room : (c : After-put)
     → let a = c.args in
     length (together (line_pieces a.name.now a.sequence.now a.field.now a.code.now a.marks.now)) ≤ least (length a.line.now) 80
 room c =
@@ -24,16 +27,20 @@ room c =
     let fits = line_room a.name.now a.sequence.now a.field.now a.code.now a.marks.now p.0 p.1 q.0 q.1 q.2 in
     least_above (length a.line.now) 80 _ (omega arith) (omega arith)
 
-pub returns-in-Takes-clause-value : goal.returns-in-Takes-clause-value
-returns-in-Takes-clause-value c =
-    let t = takes_is _ _ c.in-Takes.n (sym c.in-Takes.is ∙ c.put-size.ensures.value) in t.0
+-- so it is written
+written : (c : After-put)
+    → let a = c.args in
+    c.put.result ≡ Some (length (together (line_pieces a.name.now a.sequence.now a.field.now a.code.now a.marks.now)))
+written c = c.put.ensures.value ∙ sym (room_takes _ _ (room c))
 
-pub returns-in-Takes-clause-line_after : goal.returns-in-Takes-clause-line_after
-returns-in-Takes-clause-line_after c =
-    let t = takes_is _ _ c.in-Takes.n (sym c.in-Takes.is ∙ c.put-size.ensures.value) in c.put-size.ensures.buffer_after ∙ fitted_takes _ _ _ (room (goal.at.returns-in-Takes-clause-line_after c).After-put-size)
+pub unwrap-requires : goal.unwrap-requires
+unwrap-requires c = ap is_some (written (goal.at.unwrap-requires c).After-put)
 
-pub returns-in-Short : goal.returns-in-Short
-returns-in-Short c = absurd (omega (arith, room (goal.at.returns-in-Short c).After-put-size, short_is _ _ (sym c.in-Short.is ∙ c.put-size.ensures.value)))
+pub returns-clause-value : goal.returns-clause-value
+returns-clause-value c = same_Some _ _ (sym c.unwrap.ensures ∙ written (goal.at.returns-clause-value c).After-put)
+
+pub returns-clause-line_after : goal.returns-clause-line_after
+returns-clause-line_after c = c.put.ensures.buffer_after ∙ fitted_takes _ _ _ (room (goal.at.returns-clause-line_after c).After-put)
 
 pub slice_bounds-front-end : goal.slice_bounds-front-end
 slice_bounds-front-end c = let m = c.requires.name_len_bound.1 in sym (length-take-le 4 c.args.marks.now (omega arith))

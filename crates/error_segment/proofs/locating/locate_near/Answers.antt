@@ -1,13 +1,15 @@
 -- Rests on the walk over the segments, which keeps the names that it passes: those that are left, at each turn.
 use Prim.Native.Nat.{ℕ, ◌+◌, ◌-◌, ◌≤◌}
-use mathlib.Core.Path.{◌≡◌, refl, sym, ap, ◌∙◌}
-use mathlib.Core.List.{[]}
+use mathlib.Core.Path.{◌≡◌, refl, sym, ap, ◌∙◌, subst}
+use mathlib.Core.List.{List, []}
 use lib.ListN.{get_or, take, drop, length-set}
 use lib.Seq.{length-take-le}
 use native.Mathlib.Omega.{arith}
 use borrow.Author.Rules.{rules}
 use Rattle.reading.specs.Segments.{segments}
-use Rattle.error_segment.proofs.LocateLaws.{pass_start, pass_next, pass_faulty, pass_none, from_walk, from_over, empty_here, sequence_there, sequence_none}
+use Rattle.error_segment.specs.Errors.{faulty}
+use Rattle.error_segment.specs.Pieces.{StandsAt}
+use Rattle.error_segment.proofs.LocateLaws.{pass_start, pass_next, pass_faulty, pass_none, from_walk, from_over, sequence_there, sequence_none}
 use Rattle.error_segment.proofs.locating.locate_near.Goals.{After-segment_end-end}
 use Rattle.error_segment.proofs.locating.locate_near.Goals as goal
 
@@ -24,10 +26,10 @@ returns-then-message-end c =
     let m = a.message.now in
     let z = from_over m c.loop-number.start (omega (arith, c.segment_end-end.ensures)) in
     let p = c.loop-number.invariant.2 in
-    let e = c.located_nowhere.ensures in
-    let h = empty_here m c.located_nowhere.result.start c.located_nowhere.result.end (get_or (segments m) a.place []) e.0 e.1
-    (pass_none p z a.place c.loop-number.invariant.0) in
-    (h.0, h.1, h.2, e.2 ∙ sequence_none m (drop c.loop-number.start m) c.loop-number.names c.loop-number.number p z a.place c.loop-number.invariant.0)
+    let e = c.located_nowhere.ensures in (
+      subst (StandsAt m (faulty m a.place)) (sym e.0) (pass_none p z a.place c.loop-number.invariant.0),
+      e.1 ∙ sequence_none m (drop c.loop-number.start m) c.loop-number.names c.loop-number.number p z a.place c.loop-number.invariant.0,
+    )
 
 pub loop-number-preserved : goal.loop-number-preserved
 loop-number-preserved c =
@@ -47,10 +49,8 @@ returns c =
     let p = c.loop-number.invariant.2 in
     let k : c.loop-number.number ≡ a.place = omega arith in
     let e = c.located_at.ensures in (
-      e.0,
-      e.1,
-      e.2 ∙ sym (pass_faulty p) ∙ ap (λ (i : ℕ). get_or (segments m) i []) k,
-      e.3 ∙ sequence_there m (drop c.loop-number.start m) c.loop-number.names c.loop-number.number p a.place k,
+      subst (λ (b : List ℕ). StandsAt m b c.located_at.result.segment) (sym (pass_faulty p) ∙ ap (λ (i : ℕ). get_or (segments m) i []) k) e.0,
+      e.1 ∙ sequence_there m (drop c.loop-number.start m) c.loop-number.names c.loop-number.number p a.place k,
     )
 
 pub slice_bounds-located_nowhere-end-then-message-end : goal.slice_bounds-located_nowhere-end-then-message-end
