@@ -39,7 +39,7 @@ pub fn is_digit(b: u8) -> bool
     (48 <= b) & (b <= 57)
 }
 
-// The number that a hex digit of either case says, or 16 for any other byte, for callers that know or compare it.
+// The number that a hex digit of either case says, or 16 for any other byte: for callers that know that it is one.
 // Others ask `hex_digit_value`.
 pub fn hex_value(b: u8) -> u8
     ensures { result ≡ hex_of b }

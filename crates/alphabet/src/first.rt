@@ -22,7 +22,8 @@ pub fn clear_blocks<const N: usize, F: Fn(&[u8]) -> bool>(bytes: &[u8], is_clear
     requires size { (0 < N) × (N < 65536) }
     requires callable { F.IsAlwaysCallable is_clear }
     ensures within { result ≤ length bytes.now }
-    ensures before { (sought : ℕ → Bool) → Clears (FnReturnsAt F.Fn is_clear) N sought → result ≤ first sought bytes.now }
+    ensures before { (sought : ℕ → Bool) → Clears (FnReturnsAt F.Fn is_clear) N sought
+        → result ≤ first sought bytes.now }
 {
     let (blocks, rest) = bytes.as_chunks::<N>();
     for (i, block) in blocks.iter().enumerate() {

@@ -79,8 +79,8 @@ fn note_end(bytes: &[u8], separator: u8, most: usize, ends: &mut [usize; ROOM], 
     }
 }
 
-// Notes where the parts up to the one of the index `most` end, as far as there is room. The walk ends as soon as there are
-// ends enough.
+// Notes where the parts up to the one of the index `most` end, as far as there is room. The walk ends as soon as there
+// are ends enough.
 pub fn note(bytes: &[u8], separator: u8, most: usize, ends: &mut [usize; ROOM])
     ensures { Noted separator bytes.now most ends.new }
 {

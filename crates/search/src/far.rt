@@ -16,8 +16,8 @@ fn find_far(bytes: &[u8], b: u8) -> usize
     passed + find_by_words(&bytes[passed..], b)
 }
 
-// The place of the first CR, which ends a segment, or the length where there is none. It is the one caller of the search
-// above, which the compiler then makes for this byte alone.
+// The place of the first CR, which ends a segment, or the length where there is none. It is the one caller of the
+// search above, which the compiler then makes for this byte alone.
 pub fn find_return(bytes: &[u8]) -> usize
     ensures { result ≡ find carriage_return bytes.now }
 {

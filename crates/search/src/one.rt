@@ -1,6 +1,6 @@
 // Where one byte first stands, for a byte that stands some dozens of bytes off, as the next escape of a text does.
-// Blocks without it are passed over, and of the block that has it a half and a quarter, so that few bytes are left to be
-// looked at one by one.
+// Blocks without it are passed over, and of the block that has it a half and a quarter, so that few bytes are left to
+// be looked at one by one.
 ghost use Rattle.std.specs.Prelude.{◌≡◌, ◌≤◌, length};
 ghost use Rattle.alphabet.specs.Lists.{find};
 

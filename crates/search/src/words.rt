@@ -38,8 +38,8 @@ pub fn find_two_of_few(bytes: &[u8], one: u8, other: u8) -> usize
     alphabet::first_where(bytes, |byte| (one == byte) | (other == byte))
 }
 
-// The place of the first byte that is one or the other, or the length where there is none. It walks by what is left, and
-// not over `as_chunks`, which takes more where the byte is near.
+// The place of the first byte that is one or the other, or the length where there is none. It walks by what is left,
+// and not over `as_chunks`, which takes more where the byte is near.
 pub fn find_two_by_words(bytes: &[u8], one: u8, other: u8) -> usize
     ensures { result ≡ first (either one other) bytes.now }
 {
