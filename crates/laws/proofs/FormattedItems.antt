@@ -8,6 +8,8 @@ use native.Mathlib.Omega.{arith}
 use lib.Dec.{ltb, eqb}
 use lib.ListN.{length, take, drop}
 use borrow.Author.Tests.{eqb-true}
+use Rattle.alphabet.proofs.CheckLaws.{fails_same}
+use Rattle.std.specs.Prelude.{Option, Some, None, is_some}
 use Rattle.alphabet.specs.Bytes.{printable}
 use Rattle.alphabet.specs.Lists.{first, find, same}
 use Rattle.alphabet.specs.Hex.{all_hex}
@@ -17,10 +19,9 @@ use Rattle.alphabet.proofs.BoolLaws.{false_true}
 use Rattle.escaping.specs.Escape.{escape_of}
 use Rattle.escaping.specs.Outcomes.{Outcome, text, fault}
 use Rattle.text.specs.Unescape.{known, meaning, plain_text, Step, stop, emit, sequence, step, before, after, scan}
-use Rattle.format_commands.specs.declared.numbers.Number.{Number}
-use Rattle.format_commands.specs.declared.numbers.Number.TheVariants.{Missing, Given}
-use Rattle.format_commands.specs.declared.orders.Order.TheVariants.{Unknown, Highlight}
-use Rattle.format_commands.specs.Commands.{digits_of, signed_of, number_of, numbered, order_of, is_order, command}
+use Rattle.format_commands.specs.declared.numbers.Amount.{Amount}
+use Rattle.format_commands.specs.declared.orders.Order.TheVariants.{Highlight}
+use Rattle.format_commands.specs.Commands.{digits_of, signed_of, number_of, numbered, order_of, command}
 use Rattle.format_commands.specs.Items.{Item, byte, order, formatted_text, items_of}
 
 -- ---- "there every sequence below is 12"
@@ -30,22 +31,22 @@ letter_plain : (l : ℕ) → known (l ∷ []) ≡ true → command (l ∷ []) �
 unfolding known command order_of same number_of signed_of digits_of numbered first
 letter_plain l e = rw (and-false (eqb l 46)) (at (eqb l 72) refl (eqb l 78) refl)
   where
-    at : (t : Bool) → eqb l 72 ≡ t → (u : Bool) → eqb l 78 ≡ u → is_order (cond (t && true) Highlight (cond (u && true) Highlight Unknown)) ≡ false
+    at : (t : Bool) → eqb l 72 ≡ t → (u : Bool) → eqb l 78 ≡ u → is_some (cond (t && true) (Some Highlight) (cond (u && true) (Some Highlight) None)) ≡ false
     at true p u q = false_true (sym (ap (λ (k : ℕ). known (k ∷ [])) (eqb-true l 72 p)) ∙ e)
     at false p true q = false_true (sym (ap (λ (k : ℕ). known (k ∷ [])) (eqb-true l 78 q)) ∙ e)
     at false p false q = refl
 
 -- X and more
-numbered_plain : (a : ℕ) (r : List ℕ) (n : Number) → is_order (numbered (88 ∷ a ∷ r) n) ≡ false
+numbered_plain : (a : ℕ) (r : List ℕ) (n : Option Amount) → is_some (numbered (88 ∷ a ∷ r) n) ≡ false
 unfolding numbered same
-numbered_plain a r Missing = refl
-numbered_plain a r (Given n) = refl
+numbered_plain a r None = refl
+numbered_plain a r (Some n) = refl
 
 pairs_plain : (a : ℕ) (r : List ℕ) → command (88 ∷ a ∷ r) ≡ false
 unfolding command order_of same
 pairs_plain a r = at (number_of (drop 3 (88 ∷ a ∷ r)))
   where
-    at : (n : Number) → is_order (numbered (take 3 (88 ∷ a ∷ r)) n) ≡ false
+    at : (n : Option Amount) → is_some (numbered (take 3 (88 ∷ a ∷ r)) n) ≡ false
     at n = numbered_plain a (take 1 r) n
 
 known_plain : (c : List ℕ) → known c ≡ true → command c ≡ false
@@ -132,5 +133,5 @@ items_of_fault ds s k p e n = at (scan plain_text ds 0 0 s) (items_of ds s) (sca
   where
     at : (o : Outcome ℕ) (q : Outcome Item) → AlikeAll o q → o ≡ fault k p → q ≡ fault k p
     at o q (AlikeAll.says u) f = absurd (let z : ◌≡◌ {A = ℕ} 0 1 = cc in omega arith)
-    at o q (AlikeAll.stops j i) f = let a : j ≡ k = cc in let b : i ≡ p = cc in ap (λ (x : Refusal). fault x i) a ∙ ap (fault k) b
-    at o q (AlikeAll.more i x) f = absurd (n (let a : UnknownEscape ≡ k = cc in sym a))
+    at o q (AlikeAll.stops j i) f = let same = fails_same f in let a : j ≡ k = same.0 in let b : i ≡ p = same.1 in ap (λ (x : Refusal). fault x i) a ∙ ap (fault k) b
+    at o q (AlikeAll.more i x) f = absurd (n (sym (fails_same f).0))

@@ -8,6 +8,7 @@ use native.Mathlib.Omega.{arith}
 use lib.Dec.{leb, ltb}
 use lib.ListN.{length}
 use borrow.Author.Tests.{leb-true, lt-ltb, le-ltb, le-leb, lt-leb}
+use Rattle.std.specs.Prelude.{Err, Ok}
 use Rattle.alphabet.specs.Bytes.{is_null}
 use Rattle.alphabet.specs.Delimiters.{first_wrong_delimiter}
 use Rattle.alphabet.specs.declared.answers.Refusal.{Refusal}
@@ -104,8 +105,8 @@ formatted ds s room t e = at (ltb (first_wrong_delimiter ds) 5) (is_null s) e
     line xs none p q f = not_text f
 
     item : (o : Outcome Item) → items_of ds s ≡ o → fitting room (laid_out o) ≡ text t → Formatted ds s room t
-    item (text xs) p f = line xs (lines_of xs) p refl f
-    item (fault k i) p f = not_text f
+    item (Ok xs) p f = line xs (lines_of xs) p refl f
+    item (Err _) p f = not_text f
 
     at : (a b : Bool) → cond a (fault Delimiter (first_wrong_delimiter ds)) (cond b (fault NullText 0) (fitting room (laid_out (items_of ds s)))) ≡ text t → Formatted ds s room t
     at true b f = not_text f

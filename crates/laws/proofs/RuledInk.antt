@@ -6,10 +6,11 @@ use Prim.Native.Nat.{ℕ, zero, suc, ◌+◌, ◌-◌, ◌/◌}
 use native.Mathlib.Omega.{arith}
 use lib.Dec.{leb, eqb}
 use lib.ListN.{length, replicate}
+use Rattle.std.specs.Prelude.{Option, Some, None}
 use Rattle.alphabet.proofs.BoolLaws.{false_true}
 use Rattle.format_commands.specs.Commands.{order_of}
 use Rattle.format_commands.specs.declared.orders.Order.{Order}
-use Rattle.format_commands.specs.declared.orders.Order.TheVariants.{Unknown, Highlight, Break, Centre, Fill, Unfill, Down, Across, Margin, Once}
+use Rattle.format_commands.specs.declared.orders.Order.TheVariants.{Highlight, Break, Centre, Fill, Unfill, Down, Across, Margin, Once}
 use Rattle.format_commands.specs.Items.{Item, byte, order}
 use Rattle.formatting.specs.Sheet.{Sheet, at_first, Laid, laid, unfit, then_laid, blanks, is_empty, shown, end_line, lead, put, end_word, position, note_cr, add_byte, owe, set_left, set_margin, empty_lines, natural, fits, moved, down, obey, of_word, space, quiet, obeyed, move, moves, lines, written, lines_from, lines_of}
 use Rattle.laws.specs.Ruled.{ink, bytes_of}
@@ -115,18 +116,18 @@ keep_if : (b : Bool) (s : Sheet) (xs : List ℕ) → sofar s ≡ xs → Keeps xs
 keep_if true s xs e = e
 keep_if false s xs e = tt
 
-keep_obey : (o : Order) (s : Sheet) → Keeps (sofar s) (obey o s)
+keep_obey : (o : Option Order) (s : Sheet) → Keeps (sofar s) (obey o s)
 unfolding obey sofar
-keep_obey Unknown s = tt
-keep_obey Highlight s = refl
-keep_obey Break s = keep_line s
-keep_obey Centre s = keep_line s
-keep_obey Fill s = refl
-keep_obey Unfill s = refl
-keep_obey (Down a) s = keep_if (natural a) (down a.size s) (sofar s) (keep_down a.size s)
-keep_obey (Across a) s = keep_if (natural a) (owe a.size s) (sofar s) refl
-keep_obey (Margin a) s = keep_if (fits s.margin a) (set_margin (moved s.margin a) s) (sofar s) refl
-keep_obey (Once a) s = keep_if (fits s.margin a) (set_left (moved s.margin a) s) (sofar s) refl
+keep_obey None s = tt
+keep_obey (Some Highlight) s = refl
+keep_obey (Some Break) s = keep_line s
+keep_obey (Some Centre) s = keep_line s
+keep_obey (Some Fill) s = refl
+keep_obey (Some Unfill) s = refl
+keep_obey (Some (Down a)) s = keep_if (natural a) (down a.size s) (sofar s) (keep_down a.size s)
+keep_obey (Some (Across a)) s = keep_if (natural a) (owe a.size s) (sofar s) refl
+keep_obey (Some (Margin a)) s = keep_if (fits s.margin a) (set_margin (moved s.margin a) s) (sofar s) refl
+keep_obey (Some (Once a)) s = keep_if (fits s.margin a) (set_left (moved s.margin a) s) (sofar s) refl
 
 keep_space : (b : ℕ) (cr : Bool) (s : Sheet) → sofar (space b cr s) ≡ sofar s
 unfolding space sofar

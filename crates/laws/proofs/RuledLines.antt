@@ -7,13 +7,14 @@ use native.Mathlib.Omega.{arith}
 use lib.Dec.{leb, eqb}
 use lib.ListN.{length, replicate, length-append, length-replicate}
 use borrow.Author.Tests.{leb-true, eq-eqb, ne_eqb}
+use Rattle.std.specs.Prelude.{Option, Some, None}
 use Rattle.alphabet.specs.Bytes.{ascii}
 use Rattle.alphabet.specs.Lists.{first, find}
 use Rattle.alphabet.specs.Parts.{split}
 use Rattle.alphabet.proofs.BoolLaws.{false_true, and_both, both_and}
 use Rattle.alphabet.proofs.PartLaws.{split_cons, split_last}
 use Rattle.format_commands.specs.declared.orders.Order.{Order}
-use Rattle.format_commands.specs.declared.orders.Order.TheVariants.{Unknown, Highlight, Break, Centre, Fill, Unfill, Down, Across, Margin, Once}
+use Rattle.format_commands.specs.declared.orders.Order.TheVariants.{Highlight, Break, Centre, Fill, Unfill, Down, Across, Margin, Once}
 use Rattle.format_commands.specs.Commands.{order_of}
 use Rattle.format_commands.specs.Items.{Item, byte, order}
 use Rattle.formatting.specs.Sheet.{Sheet, at_first, Laid, laid, unfit, then_laid, blanks, is_empty, shown, end_line, lead, put, end_word, position, note_cr, add_byte, owe, set_left, set_margin, empty_lines, natural, fits, moved, down, obey, of_word, space, quiet, obeyed, move, moves, lines, written, lines_from, lines_of}
@@ -234,18 +235,18 @@ tidy_if : (b : Bool) (s : Sheet) → Tidy s → TidyLaid (cond b (laid s) unfit)
 tidy_if true s t = t
 tidy_if false s t = tt
 
-tidy_obey : (o : Order) (s : Sheet) → Tidy s → TidyLaid (obey o s)
+tidy_obey : (o : Option Order) (s : Sheet) → Tidy s → TidyLaid (obey o s)
 unfolding obey
-tidy_obey Unknown s t = tt
-tidy_obey Highlight s t = t
-tidy_obey Break s t = tidy_line s t
-tidy_obey Centre s t = tidy_as (end_line s) _ (tidy_line s t) refl refl refl
-tidy_obey Fill s t = tidy_as s _ t refl refl refl
-tidy_obey Unfill s t = tidy_as s _ t refl refl refl
-tidy_obey (Down a) s t = tidy_if (natural a) (down a.size s) (tidy_down a.size s t)
-tidy_obey (Across a) s t = tidy_if (natural a) (owe a.size s) (tidy_as s _ t refl refl refl)
-tidy_obey (Margin a) s t = tidy_if (fits s.margin a) (set_margin (moved s.margin a) s) (tidy_as s _ t refl refl refl)
-tidy_obey (Once a) s t = tidy_if (fits s.margin a) (set_left (moved s.margin a) s) (tidy_as s _ t refl refl refl)
+tidy_obey None s t = tt
+tidy_obey (Some Highlight) s t = t
+tidy_obey (Some Break) s t = tidy_line s t
+tidy_obey (Some Centre) s t = tidy_as (end_line s) _ (tidy_line s t) refl refl refl
+tidy_obey (Some Fill) s t = tidy_as s _ t refl refl refl
+tidy_obey (Some Unfill) s t = tidy_as s _ t refl refl refl
+tidy_obey (Some (Down a)) s t = tidy_if (natural a) (down a.size s) (tidy_down a.size s t)
+tidy_obey (Some (Across a)) s t = tidy_if (natural a) (owe a.size s) (tidy_as s _ t refl refl refl)
+tidy_obey (Some (Margin a)) s t = tidy_if (fits s.margin a) (set_margin (moved s.margin a) s) (tidy_as s _ t refl refl refl)
+tidy_obey (Some (Once a)) s t = tidy_if (fits s.margin a) (set_left (moved s.margin a) s) (tidy_as s _ t refl refl refl)
 
 tidy_space : (b : ℕ) (cr : Bool) (s : Sheet) → Tidy s → Tidy (space b cr s)
 unfolding space

@@ -6,10 +6,11 @@ use mathlib.Core.Bool.{Bool, true, false, cond}
 use Prim.Native.Nat.{ℕ, zero, suc, ◌+◌}
 use lib.Dec.{leb, ltb, eqb}
 use lib.ListN.{length, take}
+use Rattle.std.specs.Prelude.{Err, Ok}
 use Rattle.alphabet.specs.Lists.{find}
 use Rattle.alphabet.specs.Bytes.{printable, is_null}
 use Rattle.alphabet.specs.Delimiters.{first_wrong_delimiter}
-use Rattle.alphabet.specs.Answers.{number_of}
+use Rattle.alphabet.specs.Answers.{number_of, number_given}
 use Rattle.alphabet.specs.declared.answers.Refusal.TheVariants.{Delimiter, NotAllowed, Separator, UnknownEscape, UnclosedEscape, NoRoom, NullText}
 use Rattle.escaping.specs.Escape.{escape_of, escape}
 use Rattle.text.specs.Unescape.{Sequences, plain_text, Step, stop, emit, sequence, step, before, after, scan}
@@ -25,16 +26,16 @@ use Rattle.laws.proofs.Among.{among}
 
 -- a text, or a fault with a number of a list
 abbrev pub Told : {A : Type 0} → List ℕ → Outcome A → Type 0
-Told l (text t) = Unit {0}
-Told l (fault k p) = In (number_of k) l
+Told l (Ok t) = Unit {0}
+Told l (Err f) = In (number_of f.kind) l
 
 abbrev Stops : {A : Type 0} → List ℕ → Step A → Type 0
 Stops l (stop k) = In (number_of k) l
 Stops l (emit xs k) = Unit {0}
 
 before_told : {A : Type 0} (l : List ℕ) (xs : List A) (o : Outcome A) → Told l o → Told l (before xs o)
-before_told l xs (text t) h = tt
-before_told l xs (fault k p) h = h
+before_told l xs (Ok t) h = tt
+before_told l xs (Err f) h = h
 
 after_told : {A : Type 0} (l : List ℕ) (t : Step A) (at : ℕ) (rest : ℕ → Outcome A) → Stops l t → ((k : ℕ) → Told l (rest k)) → Told l (after t at rest)
 after_told l (stop k) at rest h m = h
@@ -69,19 +70,19 @@ module _ {A : Type 0} (q : Sequences A) (ds l : List ℕ) (four : In 4 l) (eleve
 
 pub fitting_told : (l : List ℕ) (room : ℕ) (o : Outcome ℕ) → In 14 l → Told l o → Told l (fitting room o)
 unfolding fitting
-fitting_told l room (fault k p) i h = h
-fitting_told l room (text t) i h = at (leb (length t) room)
+fitting_told l room (Err f) i h = h
+fitting_told l room (Ok t) i h = at (leb (length t) room)
   where
     at : (u : Bool) → Told l (cond u (text t) (fault NoRoom 0))
     at true = tt
     at false = i
 
-pub answer_told : (l : List ℕ) (o : Outcome ℕ) → In 0 l → Told l o → In (number_of (answer o).kind) l
+pub answer_told : (l : List ℕ) (o : Outcome ℕ) → In 0 l → Told l o → In (number_given (answer o)) l
 unfolding answer
-answer_told l (text t) z h = z
-answer_told l (fault k p) z h = h
+answer_told l (Ok t) z h = z
+answer_told l (Err f) z h = h
 
-pub escaping_numbers : (ds t : List ℕ) (room : ℕ) → In (number_of (answer (escaping ds t room)).kind) of_escaping
+pub escaping_numbers : (ds t : List ℕ) (room : ℕ) → In (number_given (answer (escaping ds t room))) of_escaping
 unfolding escaping
 escaping_numbers ds t room = answer_told of_escaping (escaping ds t room) (among of_escaping 0 refl) (at (ltb (first_wrong_delimiter ds) 5))
   where
@@ -99,7 +100,7 @@ asked_told ds s l o three fifteen h = at (ltb (first_wrong_delimiter ds) 5) (is_
     at false true = fifteen
     at false false = h
 
-pub unescaping_numbers : (ds s : List ℕ) (room : ℕ) → In (number_of (answer (unescaping ds s room)).kind) of_unescaping
+pub unescaping_numbers : (ds s : List ℕ) (room : ℕ) → In (number_given (answer (unescaping ds s room))) of_unescaping
 unfolding unescaping
 unescaping_numbers ds s room =
     let l = of_unescaping in
@@ -110,14 +111,14 @@ unescaping_numbers ds s room =
 
 laid_told : (l : List ℕ) (o : Outcome Item) → In 42 l → Told l o → Told l (laid_out o)
 unfolding laid_out told
-laid_told l (fault k p) i h = h
-laid_told l (text xs) i h = at (lines_of xs)
+laid_told l (Err f) i h = h
+laid_told l (Ok xs) i h = at (lines_of xs)
   where
     at : (q : Lines) → Told l (told q)
     at (lines t) = tt
     at none = i
 
-pub formatting_numbers : (ds s : List ℕ) (room : ℕ) → In (number_of (answer (formatting ds s room)).kind) of_formatting
+pub formatting_numbers : (ds s : List ℕ) (room : ℕ) → In (number_given (answer (formatting ds s room))) of_formatting
 unfolding formatting
 formatting_numbers ds s room =
     let l = of_formatting in

@@ -1,10 +1,10 @@
 -- What demand 3 says of a refusal by the structure judge: exactly the place, exactly the list.
-use Rattle.std.specs.Prelude.{ℕ, ◌+◌, ◌≤◌, ◌<◌, ◌≡◌, ◌↔◌, cond, List, [], ◌∷◌, ◌++◌, T, ltb, length}
-use Rattle.alphabet.specs.declared.answers.Refusal.TheVariants.{None, SegmentMisplaced, EndedEarly}
+use Rattle.std.specs.Prelude.{ℕ, ◌+◌, ◌≤◌, ◌<◌, ◌≡◌, ◌↔◌, cond, List, [], ◌∷◌, ◌++◌, T, ltb, length, Ok, Err}
+use Rattle.alphabet.specs.declared.answers.Refusal.TheVariants.{SegmentMisplaced, EndedEarly}
 use Rattle.structure.specs.Shapes.{Shape, Yields, Viable, Possible, names, name_at}
 use Rattle.structure.specs.SegmentNames.{kept}
 use Rattle.structure.specs.Listed.{In, Listed}
-use Rattle.fault.specs.Faults.{plain, name_list}
+use Rattle.fault.specs.Faults.{name_list, Judgement}
 use Rattle.structure.specs.Judged.{front}
 use Rattle.fault.specs.declared.FaultRecord.{FaultRecord}
 
@@ -29,6 +29,6 @@ pub record RefusedExactly (s : Shape) (ns : List ℕ) (j : FaultRecord) : Type 0
 
 -- "accepts exactly when the grammar listed for that type, with its optional and repeating groups, can yield the segment
 -- names, once Z segments the structure doesn't name are taken out"
-pub data Exactly (s : Shape) (ns : List ℕ) : FaultRecord → Type 0 where
-  accepted : Yields s (kept (names s) ns) → Exactly s ns (plain None 0)
-  refused : {j : FaultRecord} → RefusedExactly s ns j → Exactly s ns j
+pub data Exactly (s : Shape) (ns : List ℕ) : Judgement → Type 0 where
+  accepted : Yields s (kept (names s) ns) → Exactly s ns (Ok tt)
+  refused : {j : FaultRecord} → RefusedExactly s ns j → Exactly s ns (Err j)

@@ -1,7 +1,7 @@
 -- A number or a time asked of an element: "Asked for its number (NM, SI) or time (DT, TM, TS), an element not present
 -- gives its state alone." "Lookup: a reading fault, 19, then 32 or 37."
 use Rattle.std.specs.Prelude.{ℕ, List, Result, Ok, Err}
-use Rattle.alphabet.specs.Answers.{Refusable}
+use Rattle.alphabet.specs.Answers.{Refusable, number_of}
 use Rattle.alphabet.specs.declared.answers.Fault.{Fault}
 use Rattle.alphabet.specs.declared.answers.Refusal.{Refusal}
 use Rattle.element.specs.Finding.{found, element_bytes}
@@ -54,3 +54,8 @@ ts_found m a = asked_of (found m a) (time_read Ts (element_bytes m a))
 abbrev pub fault_of : NoValue → Fault
 fault_of (NotFound fault) = fault
 fault_of (NotSaid kind) = record { kind = kind; place = 0 }
+
+-- the number that is given back: 0 where nothing is refused
+abbrev pub number_told : {T : Type 0} → Asked T → ℕ
+number_told (Ok _) = 0
+number_told (Err why) = number_of (fault_of why).kind
