@@ -2,7 +2,7 @@
 // fault; the structure judge and the field judge build it alike, and the verdict hands on the first.
 #![tactic(auto)]
 
-ghost use Rattle.std.specs.Prelude.{◌≡◌, [], take};
+ghost use Rattle.std.specs.Prelude.{◌≡◌, ℕ, ◌<◌, List, [], ◌∷◌, ◌++◌, take};
 ghost use Rattle.fault.specs.Faults.{name_list, plain, at_field};
 
 use alphabet::{Fault, Refusal};
@@ -26,6 +26,15 @@ impl Names {
             list: [0; MOST],
             count: 0,
         }
+    }
+
+    // Takes one name more.
+    pub fn push(&mut self, name: u32)
+        requires { self.old.count < 64 }
+        ensures { (l : List ℕ) → self.old ≡ name_list l → self.new ≡ name_list (l ++ name ∷ []) }
+    {
+        self.list[self.count] = name;
+        self.count += 1;
     }
 
     // The names, one behind another.

@@ -3,11 +3,10 @@ use mathlib.Core.Path.{◌≡◌, refl, sym, ap, ◌∙◌, subst}
 use mathlib.Core.Logic.{◌⊎◌, inl, inr, ⊎_elim, ◌↔◌}
 use mathlib.Core.Bool.{Bool, true, false, cond, not, ◌&&◌, ◌||◌}
 use mathlib.Core.List.{List, [], ◌∷◌, ◌++◌, map}
-use Prim.Native.Nat.{ℕ, zero, suc, ◌+◌, ◌-◌, ◌/◌, ◌^◌, ◌≤◌, ◌<◌}
+use Prim.Native.Nat.{ℕ, zero, suc, ◌+◌, ◌/◌, ◌^◌, ◌≤◌, ◌<◌}
 use native.Mathlib.Numerals.{add-one}
 use lib.Bits.{bit_and}
-use lib.ListN.{length, get_or, take, set, replicate, length-append, length-replicate}
-use lib.Seq.{set-append_seam, append_snoc, take-append_seam}
+use lib.ListN.{length, get_or, length-append}
 use native.Mathlib.Decide.{dec_lt}
 use native.Mathlib.Omega.{arith}
 use lib.Dec.{eqb}
@@ -212,10 +211,6 @@ in_list Possible name_at l a n i =
 
 -- ---- one turn of the listing, as the code has it: the names so far stand at the front of an array, and zeros behind them
 
--- names, and zeros up to 64
-abbrev pub filled : List ℕ → List ℕ
-filled l = l ++ replicate (64 - length l) 0
-
 module _ (ns : List ℕ) (set : ℕ) where
   pub listing_short : (k : ℕ) → length (listing ns set k) ≤ k
   unfolding listing
@@ -239,17 +234,3 @@ module _ (ns : List ℕ) (set : ℕ) where
   pub listing_none : listing ns set 0 ≡ []
   unfolding listing
   listing_none = refl
-
--- one name more at the front
-pub filled_more : (l : List ℕ) (x : ℕ) → length l < 64 → set (filled l) (length l) x ≡ filled (l ++ (x ∷ []))
-filled_more l x h =
-    let n : 64 - length l ≡ suc (64 - (length l + 1)) = omega arith in
-    let m : length (l ++ (x ∷ [])) ≡ length l + 1 = length-append l (x ∷ []) in
-    ap (λ (i : ℕ). set (l ++ replicate i 0) (length l) x) n ∙ set-append_seam l 0 (replicate (64 - (length l + 1)) 0) x
-    ∙ sym (append_snoc l x (replicate (64 - (length l + 1)) 0)) ∙ ap (λ (i : ℕ). (l ++ (x ∷ [])) ++ replicate (64 - i) 0) (sym m)
-
-pub filled_front : (l : List ℕ) → take (length l) (filled l) ≡ l
-filled_front l = take-append_seam l (replicate (64 - length l) 0)
-
-pub filled_length : (l : List ℕ) → length l ≤ 64 → length (filled l) ≡ 64
-filled_length l h = let n = length-append l (replicate (64 - length l) 0) in let m = length-replicate {A = ℕ} (64 - length l) 0 in omega arith

@@ -12,20 +12,12 @@ pub fn names_at(names: &[u32], places: u64) -> Names
     requires { length names.now ≤ 64 }
     ensures { result ≡ name_list (listing names.now places (length names.now)) }
 {
-    let mut list = [0u32; 64];
-    let mut count: usize = 0;
-    let mut p: usize = 0;
-    while p < names.len() {
-        let name = names[p];
-        let known = is_among(&list[..count], name);
-        if ((places >> p) & 1 == 1) & !known {
-            list[count] = name;
-            count += 1;
+    let mut listed = Names::none();
+    for (place, name) in names.iter().enumerate() {
+        let known = is_among(listed.as_slice(), *name);
+        if ((places >> place) & 1 == 1) & !known {
+            listed.push(*name);
         }
-        p += 1;
     }
-    Names {
-        list: list,
-        count: count,
-    }
+    listed
 }

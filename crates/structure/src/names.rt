@@ -6,25 +6,17 @@ ghost use Rattle.structure.specs.SegmentNames.{among, passed_over};
 const Z: u32 = 90;
 
 // Whether a name is one of some names.
+#[tactic(auto, using(crate::proofs::NameLaws::any_among))]
 pub fn is_among(names: &[u32], name: u32) -> bool
     ensures { result ≡ among name names.now }
 {
-    let mut i = 0;
-    while i < names.len() {
-        if names[i] == name {
-            return true;
-        }
-        i += 1;
-    }
-    false
+    names.contains(&name)
 }
 
 // Whether a segment of this name is taken out before a message is judged by a structure that has these names.
+#[tactic(auto, unfolding(crate::specs::SegmentNames::passed_over))]
 pub fn is_passed_over(names: &[u32], name: u32) -> bool
     ensures { result ≡ passed_over names.now name }
 {
-    if name / 65536 != Z {
-        return false;
-    }
-    !is_among(names, name)
+    (name / 65536 == Z) && !is_among(names, name)
 }
