@@ -35,8 +35,10 @@ fn conclude(page: Page) -> Result<usize, Fault>
     ensures { result ≡ concluded page }
 {
     fails_if(page.unfit, Refusal::Layout, 0)?;
-    fails_if(page.short, Refusal::NoRoom, 0)?;
-    Ok(page.place)
+    page.place.ok_or(Fault {
+        kind: Refusal::NoRoom,
+        place: 0,
+    })
 }
 
 // Measures the lines of a text, or writes them.

@@ -13,8 +13,8 @@ pub const WIDTH: usize = 200;
 // stand before what is true or false, so that the compiler has no gaps between them to copy.
 #[derive(Clone, Copy)]
 pub struct Page {
-    // how many bytes were written
-    pub place: usize,
+    // how many bytes were written, as long as the room is not too short
+    pub place: Option<usize>,
     pub line: usize,
     pub owed: usize,
     pub word: usize,
@@ -22,8 +22,6 @@ pub struct Page {
     pub left: usize,
     // whether the lines are written, or measured alone
     pub writes: bool,
-    // whether the room was too short for more
-    pub short: bool,
     // whether something could not be laid
     pub unfit: bool,
     pub fill: bool,
@@ -37,14 +35,13 @@ pub fn first_page(writes: bool) -> Page
     ensures { result ≡ first_page writes }
 {
     Page {
-        place: 0,
+        place: Some(0),
         line: 0,
         owed: 0,
         word: 0,
         margin: 0,
         left: 0,
         writes: writes,
-        short: false,
         unfit: false,
         fill: true,
         centre: false,
