@@ -138,7 +138,8 @@ pub fn is_si(bytes: &[u8]) -> bool
     is_some_digits(bytes) & (bytes.len() <= 4)
 }
 
-// The number that one to four digits say. Any other bytes say none, and 0 stands for it.
+// The number that one to four digits say. Any other bytes say none, and 0 stands for it: this never fails, so that who
+// knows of the digits has no case for a refusal, and `read_si` tells the rest.
 pub fn si_value(bytes: &[u8]) -> u64
     ensures { result ≡ si_value bytes.now }
 {
