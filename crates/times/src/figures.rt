@@ -15,7 +15,7 @@ fn two_digits(bytes: &[u8], place: usize) -> u64
 }
 
 // The year that digits begin with, if it was sent.
-#[tactic(auto, using(crate::proofs::JudgeLaws::two_digits, crate::proofs::JudgeLaws::two_below, crate::proofs::JudgeLaws::year_said), unfolding(crate::specs::Times::figure_at))]
+#[tactic(auto, using(crate::proofs::JudgeLaws::year_said), unfolding(crate::specs::Times::figure_at))]
 fn year_of(digits: &[u8]) -> Option<u64>
     requires { all_digits digits.now ≡ true }
     ensures { result ≡ figure_at digits.now 0 4 }
@@ -80,7 +80,7 @@ pub fn clock_of(digits: &[u8], start: usize, tail: &[u8]) -> Clock
 }
 
 // The offset that a zone says: none, or a sign and four digits.
-#[tactic(auto, using(crate::proofs::FigureLaws::offset_not, crate::proofs::FigureLaws::offset_minus, crate::proofs::FigureLaws::offset_plus))]
+#[tactic(auto, unfolding(crate::specs::Times::offset_of))]
 pub fn offset_of(zone: &[u8]) -> Option<Offset>
     requires zone_value { all_digits (drop 1 zone.now) ≡ true }
     requires zone_len { (length zone.now ≡ 0 → ⊥) → length zone.now ≡ 5 }

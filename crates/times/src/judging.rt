@@ -1,5 +1,5 @@
-// Whether bytes are a DT, a TM or a TS. No time is made of them: their form is looked at part by part, and the first part
-// that breaks it ends the look.
+// Whether bytes are a DT, a TM or a TS. No time is made of them: their form is looked at part by part, and the first
+// part that breaks it ends the look.
 ghost use Rattle.std.specs.Prelude.{◌≡◌, true, [], ◌≤◌, ◌&&◌, length};
 ghost use Rattle.alphabet.specs.Digits.{all_digits};
 ghost use Rattle.calendar.specs.Calendar.{valid_date, valid_clock};
@@ -53,7 +53,8 @@ fn is_clock(digits: &[u8], start: usize) -> bool
 #[inline(always)]
 fn is_moment(form: Form, front: &[u8]) -> bool
     requires { all_digits front.now ≡ true }
-    ensures { result ≡ (valid_date (date_in form front.now) && valid_clock (clock_of front.now (layout_of form).clock [])) }
+    ensures { result ≡
+        (valid_date (date_in form front.now) && valid_clock (clock_of front.now (layout_of form).clock [])) }
 {
     match form {
         Form::Tm => is_clock(front, 0),
