@@ -255,6 +255,7 @@ impl From<Option<Offset>> for COffset {
 impl From<Result<Value<Time>, NoValue>> for CTime {
     ghost from_gives = { λ asked r. r ≡ time_seen asked };
 
+    #[inline(always)]
     fn from(asked: Result<Value<Time>, NoValue>) -> CTime {
         let time = said(asked).unwrap_or(NO_TIME);
         CTime {
