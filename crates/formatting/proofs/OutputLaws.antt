@@ -13,7 +13,7 @@ use Rattle.alphabet.specs.Filling.{over, pasted, put_at, behind}
 use Rattle.alphabet.proofs.FillingLaws.{fill_more, fill_end, fill_from, fill_from_end, fill_length, put_fits, put_none}
 use Rattle.formatting.specs.declared.page.Page.{Page}
 use Rattle.formatting.specs.Sheet.{blanks}
-use Rattle.formatting.specs.Pages.{out_with, new_line, spent, indent_of, shown_of, Within, Output, Wrote}
+use Rattle.formatting.specs.Pages.{out_with, new_line, spent, indent_of, shown_of, Output, Wrote}
 
 -- ---- into a buffer
 
@@ -92,21 +92,6 @@ no_place q = absurd (let z : ◌≡◌ {A = ℕ} 0 1 = cc in omega arith)
 either : (t : Bool) (x : List ℕ) → cond t x x ≡ x
 either true x = refl
 either false x = refl
-
--- where no place is left nothing is written
-pub none_wrote : (xs d : List ℕ) (c : Page) → c.place ≡ None → Wrote xs c d c d
-none_wrote xs d c e =
-    record {
-      within = subst (λ (p : Option ℕ). Within p (length d)) (sym e) tt;
-      size = refl;
-      still = λ (w : c.writes ≡ false). refl;
-      output = λ (d₀ out : List ℕ) (n : length d ≡ length d₀) (o : Output d₀ out c.writes c.place d).
-          record {
-            done = λ (k : ℕ) (q : c.place ≡ Some k). absurd (no_place (sym e ∙ q));
-            holds = λ (k : ℕ) (q : c.place ≡ Some k) (w : c.writes ≡ true). absurd (no_place (sym e ∙ q));
-            beyond = λ (q : c.place ≡ None). let a = length-append out xs in let b = o.beyond q in omega arith;
-          };
-    }
 
 module _ (xs d : List ℕ) (c : Page) (at : ℕ) (here : c.place ≡ Some at) (h : at ≤ length d) where
   short_wrote : (d' : List ℕ) → ltb (length d - at) (length xs) ≡ true → d' ≡ cond c.writes (put_at d at xs) d → Wrote xs c d (out_with None c) d'

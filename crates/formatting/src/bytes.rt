@@ -1,5 +1,5 @@
 // Bytes of a text on the page: those of a word, blanks, and the ends of lines; and runs of them.
-ghost use Rattle.std.specs.Prelude.{◌≡◌, true, false, [], ◌∷◌, map, ◌≤◌, ◌<◌};
+ghost use Rattle.std.specs.Prelude.{◌≡◌, true, false, [], ◌∷◌, map};
 ghost use Rattle.alphabet.specs.Hex.{all_hex, pairs_of};
 ghost use Rattle.text.specs.Unescape.{known, meaning};
 ghost use Rattle.format_commands.specs.Items.{byte};
@@ -44,13 +44,6 @@ pub fn take_byte(page: Page, line: &mut [u8], buffer: &mut [u8], b: u8) -> Page
     take_space(page, line, buffer, b)
 }
 
-// The smaller of two numbers.
-fn smaller(a: usize, b: usize) -> usize
-    ensures { (result ≤ a) × (result ≤ b) × (0 < a → 0 < b → 0 < result) }
-{
-    if a < b { a } else { b }
-}
-
 // Bytes that stand plainly and go on past the line's end: as many at each turn as fit on the line, or one where none
 // fits. Once something could not be laid nothing is laid behind it, so that a document that is no text costs little.
 fn take_long(page: Page, line: &mut [u8], buffer: &mut [u8], run: &[u8]) -> Page
@@ -69,7 +62,7 @@ fn take_long(page: Page, line: &mut [u8], buffer: &mut [u8], run: &[u8]) -> Page
             p = take_byte(p, line, buffer, run[i]);
             i += 1;
         } else {
-            let end = i + smaller(WIDTH - reach, run.len() - i);
+            let end = i + (WIDTH - reach).min(run.len() - i);
             p = append(p, line, buffer, &run[i..end]);
             i = end;
         }

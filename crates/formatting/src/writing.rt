@@ -29,11 +29,8 @@ pub fn fill(buffer: &mut [u8], at: usize, n: usize, b: u8)
     if buffer.len() - at < n {
         return;
     }
-    let mut i = 0;
-    while i < n {
-        buffer[at + i] = b;
-        i += 1;
-    }
+    let end = at + n;
+    buffer[at..end].fill(b);
 }
 
 // Writes blanks, bytes and LFs, one behind another, into the buffer from `at` on: all of them, where lines are written

@@ -31,21 +31,18 @@ pub append-p-requires : goal.append-p-requires
 append-p-requires c =
     let l = c.loop-i in
     let u = c.args.run.now in
-    let n = c.smaller.ensures in
-    let less = n.0 in
-    let within = n.1 in
-    let some = n.2 (omega arith) (omega arith) in
+    let n = c.min.ensures in
     let e = c.reach-reach.ensures in
     let d = length-drop l.i u in
-    let x = length-take-le ((l.i + c.smaller.result) - l.i) (drop l.i u) (omega arith) in
-    (l.invariant.1.sound, omega arith, omega arith, clear_take ((l.i + c.smaller.result) - l.i) (drop l.i u) (clear_drop l.i u c.requires.1))
+    let x = length-take-le ((l.i + c.min.result) - l.i) (drop l.i u) (omega arith) in
+    (l.invariant.1.sound, omega arith, omega arith, clear_take ((l.i + c.min.result) - l.i) (drop l.i u) (clear_drop l.i u c.requires.1))
 
 pub loop-i-preserved : goal.loop-i-preserved
 loop-i-preserved c =
     let l = c.loop-i in
     let u = c.args.run.now in
-    let n = c.smaller.result in
-    let within = c.smaller.ensures.1 in
+    let n = c.min.result in
+    let m = c.min.ensures in
     let e : n ≡ (l.i + n) - l.i = omega arith in
     (omega arith, follows_bytes (take l.i u) _ (take (l.i + n) u) (sym (take-add l.i n u ∙ ap (λ (k : ℕ). take l.i u ++ take k (drop l.i u)) e)) l.invariant.1 c.append-p.ensures)
 
@@ -63,16 +60,16 @@ returns c =
     subst (λ v. Follows (map byte v) a.page a.line.now a.buffer.now l.p l.line l.buffer) (take_all l.i u (omega arith)) l.invariant.1
 
 pub overflow_add-end : goal.overflow_add-end
-overflow_add-end c = let s = c.smaller.ensures.1 in omega arith
+overflow_add-end c = omega (arith, c.min.ensures)
 
 pub slice_bounds-append-count : goal.slice_bounds-append-count
-slice_bounds-append-count c = let s = c.smaller.ensures.1 in omega arith
+slice_bounds-append-count c = omega (arith, c.min.ensures)
 
 pub slice_bounds-append-start : goal.slice_bounds-append-start
-slice_bounds-append-start c = let s = c.smaller.ensures.1 in omega arith
+slice_bounds-append-start c = omega (arith, c.min.ensures)
 
 pub slice_bounds-append-end : goal.slice_bounds-append-end
-slice_bounds-append-end c = let s = c.smaller.ensures.1 in omega arith
+slice_bounds-append-end c = omega (arith, c.min.ensures)
 
 pub loop-i-smaller : goal.loop-i-smaller
-loop-i-smaller c = let n = c.smaller.ensures in let s = n.1 in let t = n.2 (omega arith) (omega arith) in omega arith
+loop-i-smaller c = omega (arith, c.min.ensures)
