@@ -72,17 +72,11 @@ fn put_parts(
         (marks_of delimiters.bytes))) line.old }
 {
     let marks = marks_of(delimiters);
-    let sequence_start = sequence.start;
-    let sequence_digits = sequence.digits;
-    let field_start = field.start;
-    let field_digits = field.digits;
-    let code_start = code.start;
-    let code_digits = code.digits;
     put_line(
         name,
-        &sequence_digits[sequence_start..],
-        &field_digits[field_start..],
-        &code_digits[code_start..],
+        sequence.as_slice(),
+        field.as_slice(),
+        code.as_slice(),
         &marks,
         line,
     )

@@ -84,18 +84,16 @@ fn locate_near(message: &[u8], place: usize, names: &mut [u32]) -> Located
     requires place_bound { place ≤ 4096 }
     ensures { LocatedAt message.now place result }
 {
-    let mut number = 0;
     let mut start = 0;
-    while number < place {
+    for number in 0..place {
         let end = reading::segment_end(message, start);
         if message.len() <= end {
             return located_nowhere(&names[..number]);
         }
         names[number] = reading::name_of(&message[start..end]);
-        number += 1;
         start = end + 1;
     }
-    located_at(message, start, &names[..number])
+    located_at(message, start, &names[..place])
 }
 
 // How many segments up to and with that of a number have the name: one walk.

@@ -1,6 +1,6 @@
 // Numbers as they are written, in digits. A number of 64 bits takes twenty of them at most; they are written from the
 // last on, so that nothing has to be measured first.
-ghost use Rattle.std.specs.Prelude.{◌≡◌, ◌≤◌, []};
+ghost use Rattle.std.specs.Prelude.{◌≡◌, ◌≤◌, [], length};
 ghost use Rattle.error_segment.specs.Numerals.{numeral};
 ghost use Rattle.error_segment.specs.Pieces.{said};
 
@@ -9,6 +9,16 @@ ghost use Rattle.error_segment.specs.Pieces.{said};
 pub struct Numeral {
     pub digits: [u8; 20],
     pub start: usize,
+}
+
+impl Numeral {
+    // The digits.
+    pub fn as_slice(&self) -> &[u8]
+        requires { self.now.start ≤ 20 }
+        ensures { (result.now ≡ said self.now) × (length result.now ≤ 20) }
+    {
+        &self.digits[self.start..]
+    }
 }
 
 // No digits, for what stays empty.

@@ -1,70 +1,29 @@
--- Rests on the digits of each numeral being a part of its twenty.
+-- Rests on the digits that each numeral gives.
 use mathlib.Core.Path.{◌≡◌, ap, ◌∙◌}
 use mathlib.Core.List.{List}
 use Prim.Native.Nat.{ℕ}
 use lib.ListN.{length}
-use borrow.Author.Rules.{rules}
 use Rattle.alphabet.specs.Filling.{over}
 use Rattle.together.specs.Together.{together}
 use Rattle.error_segment.specs.Pieces.{said, marks_of, line_pieces}
-use Rattle.error_segment.proofs.ErrorLaws.{tail_whole, tail_short}
-use Rattle.error_segment.proofs.lines.put_parts.Goals.{After-marks_of-marks}
+use Rattle.error_segment.proofs.lines.put_parts.Goals.{After-put_line}
 use Rattle.error_segment.proofs.lines.put_parts.Goals as goal
 
-pub slice_bounds-put_line-end : goal.slice_bounds-put_line-end
-slice_bounds-put_line-end c =
-    let a = c.args.sequence in
-    let n : length a.digits ≡ 20 = search rules in
-    search rules
-
-pub slice_bounds-put_line-end-2 : goal.slice_bounds-put_line-end-2
-slice_bounds-put_line-end-2 c =
-    let a = c.args.field in
-    let n : length a.digits ≡ 20 = search rules in
-    search rules
-
-pub slice_bounds-put_line-end-3 : goal.slice_bounds-put_line-end-3
-slice_bounds-put_line-end-3 c =
-    let a = c.args.code in
-    let n : length a.digits ≡ 20 = search rules in
-    search rules
-
--- each numeral has twenty digits, of which those from its start on are told
-twenty : (c : After-marks_of-marks)
-    → let a = c.args in
-    (length a.sequence.digits ≡ 20) × (length a.field.digits ≡ 20) × (length a.code.digits ≡ 20)
-twenty c = (search rules, search rules, search rules)
-
 pub put_line-requires-clause-name_len_bound : goal.put_line-requires-clause-name_len_bound
-put_line-requires-clause-name_len_bound c =
-    let a = c.args in
-    let n = twenty (goal.at.put_line-requires-clause-name_len_bound c).After-marks_of-marks in (c.requires.name_len_bound.0, ap length c.marks_of-marks.ensures, c.requires.name_len_bound.1)
+put_line-requires-clause-name_len_bound c = (c.requires.name_len_bound.0, ap length c.marks_of-marks.ensures, c.requires.name_len_bound.1)
 
 pub put_line-requires-clause-sequence_len_bound : goal.put_line-requires-clause-sequence_len_bound
-put_line-requires-clause-sequence_len_bound c =
-    let a = c.args in
-    let n = twenty (goal.at.put_line-requires-clause-sequence_len_bound c).After-marks_of-marks in (
-      tail_short a.sequence.digits 20 a.sequence.start n.0 c.requires.start_bound.0,
-      tail_short a.field.digits 20 a.field.start n.1 c.requires.start_bound.1,
-      tail_short a.code.digits 20 a.code.start n.2 c.requires.start_bound.2,
-    )
+put_line-requires-clause-sequence_len_bound c = (c.as_slice.ensures.1, c.as_slice-2.ensures.1, c.as_slice-3.ensures.1)
+
+-- the pieces that are put
+pieces : (c : After-put_line)
+    → let a = c.args in
+    line_pieces a.name.now c.as_slice.result.now c.as_slice-2.result.now c.as_slice-3.result.now c.marks_of-marks.result
+    ≡ line_pieces a.name.now (said a.sequence) (said a.field) (said a.code) (marks_of a.delimiters.bytes)
+pieces c = λ i. line_pieces c.args.name.now (c.as_slice.ensures.0 i) (c.as_slice-2.ensures.0 i) (c.as_slice-3.ensures.0 i) (c.marks_of-marks.ensures i)
 
 pub returns-clause-value : goal.returns-clause-value
-returns-clause-value c =
-    let a = c.args in
-    let n = twenty (goal.at.returns-clause-value c).After-marks_of-marks in
-    let x = tail_whole a.sequence.digits 20 a.sequence.start n.0 c.requires.start_bound.0 in
-    let y = tail_whole a.field.digits 20 a.field.start n.1 c.requires.start_bound.1 in
-    let z = tail_whole a.code.digits 20 a.code.start n.2 c.requires.start_bound.2 in
-    let e : line_pieces a.name.now _ _ _ c.marks_of-marks.result ≡ line_pieces a.name.now (said a.sequence) (said a.field) (said a.code) (marks_of a.delimiters.bytes) =
-    λ i. line_pieces a.name.now (x i) (y i) (z i) (c.marks_of-marks.ensures i) in c.put_line.ensures.value ∙ ap (λ (l : List (List ℕ)). length (together l)) e
+returns-clause-value c = c.put_line.ensures.value ∙ ap (λ (l : List (List ℕ)). length (together l)) (pieces (goal.at.returns-clause-value c).After-put_line)
 
 pub returns-clause-line_after : goal.returns-clause-line_after
-returns-clause-line_after c =
-    let a = c.args in
-    let n = twenty (goal.at.returns-clause-line_after c).After-marks_of-marks in
-    let x = tail_whole a.sequence.digits 20 a.sequence.start n.0 c.requires.start_bound.0 in
-    let y = tail_whole a.field.digits 20 a.field.start n.1 c.requires.start_bound.1 in
-    let z = tail_whole a.code.digits 20 a.code.start n.2 c.requires.start_bound.2 in
-    let e : line_pieces a.name.now _ _ _ c.marks_of-marks.result ≡ line_pieces a.name.now (said a.sequence) (said a.field) (said a.code) (marks_of a.delimiters.bytes) =
-    λ i. line_pieces a.name.now (x i) (y i) (z i) (c.marks_of-marks.ensures i) in c.put_line.ensures.line_after ∙ ap (λ (l : List (List ℕ)). over (together l) a.line.now) e
+returns-clause-line_after c = c.put_line.ensures.line_after ∙ ap (λ (l : List (List ℕ)). over (together l) c.args.line.now) (pieces (goal.at.returns-clause-line_after c).After-put_line)

@@ -1,13 +1,14 @@
 -- Rests on the walk over the segments, which keeps the names that it passes: those that are left, at each turn.
 use Prim.Native.Nat.{ℕ, ◌+◌, ◌-◌, ◌≤◌}
 use mathlib.Core.Path.{◌≡◌, refl, sym, ap, ◌∙◌, subst}
-use mathlib.Core.List.{List, []}
+use mathlib.Core.List.{List, [], ◌++◌}
 use lib.ListN.{get_or, take, drop, length-set}
 use lib.Seq.{length-take-le}
 use native.Mathlib.Omega.{arith}
 use borrow.Author.Rules.{rules}
-use Rattle.reading.specs.Segments.{segments}
-use Rattle.error_segment.specs.Errors.{faulty}
+use Rattle.reading.specs.Segments.{segments, name_of}
+use Rattle.structure.specs.SegmentNames.{segment_names}
+use Rattle.error_segment.specs.Errors.{faulty, count_of}
 use Rattle.error_segment.specs.Pieces.{StandsAt}
 use Rattle.error_segment.proofs.LocateLaws.{pass_start, pass_next, pass_faulty, pass_none, from_walk, from_over, sequence_there, sequence_none}
 use Rattle.error_segment.proofs.locating.locate_near.Goals.{After-segment_end-end}
@@ -50,7 +51,8 @@ returns c =
     let k : c.loop-number.number ≡ a.place = omega arith in
     let e = c.located_at.ensures in (
       subst (λ (b : List ℕ). StandsAt m b c.located_at.result.segment) (sym (pass_faulty p) ∙ ap (λ (i : ℕ). get_or (segments m) i []) k) e.0,
-      e.1 ∙ sequence_there m (drop c.loop-number.start m) c.loop-number.names c.loop-number.number p a.place k,
+      e.1 ∙ ap (λ (i : ℕ). count_of (name_of (faulty (drop c.loop-number.start m) 0)) (take i c.loop-number.names ++ take 1 (segment_names (drop c.loop-number.start m)))) (sym k)
+          ∙ sequence_there m (drop c.loop-number.start m) c.loop-number.names c.loop-number.number p a.place k,
     )
 
 pub slice_bounds-located_nowhere-end-then-message-end : goal.slice_bounds-located_nowhere-end-then-message-end
@@ -66,7 +68,7 @@ pub slice_bounds-name_of-end : goal.slice_bounds-name_of-end
 slice_bounds-name_of-end c = let i = inside (goal.at.slice_bounds-name_of-end c).After-segment_end-end in search rules
 
 pub slice_bounds-located_at-end-2 : goal.slice_bounds-located_at-end-2
-slice_bounds-located_at-end-2 c = let l = c.loop-number in sym (length-take-le l.number l.names (omega arith))
+slice_bounds-located_at-end-2 c = let l = c.loop-number in sym (length-take-le c.args.place l.names (omega arith))
 
 pub located_at-requires : goal.located_at-requires
-located_at-requires c = let l = c.loop-number in let n = length-take-le l.number l.names (omega arith) in omega arith
+located_at-requires c = let l = c.loop-number in let n = length-take-le c.args.place l.names (omega arith) in omega arith
