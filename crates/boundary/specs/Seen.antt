@@ -1,8 +1,7 @@
 -- The library's answers as C sees them: a refusal by its number in the table, a state and a sign by a number each.
 -- Every answer of the boundary is one of the library's, seen so.
-use Rattle.std.specs.Prelude.{ℕ, ◌≡◌, List, get_or}
-use Rattle.alphabet.specs.Answers.{number_of}
-use Rattle.alphabet.specs.declared.answers.Answer.{Answer}
+use Rattle.std.specs.Prelude.{ℕ, ◌≡◌, List, [], get_or, false, Result, Ok, Err}
+use Rattle.alphabet.specs.Answers.{Refusable, Check, number_of, number_given, place_given, length_given}
 use Rattle.structure.specs.Judged.{Answers}
 use Rattle.fault.specs.declared.FaultRecord.{FaultRecord}
 use Rattle.verdict.specs.Verdicts.{Verdicts}
@@ -12,16 +11,23 @@ use Rattle.boundary.specs.declared.judges.CStructure.{CStructure}
 use Rattle.boundary.specs.declared.judges.CVerdict.{CVerdict}
 
 -- the table's number, the place and the length
-abbrev pub seen : Answer → CAnswer
-seen a = record { number = number_of a.kind; place = a.place; length = a.length }
+abbrev pub seen : Refusable ℕ → CAnswer
+seen r = record { number = number_given r; place = place_given r; length = length_given r }
+
+-- the same where nothing is given
+abbrev pub seen_check : Check → CAnswer
+seen_check c = record { number = number_given c; place = place_given c; length = 0 }
 
 -- ---- judges
 
-abbrev pub structure_seen : FaultRecord → CStructure
-structure_seen j = record { number = number_of j.kind; could_end = j.could_end; place = j.place; names = j.names.count }
+-- what is accepted has number 0, place 0 and no names
+abbrev pub structure_seen : Result (Unit {0}) FaultRecord → CStructure
+structure_seen (Ok _) = record { number = 0; could_end = false; place = 0; names = 0 }
+structure_seen (Err j) = record { number = number_of j.kind; could_end = j.could_end; place = j.place; names = j.names.count }
 
-abbrev pub verdict_seen : FaultRecord → CVerdict
-verdict_seen v = record {
+abbrev pub verdict_seen : Result (Unit {0}) FaultRecord → CVerdict
+verdict_seen (Ok _) = record { number = 0; could_end = false; place = 0; field = 0; repetition = 0; names = 0 }
+verdict_seen (Err v) = record {
   number = number_of v.kind;
   could_end = v.could_end;
   place = v.place;
@@ -30,27 +36,32 @@ verdict_seen v = record {
   names = v.names.count;
 }
 
+-- the names that could have stood, where there is a fault
+abbrev pub names_listed : Result (Unit {0}) FaultRecord → List ℕ
+names_listed (Ok _) = []
+names_listed (Err j) = j.names.list
+
 -- what is seen is the structure judge's answer
 pub record StructureSeen (m : List ℕ) (r : CStructure) : Type 0 where
-  pub judgement : FaultRecord
+  pub judgement : Result (Unit {0}) FaultRecord
   pub answers : Answers m judgement
   pub seen_as : r ≡ structure_seen judgement
 
 -- what is seen is the verdict
 pub record VerdictSeen (m : List ℕ) (r : CVerdict) : Type 0 where
-  pub fault : FaultRecord
-  pub answers : Verdicts m fault
-  pub seen_as : r ≡ verdict_seen fault
+  pub verdict : Result (Unit {0}) FaultRecord
+  pub answers : Verdicts m verdict
+  pub seen_as : r ≡ verdict_seen verdict
 
 -- the name of a number in the structure judge's list, and 0 past its end
 pub record NameSeen (m : List ℕ) (index r : ℕ) : Type 0 where
-  pub judgement : FaultRecord
+  pub judgement : Result (Unit {0}) FaultRecord
   pub answers : Answers m judgement
-  pub seen_as : r ≡ get_or judgement.names.list index 0
+  pub seen_as : r ≡ get_or (names_listed judgement) index 0
 
 -- ---- the acknowledgement
 
 pub record AcknowledgeSeen (m time id lent : List ℕ) (r : CAnswer) (left : List ℕ) : Type 0 where
-  pub answer : Answer
+  pub answer : Refusable ℕ
   pub acknowledges : Acknowledges m time id lent answer left
   pub seen_as : r ≡ seen answer

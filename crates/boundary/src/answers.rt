@@ -1,10 +1,9 @@
 // What every answer has in common: the number of the refusal, and its place.
 ghost use Rattle.std.specs.Prelude.{◌≡◌};
-ghost use Rattle.alphabet.specs.Answers.{answered};
 ghost use Rattle.reading.specs.Reading.{reading};
-ghost use Rattle.boundary.specs.Seen.{seen};
+ghost use Rattle.boundary.specs.Seen.{seen, seen_check};
 
-use alphabet::Answer;
+use alphabet::Fault;
 
 // A number of the table, 0 where nothing was refused; its place; and the length of what was written.
 #[repr(C)]
@@ -15,22 +14,53 @@ pub struct CAnswer {
     pub length: usize,
 }
 
-// An answer as C sees it.
-pub fn shown(answer: Answer) -> CAnswer
-    ensures { result ≡ seen answer }
+// A refusal as C sees it.
+fn refused(fault: Fault) -> CAnswer
+    ensures { result ≡ seen (Err fault) }
 {
-    let kind = answer.kind;
     CAnswer {
-        number: alphabet::number(kind) as u32,
-        place: answer.place,
-        length: answer.length,
+        number: u32::from(u8::from(fault.kind)),
+        place: fault.place,
+        length: 0,
+    }
+}
+
+// An answer that gives a length, as C sees it.
+impl From<Result<usize, Fault>> for CAnswer {
+    ghost from_gives = { λ answer r. r ≡ seen answer };
+
+    fn from(answer: Result<usize, Fault>) -> CAnswer {
+        match answer {
+            Ok(length) => CAnswer {
+                number: 0,
+                place: 0,
+                length,
+            },
+            Err(fault) => refused(fault),
+        }
+    }
+}
+
+// One that gives nothing has length 0.
+impl From<Result<(), Fault>> for CAnswer {
+    ghost from_gives = { λ check r. r ≡ seen_check check };
+
+    fn from(check: Result<(), Fault>) -> CAnswer {
+        match check {
+            Ok(()) => CAnswer {
+                number: 0,
+                place: 0,
+                length: 0,
+            },
+            Err(fault) => refused(fault),
+        }
     }
 }
 
 // Reads a message: 0, or 1 to 8 and the byte.
 #[unsafe(no_mangle)]
 pub extern "C" fn turrethog_read(message: &[u8]) -> CAnswer
-    ensures { result ≡ seen (answered (reading message.now)) }
+    ensures { result ≡ seen_check (reading message.now) }
 {
-    shown(reading::read(message))
+    CAnswer::from(reading::read(message))
 }

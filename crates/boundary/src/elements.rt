@@ -21,7 +21,7 @@ pub extern "C" fn turrethog_find(
         (found message.now (address_of segment field repetition component subcomponent)) }
 {
     let address = seen::address_of(segment, field, repetition, component, subcomponent);
-    seen::element_shown(element::find(message, address))
+    CElement::from(element::find(message, address))
 }
 
 // The number (NM) that an element says.
@@ -38,7 +38,7 @@ pub extern "C" fn turrethog_nm(
         (nm_found message.now (address_of segment field repetition component subcomponent)) }
 {
     let address = seen::address_of(segment, field, repetition, component, subcomponent);
-    seen::number_shown(value::nm(message, address))
+    CNumber::from(value::nm(message, address))
 }
 
 // The sequence number (SI) that an element says.
@@ -55,7 +55,7 @@ pub extern "C" fn turrethog_si(
         (si_found message.now (address_of segment field repetition component subcomponent)) }
 {
     let address = seen::address_of(segment, field, repetition, component, subcomponent);
-    seen::number_shown(value::si(message, address))
+    CNumber::from(value::si(message, address))
 }
 
 // The date (DT) that an element says.
@@ -72,7 +72,7 @@ pub extern "C" fn turrethog_dt(
         (dt_found message.now (address_of segment field repetition component subcomponent)) }
 {
     let address = seen::address_of(segment, field, repetition, component, subcomponent);
-    seen::time_shown(value::dt(message, address))
+    CTime::from(value::dt(message, address))
 }
 
 // The time of day (TM) that an element says.
@@ -89,7 +89,7 @@ pub extern "C" fn turrethog_tm(
         (tm_found message.now (address_of segment field repetition component subcomponent)) }
 {
     let address = seen::address_of(segment, field, repetition, component, subcomponent);
-    seen::time_shown(value::tm(message, address))
+    CTime::from(value::tm(message, address))
 }
 
 // The time stamp (TS) that an element says.
@@ -106,5 +106,5 @@ pub extern "C" fn turrethog_ts(
         (ts_found message.now (address_of segment field repetition component subcomponent)) }
 {
     let address = seen::address_of(segment, field, repetition, component, subcomponent);
-    seen::time_shown(value::ts(message, address))
+    CTime::from(value::ts(message, address))
 }

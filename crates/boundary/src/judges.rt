@@ -28,31 +28,51 @@ pub struct CVerdict {
     pub names: usize,
 }
 
-fn structure_shown(found: FaultRecord) -> CStructure
-    ensures { result ≡ structure_seen found }
-{
-    let kind = found.kind;
-    let names = found.names;
-    CStructure {
-        number: alphabet::number(kind) as u32,
-        could_end: found.could_end,
-        place: found.place,
-        names: names.count,
+// What the structure judge says, as C sees it.
+impl From<Result<(), FaultRecord>> for CStructure {
+    ghost from_gives = { λ judgement r. r ≡ structure_seen judgement };
+
+    fn from(judgement: Result<(), FaultRecord>) -> CStructure {
+        match judgement {
+            Ok(()) => CStructure {
+                number: 0,
+                could_end: false,
+                place: 0,
+                names: 0,
+            },
+            Err(fault) => CStructure {
+                number: u32::from(u8::from(fault.kind)),
+                could_end: fault.could_end,
+                place: fault.place,
+                names: fault.names.count,
+            },
+        }
     }
 }
 
-fn verdict_shown(found: FaultRecord) -> CVerdict
-    ensures { result ≡ verdict_seen found }
-{
-    let kind = found.kind;
-    let names = found.names;
-    CVerdict {
-        number: alphabet::number(kind) as u32,
-        could_end: found.could_end,
-        place: found.place,
-        field: found.field,
-        repetition: found.repetition,
-        names: names.count,
+// The verdict, as C sees it.
+impl From<Result<(), FaultRecord>> for CVerdict {
+    ghost from_gives = { λ verdict r. r ≡ verdict_seen verdict };
+
+    fn from(verdict: Result<(), FaultRecord>) -> CVerdict {
+        match verdict {
+            Ok(()) => CVerdict {
+                number: 0,
+                could_end: false,
+                place: 0,
+                field: 0,
+                repetition: 0,
+                names: 0,
+            },
+            Err(fault) => CVerdict {
+                number: u32::from(u8::from(fault.kind)),
+                could_end: fault.could_end,
+                place: fault.place,
+                field: fault.field,
+                repetition: fault.repetition,
+                names: fault.names.count,
+            },
+        }
     }
 }
 
@@ -61,7 +81,7 @@ fn verdict_shown(found: FaultRecord) -> CVerdict
 pub extern "C" fn turrethog_structure(message: &[u8]) -> CStructure
     ensures { StructureSeen message.now result }
 {
-    structure_shown(structure::judge_structure(message))
+    CStructure::from(structure::judge_structure(message))
 }
 
 // The verdict on a message.
@@ -69,7 +89,7 @@ pub extern "C" fn turrethog_structure(message: &[u8]) -> CStructure
 pub extern "C" fn turrethog_verdict(message: &[u8]) -> CVerdict
     ensures { VerdictSeen message.now result }
 {
-    verdict_shown(verdict::verdict(message))
+    CVerdict::from(verdict::verdict(message))
 }
 
 // One of the names that could have stood, by its number from 0: three bytes, the first highest; 0 past the last.
@@ -77,8 +97,10 @@ pub extern "C" fn turrethog_verdict(message: &[u8]) -> CVerdict
 pub extern "C" fn turrethog_could_stand(message: &[u8], index: usize) -> u32
     ensures { NameSeen message.now index result }
 {
-    let found = structure::judge_structure(message);
-    let names = found.names;
+    let Err(fault) = structure::judge_structure(message) else {
+        return 0;
+    };
+    let names = fault.names;
     if names.list.len() <= index {
         return 0;
     }

@@ -4,7 +4,7 @@ ghost use Rattle.segments.specs.Asked.{counting, segment_found};
 ghost use Rattle.seen.specs.Seen.{segment_seen};
 ghost use Rattle.boundary.specs.Seen.{seen};
 
-use crate::answers::{CAnswer, shown};
+use crate::answers::CAnswer;
 use seen::CSegment;
 
 // How many segments a message has, as the length.
@@ -12,7 +12,7 @@ use seen::CSegment;
 pub extern "C" fn turrethog_segments(message: &[u8]) -> CAnswer
     ensures { result ≡ seen (counting message.now) }
 {
-    shown(segments::count(message))
+    CAnswer::from(segments::count(message))
 }
 
 // A segment by its number, from 0.
@@ -20,5 +20,5 @@ pub extern "C" fn turrethog_segments(message: &[u8]) -> CAnswer
 pub extern "C" fn turrethog_segment(message: &[u8], index: usize) -> CSegment
     ensures { result ≡ segment_seen (segment_found message.now index) }
 {
-    seen::segment_shown(segments::find_segment(message, index))
+    CSegment::from(segments::find_segment(message, index))
 }

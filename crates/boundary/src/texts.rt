@@ -6,7 +6,7 @@ ghost use Rattle.text.specs.Unescape.{unescaping};
 ghost use Rattle.formatting.specs.Formatting.{formatting};
 ghost use Rattle.boundary.specs.Seen.{seen, AcknowledgeSeen};
 
-use crate::answers::{CAnswer, shown};
+use crate::answers::CAnswer;
 use alphabet::Delimiters;
 
 // Escapes a text, under the five delimiters in the message's order.
@@ -30,7 +30,7 @@ pub extern "C" fn turrethog_escape(
     let delimiters = Delimiters {
         bytes: [field, component, repetition, escape, subcomponent],
     };
-    shown(escaping::escape(delimiters, text, buffer))
+    CAnswer::from(escaping::escape(delimiters, text, buffer))
 }
 
 // Unescapes a text, under the five delimiters in the message's order.
@@ -54,7 +54,7 @@ pub extern "C" fn turrethog_unescape(
     let delimiters = Delimiters {
         bytes: [field, component, repetition, escape, subcomponent],
     };
-    shown(text::unescape(delimiters, text, buffer))
+    CAnswer::from(text::unescape(delimiters, text, buffer))
 }
 
 // Lays out the lines of a formatted text (FT), under the five delimiters in the message's order.
@@ -78,7 +78,7 @@ pub extern "C" fn turrethog_format(
     let delimiters = Delimiters {
         bytes: [field, component, repetition, escape, subcomponent],
     };
-    shown(formatting::format(delimiters, text, buffer))
+    CAnswer::from(formatting::format(delimiters, text, buffer))
 }
 
 // Acknowledges a message, with the caller's time and ID.
@@ -92,5 +92,5 @@ pub extern "C" fn turrethog_acknowledge<'a>(
     ensures { AcknowledgeSeen message.now time.now id.now
         buffer.old result buffer.new }
 {
-    shown(acknowledgement::acknowledge(message, time, id, buffer))
+    CAnswer::from(acknowledgement::acknowledge(message, time, id, buffer))
 }

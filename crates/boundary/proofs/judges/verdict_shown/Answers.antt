@@ -1,7 +1,0 @@
--- Rests on the table of numbers.
-use Rattle.boundary.proofs.judges.verdict_shown.Goals as goal
-
-pub returns : goal.returns
-returns c i =
-    let f = c.args.found in
-    record { number = c.number.ensures i; could_end = f.could_end; place = f.place; field = f.field; repetition = f.repetition; names = f.names.count }
