@@ -2,7 +2,7 @@
 use mathlib.Core.Path.{◌≡◌, refl, sym, ap, ◌∙◌}
 use mathlib.Core.Bool.{Bool, true, false, cond, ◌&&◌}
 use mathlib.Core.List.{List, [], ◌∷◌, ◌++◌, append_assoc, append-nil}
-use Prim.Native.Nat.{ℕ, ◌+◌, ◌≤◌, ◌<◌}
+use Prim.Native.Nat.{ℕ, ◌≤◌, ◌<◌}
 use native.Mathlib.Omega.{arith}
 use lib.ListN.{length, get_or, take, drop, drop_of_length-le}
 use lib.Seq.{take-length}
@@ -15,9 +15,10 @@ use Rattle.alphabet.proofs.HexLaws.{drop_two}
 use Rattle.alphabet.specs.Bytes.{carriage_return, ascii, is_null}
 use Rattle.alphabet.specs.Delimiters.{first_wrong_delimiter}
 use Rattle.alphabet.specs.Limits.{message_limit, id_limit}
-use Rattle.alphabet.specs.Lists.{first, find}
+use Rattle.alphabet.specs.Lists.{first}
 use Rattle.alphabet.specs.Parts.{join}
-use Rattle.alphabet.specs.declared.answers.Refusal.TheVariants.{AcknowledgementTooLong}
+use Rattle.alphabet.specs.declared.answers.Refusal.TheVariants.{AcknowledgementTooLong, Delimiter, NoRoom}
+use Rattle.alphabet.specs.Answers.{fails_if}
 use Rattle.reading.specs.Segments.{is_header, delimiters_of, field_separator}
 use Rattle.reading.specs.Message.{ended}
 use Rattle.element.specs.States.{state_of}
@@ -25,16 +26,13 @@ use Rattle.plain.specs.Plain.{special}
 use Rattle.escaping.specs.Escape.{escape_bytes, escape}
 use Rattle.escaping.proofs.RunLaws.{bytes_run}
 use Rattle.escaping.specs.Outcomes.{text, fault}
-use Rattle.escaping.specs.Outcomes.{escaping}
-use Rattle.escaping.proofs.OutcomeLaws.{escape_other, escape_most, escaping_fits}
+use Rattle.escaping.specs.Outcomes.{fitting, escaping}
+use Rattle.escaping.proofs.OutcomeLaws.{escape_other, escape_most, escaping_goes}
 use Rattle.acknowledgement.specs.Acknowledgement.{sent, type_part, present, encoding, type_sent, version, header_parts, answer_parts, acknowledgement, roomy}
 use Rattle.together.specs.Together.{together, least}
 use Rattle.together.proofs.PieceLaws.{least_both}
-use Rattle.acknowledgement_code.specs.Codes.{letters_of}
-use Rattle.ends.specs.Ends.{cut_out}
-use Rattle.acknowledgement.specs.Fields.{ends_of}
-use Rattle.acknowledgement.specs.Pieces.{event_mark, event, fixed_text, pieces}
-use Rattle.acknowledgement.proofs.FieldLaws.{sent_cut, before_id, earlier, two_cut}
+use Rattle.acknowledgement.specs.Fields.{pair, event}
+use Rattle.acknowledgement.specs.Pieces.{event_mark, fixed_text, pieces}
 use Rattle.acknowledgement_code.specs.declared.Code.{Code}
 use Rattle.acknowledgement_code.specs.declared.Code.TheVariants.{Accept, Error, Reject}
 
@@ -79,10 +77,11 @@ unfolding roomy
 roomy_short room w h = rw (least_over room message_limit (length w) h)
 
 -- the caller's ID, written as text, goes into a buffer of five times the longest
-pub id_fits : (ds id : List ℕ) (room : ℕ) → first_wrong_delimiter ds ≡ 5 → length id ≤ id_limit → room ≡ 1000 → (escaping ds id room ≡ text (escape ds id)) × (length (escape ds id) ≤ room)
+pub id_fits : (ds id : List ℕ) (room : ℕ) → first_wrong_delimiter ds ≡ 5 → length id ≤ id_limit → room ≡ 1000 → escaping ds id room ≡ text (escape ds id)
+unfolding fitting
 id_fits ds id room d l e =
     let fits : length (escape ds id) ≤ room = omega (arith, escape_most ds id, id_limit_small) in
-    (escaping_fits ds id (escape ds id) room (omega arith) refl fits, fits)
+    escaping_goes ds id room (ap (λ (n : ℕ). fails_if (ltb n 5) Delimiter n) d) ∙ ap (λ (t : Bool). cond t (text (escape ds id)) (fault NoRoom 0)) (le-leb (length (escape ds id)) room fits)
 
 -- one that is plain is written as it is
 pub id_plain : (ds id : List ℕ) → first (special ds) id ≡ length id → is_null id ≡ false → escape ds id ≡ id
@@ -140,49 +139,27 @@ module _ (h time id : List ℕ) where
       ∙ ap (λ (z : List ℕ). spread sep (header_parts h time id) (carriage_return ∷ z))
       (append_assoc (join sep (answer_parts h code)) (carriage_return ∷ []) e ∙ join_spread sep (answer_parts h code) (carriage_return ∷ e)))
 
+  -- two fields with a separator behind each, and more behind them
+  pair_behind : (a b z : List ℕ) → (a ++ sep ∷ (b ++ sep ∷ [])) ++ z ≡ a ++ sep ∷ (b ++ sep ∷ z)
+  pair_behind a b z = append_assoc a (sep ∷ (b ++ sep ∷ [])) z ∙ ap (λ (y : List ℕ). a ++ sep ∷ y) (append_assoc b (sep ∷ []) z)
+
   -- the pieces one behind another, with the fixed texts where they stand
   cut : (code : Code) (e : List ℕ)
       → together (pieces h time (escape (delimiters_of h) id) (fixed_text sep code) e)
-      ≡ take 8 h ++ sep ∷ (cut_out h (ends_of h).four ((ends_of h).six + 1) ++ (cut_out h (ends_of h).two ((ends_of h).four + 1)
-      ++ (time ++ sep ∷ sep ∷ (ascii "ACK" ++ (event_mark h (event h) ++ (event h ++ sep ∷ (escape (delimiters_of h) id ++ sep ∷ (cut_out h (ends_of h).ten (ends_of h).eleven
-      ++ sep ∷ (version ++ carriage_return ∷ (ascii "MSA" ++ sep ∷ (letters_of code ++ sep ∷ (cut_out h (ends_of h).nine (ends_of h).ten ++ carriage_return ∷ (e ++ [])))))))))))))
-  unfolding together pieces
+      ≡ take 8 h ++ sep ∷ (pair h 5 ++ (pair h 3
+      ++ (time ++ sep ∷ sep ∷ (ascii "ACK" ++ (event_mark h (event h) ++ (event h ++ rest code (e ++ [])))))))
+  unfolding together pieces answer_parts spread
   cut Accept e = refl
   cut Error e = refl
   cut Reject e = refl
 
-  -- two parts with a separator behind each, and more behind them
-  pair_behind : (a b z : List ℕ) → (a ++ sep ∷ (b ++ sep ∷ [])) ++ z ≡ a ++ sep ∷ (b ++ sep ∷ z)
-  pair_behind a b z = append_assoc a (sep ∷ (b ++ sep ∷ [])) z ∙ ap (λ (y : List ℕ). a ++ sep ∷ y) (append_assoc b (sep ∷ []) z)
-
-  -- with the fields that are sent in the place of what is cut out
-  uncut : (receiver sender eleven ten : List ℕ) (code : Code) (e : List ℕ)
-      → receiver ≡ sent h 5 ++ sep ∷ (sent h 6 ++ sep ∷ []) → sender ≡ sent h 3 ++ sep ∷ (sent h 4 ++ sep ∷ []) → eleven ≡ sent h 11 → ten ≡ sent h 10
-      → take 8 h ++ sep ∷ (receiver ++ (sender
-      ++ (time ++ sep ∷ sep ∷ (ascii "ACK" ++ (event_mark h (event h) ++ (event h ++ sep ∷ (escape (delimiters_of h) id ++ sep ∷ (eleven
-      ++ sep ∷ (version ++ carriage_return ∷ (ascii "MSA" ++ sep ∷ (letters_of code ++ sep ∷ (ten ++ carriage_return ∷ e))))))))))))
-      ≡ take 8 h ++ names (ascii "ACK" ++ (event_mark h (event h) ++ (event h ++ rest code e)))
-  unfolding answer_parts spread
-  uncut receiver sender eleven ten code e r s f t =
-      (λ i. take 8 h ++ sep ∷ (r i ++ (s i
-      ++ (time ++ sep ∷ sep ∷ (ascii "ACK" ++ (event_mark h (event h) ++ (event h ++ sep ∷ (escape (delimiters_of h) id ++ sep ∷ (f i
-      ++ sep ∷ (version ++ carriage_return ∷ (ascii "MSA" ++ sep ∷ (letters_of code ++ sep ∷ (t i ++ carriage_return ∷ e)))))))))))))
-      ∙ ap (λ (y : List ℕ). take 8 h ++ sep ∷ y) (pair_behind (sent h 5) (sent h 6) _)
-      ∙ ap (λ (y : List ℕ). take 8 h ++ sep ∷ (sent h 5 ++ sep ∷ (sent h 6 ++ sep ∷ y))) (pair_behind (sent h 3) (sent h 4) _)
-
-  pub pieces_together : (code : Code) (e : List ℕ) → 8 ≤ length h → find carriage_return h + 1 ≡ length h → is_header h ≡ true → present h (sent h 10) ≡ true
+  pub pieces_together : (code : Code) (e : List ℕ) → 8 ≤ length h → is_header h ≡ true
       → together (pieces h time (escape (delimiters_of h) id) (fixed_text sep code) e) ≡ acknowledgement h time id code [] ++ e
   unfolding header_parts type_sent spread
-  pieces_together code e l one is there =
-      let long : 4 ≤ length h = omega arith in
-      let eight = before_id h long one there in
-      let seven = earlier h long one 7 eight in
-      let six = earlier h long one 6 seven in
-      let five = earlier h long one 5 six in
-      let four = earlier h long one 4 five in
-      let three = earlier h long one 3 four in
+  pieces_together code e l is =
       cut code e
-      ∙ uncut _ _ _ _ code (e ++ []) (two_cut h long one 3 five) (two_cut h long one 1 three) (sent_cut h long one 9 11 refl) (sent_cut h long one 8 10 refl)
+      ∙ ap (λ (y : List ℕ). take 8 h ++ sep ∷ y) (pair_behind (sent h 5) (sent h 6) _)
+      ∙ ap (λ (y : List ℕ). take 8 h ++ sep ∷ (sent h 5 ++ sep ∷ (sent h 6 ++ sep ∷ y))) (pair_behind (sent h 3) (sent h 4) _)
       ∙ ap (λ (z : List ℕ). z ++ names (ascii "ACK" ++ (event_mark h (event h) ++ (event h ++ rest code (e ++ []))))) (front_bytes h l is)
       ∙ ap (λ (z : List ℕ). (ascii "MSH" ++ sep ∷ encoding h) ++ names (ascii "ACK" ++ z)) (event_whole h (rest code (e ++ [])))
       ∙ spread_is code (e ++ []) ∙ ap (λ (z : List ℕ). acknowledgement h time id code [] ++ z) (append-nil e)

@@ -1,15 +1,13 @@
 -- The acknowledgement, by document 01, 'The acknowledgement', and document 02, W4, as a list of bytes that is put
 -- together of parts; and when it is refused.
-use Rattle.std.specs.Prelude.{ℕ, ◌+◌, ◌≡◌, List, [], ◌∷◌, ◌++◌, Bool, true, false, cond, not, ◌&&◌, ◌||◌, length, get_or, take, leb, ltb, eqb}
+use Rattle.std.specs.Prelude.{ℕ, ◌+◌, ◌≡◌, List, [], ◌∷◌, ◌++◌, Bool, cond, not, ◌&&◌, ◌||◌, length, get_or, take, leb, ltb, eqb, is_ok, Err}
 use Rattle.alphabet.specs.Bytes.{carriage_return, ascii}
 use Rattle.alphabet.specs.Limits.{message_limit, id_limit}
 use Rattle.alphabet.specs.Lists.{find, same}
 use Rattle.alphabet.specs.Parts.{join}
-use Rattle.alphabet.specs.declared.answers.Check.{Check}
-use Rattle.alphabet.specs.declared.answers.Check.TheVariants.{Passes, Fails}
-use Rattle.alphabet.specs.declared.answers.Answer.{Answer}
-use Rattle.alphabet.specs.declared.answers.Refusal.{Refusal}
-use Rattle.alphabet.specs.declared.answers.Refusal.TheVariants.{None, NotAcknowledgeable, AcknowledgementTooLong, CallersTime, CallersId}
+use Rattle.alphabet.specs.Answers.{Check, Refusable, passes, fails_if, in_order}
+use Rattle.alphabet.specs.declared.answers.Fault.{Fault}
+use Rattle.alphabet.specs.declared.answers.Refusal.TheVariants.{NotAcknowledgeable, AcknowledgementTooLong, CallersTime, CallersId}
 use Rattle.reading.specs.Segments.{delimiters_of, field_separator}
 use Rattle.reading.specs.Reading.{opening}
 use Rattle.reading.specs.Message.{ended}
@@ -22,7 +20,7 @@ use Rattle.escaping.specs.Escape.{escape}
 use Rattle.escaping.specs.Outcomes.{Outcome, text, fault}
 use Rattle.escaping.specs.Outcomes.{answer, filled}
 use Rattle.verdict.specs.Verdicts.{Verdicts}
-use Rattle.fault.specs.declared.FaultRecord.{FaultRecord}
+use Rattle.fault.specs.Faults.{Judgement}
 use Rattle.acknowledgement_code.specs.Codes.{code_of, letters_of}
 use Rattle.acknowledgement_code.specs.declared.Code.{Code}
 use Rattle.error_segment.specs.Errors.{error_lines}
@@ -85,16 +83,12 @@ acknowledgement h time id letters errors =
 abbrev pub bad_id : List ℕ → Bool
 bad_id id = eqb (length id) 0 || ltb id_limit (length id)
 
-abbrev pub passes : Check → Bool
-passes Passes = true
-passes (Fails kind place) = false
-
 -- 9: "the header (through the first CR) is missing that CR or has fault 1 to 4 itself; type ACK; MSH-10, the whole
 -- field, not present or over 199 bytes"
 unfoldable pub acknowledgeable : List ℕ → Bool
 acknowledgeable m =
     ltb (find carriage_return m) (length m)
-    && (passes (opening (header m))
+    && (is_ok (opening (header m))
     && (not (same (type_part (header m) 1) (ascii "ACK"))
     && (present (header m) (sent (header m) 10) && leb (length (sent (header m) 10)) id_limit)))
 
@@ -105,21 +99,23 @@ roomy room w = cond (leb (length w) room && leb (length w) message_limit) (text 
 
 -- "Acknowledging: 16, 17, 9, 10.": what stands against any acknowledgement, whatever the buffer; 16: "caller's time
 -- isn't TS"
-unfoldable pub refusing : List ℕ → List ℕ → List ℕ → Refusal
+unfoldable pub refusing : List ℕ → List ℕ → List ℕ → Check
 refusing m time id =
-    cond (not (is_ts time)) CallersTime
-    (cond (bad_id id) CallersId
-    (cond (not (acknowledgeable m)) NotAcknowledgeable None))
+    in_order
+    (fails_if (not (is_ts time)) CallersTime 0
+    ∷ fails_if (bad_id id) CallersId 0
+    ∷ fails_if (not (acknowledgeable m)) NotAcknowledgeable 0
+    ∷ [])
 
 -- ---- what is answered
 
 -- the acknowledgement of a message, by the verdict on it: "an ERR segment after MSA when we answer AE or AR"
-abbrev pub answer_to : List ℕ → List ℕ → List ℕ → FaultRecord → List ℕ
+abbrev pub answer_to : List ℕ → List ℕ → List ℕ → Judgement → List ℕ
 answer_to m time id r = acknowledgement (header m) time id (code_of r) (error_lines m r)
 
--- the answer, and what is left in the buffer that was lent: a refusal gives number and place 0, length 0, and writes
--- nothing; what is written "fills the front of the buffer, its length is given, the bytes behind it stay"
-pub data Acknowledges (m time id lent : List ℕ) : Answer → List ℕ → Type 0 where
-  not_written : (refusing m time id ≡ None → ⊥) → Acknowledges m time id lent (answer (fault (refusing m time id) 0)) lent
-  written : refusing m time id ≡ None → (r : FaultRecord) → Verdicts m r
+-- the answer, and what is left in the buffer that was lent: a refusal gives number and place 0, and writes nothing; what
+-- is written "fills the front of the buffer, its length is given, the bytes behind it stay"
+pub data Acknowledges (m time id lent : List ℕ) : Refusable ℕ → List ℕ → Type 0 where
+  not_written : (f : Fault) → refusing m time id ≡ Err f → Acknowledges m time id lent (Err f) lent
+  written : refusing m time id ≡ passes → (r : Judgement) → Verdicts m r
       → Acknowledges m time id lent (answer (roomy (length lent) (answer_to m time id r))) (filled (roomy (length lent) (answer_to m time id r)) lent)

@@ -1,18 +1,14 @@
 -- An acknowledgement as the pieces that the code writes one behind another. `proofs/PieceLaws.antt` shows that together
 -- they are the `acknowledgement`; what a reader must believe is that one alone.
-use Rattle.std.specs.Prelude.{ℕ, ◌+◌, List, [], ◌∷◌, ◌++◌, cond, length, get_or, take, drop, eqb}
+use Rattle.std.specs.Prelude.{ℕ, List, [], ◌∷◌, ◌++◌, cond, length, get_or, take, drop, eqb}
 use Rattle.alphabet.specs.Bytes.{carriage_return, ascii}
 use Rattle.reading.specs.Segments.{field_separator}
-use Rattle.acknowledgement.specs.Acknowledgement.{type_part, present, version}
-use Rattle.ends.specs.Ends.{cut_out}
-use Rattle.acknowledgement.specs.Fields.{ends_of}
+use Rattle.acknowledgement.specs.Acknowledgement.{sent, version}
+use Rattle.acknowledgement.specs.Fields.{pair, event}
 use Rattle.acknowledgement_code.specs.Codes.{letters_of}
 use Rattle.acknowledgement_code.specs.declared.Code.{Code}
 
--- component 2 of the sender's type "where that is present", and the separator before it where there is one
-abbrev pub event : List ℕ → List ℕ
-event h = cond (present h (type_part h 2)) (type_part h 2) []
-
+-- the separator before an event, where there is one
 abbrev pub event_mark : List ℕ → List ℕ → List ℕ
 event_mark h e = cond (eqb (length e) 0) [] (get_or h 4 0 ∷ [])
 
@@ -28,12 +24,11 @@ fixed_text sep code =
     ++ (sep ∷ version ++ (carriage_return ∷ ascii "MSA" ++ (sep ∷ letters_of code ++ (sep ∷ carriage_return ∷ []))))
 
 -- the pieces of MSH and those of MSA, the fixed texts being cut out of one, and what stands behind them; id is escaped
--- already. Fields 5 and 6 of the sender are one piece with a separator behind each, and so are 3 and 4
+-- already
 unfoldable pub pieces : (h time id fixed behind : List ℕ) → List (List ℕ)
 pieces h time id fixed behind =
-    take 8 h ∷ mark h
-    ∷ cut_out h (ends_of h).four ((ends_of h).six + 1) ∷ cut_out h (ends_of h).two ((ends_of h).four + 1)
+    take 8 h ∷ mark h ∷ pair h 5 ∷ pair h 3
     ∷ time ∷ take 5 fixed ∷ event_mark h (event h) ∷ event h
-    ∷ mark h ∷ id ∷ mark h ∷ cut_out h (ends_of h).ten (ends_of h).eleven
-    ∷ take 12 (drop 5 fixed) ∷ cut_out h (ends_of h).nine (ends_of h).ten ∷ take 1 (drop 17 fixed)
+    ∷ mark h ∷ id ∷ mark h ∷ sent h 11
+    ∷ take 12 (drop 5 fixed) ∷ sent h 10 ∷ take 1 (drop 17 fixed)
     ∷ behind ∷ []

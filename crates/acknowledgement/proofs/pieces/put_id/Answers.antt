@@ -4,12 +4,12 @@ use mathlib.Core.List.{List, ◌++◌}
 use Prim.Native.Nat.{ℕ, ◌+◌}
 use lib.ListN.{length, drop}
 use native.Mathlib.Omega.{arith}
+use Rattle.std.specs.Result.{result_unwrap_or}
+use Rattle.alphabet.specs.Answers.{Refusable}
 use Rattle.alphabet.specs.Filling.{over}
-use Rattle.alphabet.specs.declared.answers.Answer.{Answer}
 use Rattle.alphabet.proofs.FillingLaws.{put_fits}
 use Rattle.alphabet.proofs.LimitLaws.{id_limit_small}
-use Rattle.escaping.specs.Outcomes.{Outcome}
-use Rattle.escaping.specs.Outcomes.{answer, filled}
+use Rattle.escaping.specs.Outcomes.{Outcome, answer, filled}
 use Rattle.acknowledgement.proofs.PieceLaws.{id_fits}
 use Rattle.acknowledgement.proofs.pieces.put_id.Goals as goal
 
@@ -30,13 +30,13 @@ returns-then-is_plain-clause-buffer_after c =
     let n : 0 + length id ≡ length id = omega arith in c.put.ensures.buffer_after ∙ fits.1 ∙ ap (λ (k : ℕ). id ++ drop k d) n ∙ sym (ap (λ (x : List ℕ). over x d) plain)
 
 pub returns-clause-value : goal.returns-clause-value
-unfolding answer filled
+unfolding answer
 returns-clause-value c =
-    let d = c.args.buffer.now in
-    let f = id_fits c.args.delimiters.bytes c.args.id.now (length d) c.requires.0 c.requires.1 c.requires.2 in ap (λ (r : Answer). r.length) c.escape-written.ensures.value ∙ ap (λ (x : Outcome ℕ). (answer x).length) f.0
+    let f = id_fits c.args.delimiters.bytes c.args.id.now _ c.requires.0 c.requires.1 c.requires.2 in
+    c.unwrap_or.ensures ∙ ap (λ (r : Refusable ℕ). result_unwrap_or r 0) (c.escape.ensures.value ∙ ap answer f)
 
 pub returns-clause-buffer_after : goal.returns-clause-buffer_after
-unfolding answer filled
+unfolding filled
 returns-clause-buffer_after c =
     let d = c.args.buffer.now in
-    let f = id_fits c.args.delimiters.bytes c.args.id.now (length d) c.requires.0 c.requires.1 c.requires.2 in c.escape-written.ensures.buffer_after ∙ ap (λ (x : Outcome ℕ). filled x d) f.0
+    let f = id_fits c.args.delimiters.bytes c.args.id.now (length d) c.requires.0 c.requires.1 c.requires.2 in c.escape.ensures.buffer_after ∙ ap (λ (x : Outcome ℕ). filled x d) f
