@@ -1,13 +1,12 @@
 // What was found in a file so far, which goes from piece to piece with the reader's state.
 use frames::FrameState;
-use terminal::Output;
 
-// Whether it is told in JSON, and where, the reader's state, how many whole frames there were, how many messages of
-// these were refused, how many frames were dropped, and how many bytes were read.
+// Whether it is told in JSON, and by which name of the file; the reader's state, how many whole frames there were, how
+// many messages of these were refused, how many frames were dropped, and how many bytes were read.
 #[derive(Drop)]
-pub struct Tally {
+pub struct Tally<'a> {
     pub json: bool,
-    pub out: Output,
+    pub name: &'a [u8],
     pub state: FrameState,
     pub frames: usize,
     pub refused: usize,
@@ -15,12 +14,12 @@ pub struct Tally {
     pub bytes: usize,
 }
 
-impl Tally {
+impl<'a> Tally<'a> {
     // At the beginning of a file.
-    pub fn start(json: bool, out: Output) -> Tally {
+    pub fn start(json: bool, name: &'a [u8]) -> Tally<'a> {
         Tally {
-            json: json,
-            out: out,
+            json,
+            name,
             state: FrameState::start(),
             frames: 0,
             refused: 0,
@@ -28,12 +27,4 @@ impl Tally {
             bytes: 0,
         }
     }
-}
-
-// Two counts together. One that does not fit stays at the most there is; no file has so many bytes.
-pub fn together(one: usize, other: usize) -> usize {
-    if usize::MAX - one < other {
-        return usize::MAX;
-    }
-    one + other
 }
