@@ -1,79 +1,65 @@
-// An input is taken in pieces: its lines are gathered, and each is answered on standard output as soon as it ends. The
-// buffers are lent by the program, which has room in them: so it is required.
+// An input is taken in pieces: its lines are gathered, and each is answered on standard output as soon as it ends.
 #![tactic(auto)]
 
-ghost use Rattle.std.specs.Prelude.{length};
-ghost use Rattle.io.specs.Counts.{IsPrefixLen};
-ghost use Rattle.answering.specs.Answers.{Roomy};
-ghost use Rattle.asking.specs.Lines.{Within};
-
-use answering::answers;
-use asking::lines;
+use answering::Answer;
 use asking::lines::Line;
 
 // Standard output, by its number.
 const STDOUT_FILENO: i32 = 1;
 
-// Puts the answer to a line into `answer`, and returns its length.
-fn reply(line: Line, buffer: &[u8], said: &mut [u8], answer: &mut [u8]) -> usize
-    requires within { Within (length buffer.now) line }
-    requires roomy { Roomy answer.old }
-    ensures { IsPrefixLen result answer.new }
-{
-    match line {
-        Line::Holds(length) => questions::answer(&buffer[..length], said, answer),
-        Line::TooLong => answers::no_question(answer),
-    }
+// A longer line is answered as no question. It has room for two words of 64 KiB, at two digits a byte.
+const LONGEST_LINE: usize = 300_000;
+
+// All the bytes that a line of that length can say.
+const LONGEST_SAID: usize = 150_000;
+
+// The line that is gathered, room for the bytes that a line says, and the answer to the last line that ended.
+#[derive(Drop)]
+pub struct Conversation {
+    line: Line<LONGEST_LINE>,
+    said: [u8; LONGEST_SAID],
+    answer: Answer,
 }
 
-// Answers a line. The answer is written out whole, since a call for each of its bytes would take most of the time.
-fn answer_line(line: Line, buffer: &[u8], said: &mut [u8], answer: &mut [u8])
-    requires within { Within (length buffer.now) line }
-    requires roomy { Roomy answer.old }
-{
-    let size = reply(line, buffer, said, answer);
-    io::write_all(STDOUT_FILENO, &answer[..size]);
-}
-
-// Answers each line that ends in a piece of the input, and returns what is gathered of the line that does not.
-pub fn answer_piece(
-    piece: &[u8],
-    begun: Line,
-    buffer: &mut [u8],
-    said: &mut [u8],
-    answer: &mut [u8],
-) -> Line
-    requires within { Within (length buffer.old) begun }
-    requires roomy { Roomy answer.old }
-    ensures { Within (length buffer.new) result }
-{
-    let mut line = begun;
-    let mut rest = piece;
-    while 0 < rest.len() {
-        let end = alphabet::find(rest, b'\n');
-        line = lines::gather(line, buffer, &rest[..end]);
-        if end == rest.len() {
-            return line;
+impl Conversation {
+    // A conversation in which nothing is said.
+    pub fn new() -> Conversation {
+        Conversation {
+            line: Line::new(),
+            said: [0; LONGEST_SAID],
+            answer: Answer::new(),
         }
-        answer_line(line, buffer, said, answer);
-        line = Line::Holds(0);
-        let next = end + 1;
-        rest = &rest[next..];
     }
-    line
-}
 
-// Answers what is left when the input ends: a line without its end is a line, and no bytes are none.
-pub fn answer_last(line: Line, buffer: &[u8], said: &mut [u8], answer: &mut [u8])
-    requires within { Within (length buffer.now) line }
-    requires roomy { Roomy answer.old }
-{
-    match line {
-        Line::Holds(length) => {
-            if 0 < length {
-                answer_line(line, buffer, said, answer);
-            }
+    // Answers the line that is gathered, and begins the next. The answer is written out whole, since a call for each of
+    // its bytes would take most of the time.
+    fn answer_line(&mut self) {
+        match self.line.text() {
+            Some(line) => questions::answer(line, &mut self.said, &mut self.answer),
+            None => self.answer.put_no_question(),
         }
-        Line::TooLong => answer_line(line, buffer, said, answer),
+        io::write_all(STDOUT_FILENO, self.answer.bytes());
+        self.line.clear();
+    }
+
+    // Takes a piece of the input, and answers each line that ends in it.
+    pub fn take(&mut self, piece: &[u8]) {
+        let mut rest = piece;
+        while !rest.is_empty() {
+            let (part, behind) = rest.split_at(alphabet::find(rest, b'\n'));
+            self.line.gather(part);
+            let Some((_, next)) = behind.split_first() else {
+                return;
+            };
+            self.answer_line();
+            rest = next;
+        }
+    }
+
+    // Answers what is left when the input ends: a line without its end is a line, and no bytes are none.
+    pub fn end(&mut self) {
+        if !matches!(self.line.text(), Some([])) {
+            self.answer_line();
+        }
     }
 }

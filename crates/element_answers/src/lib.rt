@@ -7,4 +7,4 @@ mod figures;
 mod states;
 
 pub use figures::put_time;
-pub use states::put_begin;
+pub use states::{put_begin, put_begin_of};

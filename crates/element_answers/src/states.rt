@@ -1,43 +1,55 @@
 // The three words with which each answer about an element begins: the number of the refusal, its place, and the
 // element's state.
-ghost use Rattle.std.specs.Prelude.{◌+◌, ◌≤◌, length};
+ghost use Rattle.std.specs.Prelude.{◌+◌, ◌≤◌, ◌≡◌, length};
+ghost use Rattle.answering.specs.Answers.{Fits};
 
-use alphabet::{Answer, Refusal};
-use answering::printing;
+use alphabet::Fault;
+use answering::Answer;
 use element::State;
+use value::{NoValue, Value};
 
 // Puts the word for a state.
-fn put_state_word(answer: &mut [u8], at: usize, state: State, end: u8) -> usize
-    requires { at + 22 ≤ length answer.old }
-    ensures { result ≤ at + 22 }
+fn put_state(answer: &mut Answer, state: State, end: u8)
+    requires { Fits answer.old 8 }
+    ensures { length answer.new ≤ length answer.old + 8 }
 {
     match state {
-        State::Absent => printing::put_text(answer, at, b"absent", end),
-        State::Empty => printing::put_text(answer, at, b"empty", end),
-        State::Null => printing::put_text(answer, at, b"null", end),
-        State::Present => printing::put_text(answer, at, b"present", end),
-    }
-}
-
-// Puts the state of an element. After a refusal there is no element, and so no state.
-fn put_state(answer: &mut [u8], at: usize, kind: Refusal, state: State, end: u8) -> usize
-    requires { at + 22 ≤ length answer.old }
-    ensures { result ≤ at + 22 }
-{
-    match kind {
-        Refusal::None => put_state_word(answer, at, state, end),
-        _ => printing::put_nothing(answer, at, end),
+        State::Absent => answer.put_word(b"absent", end),
+        State::Empty => answer.put_word(b"empty", end),
+        State::Null => answer.put_word(b"null", end),
+        State::Present => answer.put_word(b"present", end),
     }
 }
 
 // Puts the three words with which each answer about an element begins: the number of the refusal, its place, and the
-// state.
-pub fn put_begin(answer: &mut [u8], found: Answer, state: State, end: u8) -> usize
-    requires { 66 ≤ length answer.old }
-    ensures { result ≤ 66 }
+// state. After a refusal there is no element, and so no state.
+pub fn put_begin(answer: &mut Answer, found: Result<State, Fault>, end: u8)
+    requires { Fits answer.old 50 }
+    ensures { length answer.new ≤ length answer.old + 50 }
 {
-    let kind = found.kind;
-    let second = printing::put_plain(answer, 0, alphabet::number(kind) as u64, b' ');
-    let third = printing::put_plain(answer, second, found.place as u64, b' ');
-    put_state(answer, third, kind, state, end)
+    answer.put_fault(found.err(), b' ');
+    match found {
+        Ok(state) => put_state(answer, state, end),
+        Err(_) => answer.put_nothing(end),
+    }
+}
+
+// The same of a value, which is given back where there is one.
+pub fn put_begin_of<T: Copy>(
+    answer: &mut Answer,
+    found: Result<Value<T>, NoValue>,
+    end: u8,
+) -> Option<T>
+    requires { Fits answer.old 50 }
+    ensures { length answer.new ≤ length answer.old + 50 }
+{
+    let (state, value) = match found {
+        Ok(Value::Absent) => (Ok(State::Absent), None),
+        Ok(Value::Empty) => (Ok(State::Empty), None),
+        Ok(Value::Null) => (Ok(State::Null), None),
+        Ok(Value::Present(value)) => (Ok(State::Present), Some(value)),
+        Err(why) => (Err(Fault::from(why)), None),
+    };
+    put_begin(answer, state, end);
+    value
 }

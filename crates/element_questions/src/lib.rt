@@ -7,4 +7,4 @@
 mod lookups;
 mod signed;
 
-pub use lookups::{Lookup, Meaning, answer, meaning_of};
+pub use lookups::Lookup;

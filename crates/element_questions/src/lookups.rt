@@ -1,20 +1,24 @@
 // The verbs about an element: which there are, and the answer to each. They differ in the call and in the words that
 // stand behind the element's state.
-ghost use Rattle.std.specs.Prelude.{◌≤◌, ◌≡◌, length};
-ghost use Rattle.answering.specs.Answers.{Roomy};
+ghost use Rattle.std.specs.Prelude.{◌≡◌, length, None};
 ghost use Rattle.element_questions.specs.Verbs.{Verb};
-ghost use Rattle.element_questions.specs.declared.lookups.Meaning.TheVariants.{Unknown};
 
-use crate::signed;
-use answering::{answers, printing};
-use asking::addresses::Asked;
-use asking::hex::Decoded;
+use crate::signed::put_signed;
+use alphabet::Fault;
+use answering::Answer;
 use asking::{addresses, hex, messages, words};
-use element::{Address, Found};
-use value::NumberFound;
+use element::Element;
+use numbers::Number;
+use value::{NoValue, Value};
+
+// What is shown where there is no number.
+const NO_NUMBER: Number = Number {
+    value: 0,
+    decimals: 0,
+};
 
 // What is asked about an element.
-#[derive(Drop)]
+#[derive(Clone, Copy)]
 pub enum Lookup {
     Find,
     Nm,
@@ -24,106 +28,71 @@ pub enum Lookup {
     Ts,
 }
 
-// What a verb asks: something about an element, or nothing that is known here.
-#[derive(Drop)]
-pub enum Meaning {
-    Asks(Lookup),
-    Unknown,
-}
-
-// What a verb asks.
-pub fn meaning_of(verb: &[u8]) -> Meaning
-    ensures { (Verb verb.now → ⊥) → result ≡ Unknown }
-{
-    if alphabet::same(verb, b"find") {
-        return Meaning::Asks(Lookup::Find);
-    }
-    if alphabet::same(verb, b"nm") {
-        return Meaning::Asks(Lookup::Nm);
-    }
-    if alphabet::same(verb, b"si") {
-        return Meaning::Asks(Lookup::Si);
-    }
-    if alphabet::same(verb, b"dt") {
-        return Meaning::Asks(Lookup::Dt);
-    }
-    if alphabet::same(verb, b"tm") {
-        return Meaning::Asks(Lookup::Tm);
-    }
-    if alphabet::same(verb, b"ts") {
-        return Meaning::Asks(Lookup::Ts);
-    }
-    Meaning::Unknown
-}
-
 // Puts the answer to `find`: behind the state, where the element starts and ends.
-fn put_element(found: Found, answer: &mut [u8]) -> usize
-    requires { Roomy answer.old }
-    ensures { result ≤ length answer.new }
+fn put_element(answer: &mut Answer, found: Result<Element, Fault>)
+    requires { length answer.old ≡ 0 }
 {
-    let element = found.element;
-    let state = element.state;
-    let refusal = found.answer;
-    let fourth = element_answers::put_begin(answer, refusal, state, b' ');
-    let fifth = printing::put_plain(answer, fourth, element.start as u64, b' ');
-    printing::put_plain(answer, fifth, element.end as u64, b'\n')
+    let (start, end) = match found {
+        Ok(element) => (element.start, element.end),
+        Err(_) => (0, 0),
+    };
+    element_answers::put_begin(answer, found.map(|element| element.state), b' ');
+    answer.put_number(start as u64, b' ');
+    answer.put_number(end as u64, b'\n');
 }
 
 // Puts the answer to `nm`: behind the state, the number and how many of its digits are decimals.
-fn put_decimal(found: NumberFound, answer: &mut [u8]) -> usize
-    requires { Roomy answer.old }
-    ensures { result ≤ length answer.new }
+fn put_decimal(answer: &mut Answer, found: Result<Value<Number>, NoValue>)
+    requires { length answer.old ≡ 0 }
 {
-    let state = found.state;
-    let refusal = found.answer;
-    let fourth = element_answers::put_begin(answer, refusal, state, b' ');
-    let fifth = signed::put_signed(answer, fourth, found.value, b' ');
-    printing::put_plain(answer, fifth, found.decimals as u64, b'\n')
+    let number = element_answers::put_begin_of(answer, found, b' ').unwrap_or(NO_NUMBER);
+    put_signed(answer, number.value, b' ');
+    answer.put_number(number.decimals as u64, b'\n');
 }
 
 // Puts the answer to `si`: behind the state, the number.
-fn put_whole(found: NumberFound, answer: &mut [u8]) -> usize
-    requires { Roomy answer.old }
-    ensures { result ≤ length answer.new }
+fn put_whole(answer: &mut Answer, found: Result<Value<Number>, NoValue>)
+    requires { length answer.old ≡ 0 }
 {
-    let state = found.state;
-    let refusal = found.answer;
-    let fourth = element_answers::put_begin(answer, refusal, state, b' ');
-    signed::put_signed(answer, fourth, found.value, b'\n')
+    let number = element_answers::put_begin_of(answer, found, b' ').unwrap_or(NO_NUMBER);
+    put_signed(answer, number.value, b'\n');
 }
 
-// Calls the library once, and puts what came back into the answer.
-fn put_lookup(lookup: Lookup, message: &[u8], address: Address, answer: &mut [u8]) -> usize
-    requires { Roomy answer.old }
-    ensures { result ≤ length answer.new }
-{
-    let message = messages::held(message);
-    match lookup {
-        Lookup::Find => put_element(element::find(message, address), answer),
-        Lookup::Nm => put_decimal(value::nm(message, address), answer),
-        Lookup::Si => put_whole(value::si(message, address), answer),
-        Lookup::Dt => element_answers::put_time(value::dt(message, address), answer),
-        Lookup::Tm => element_answers::put_time(value::tm(message, address), answer),
-        Lookup::Ts => element_answers::put_time(value::ts(message, address), answer),
+impl Lookup {
+    // What a verb asks.
+    pub fn of(verb: &[u8]) -> Option<Lookup>
+        ensures { (Verb verb.now → ⊥) → result ≡ None }
+    {
+        match verb {
+            b"find" => Some(Lookup::Find),
+            b"nm" => Some(Lookup::Nm),
+            b"si" => Some(Lookup::Si),
+            b"dt" => Some(Lookup::Dt),
+            b"tm" => Some(Lookup::Tm),
+            b"ts" => Some(Lookup::Ts),
+            _ => None,
+        }
     }
-}
 
-// Puts the answer to a line with one of these verbs into `answer`, and returns its length. `message` is lent for the
-// bytes that the line says. A line whose other words are not those of a lookup is no question.
-pub fn answer(lookup: Lookup, line: &[u8], message: &mut [u8], answer: &mut [u8]) -> usize
-    requires { Roomy answer.old }
-    ensures { result ≤ length answer.new }
-{
-    if words::count(line) != 7 {
-        return answers::no_question(answer);
+    // Puts the answer to a line with such a verb, unless it is no question. `said` is lent for the bytes that the line
+    // says. A line whose other words are not those of a lookup is no question.
+    pub fn answer(self, line: &[u8], said: &mut [u8], answer: &mut Answer) -> Option<()>
+        requires { length answer.old ≡ 0 }
+    {
+        if words::count(line) != 7 {
+            return None;
+        }
+        let address = addresses::address(line)?;
+        let (message, _) = hex::decode(words::word(line, 1), said)?;
+        let message = messages::held(message);
+        match self {
+            Lookup::Find => put_element(answer, element::find(message, address)),
+            Lookup::Nm => put_decimal(answer, value::nm(message, address)),
+            Lookup::Si => put_whole(answer, value::si(message, address)),
+            Lookup::Dt => element_answers::put_time(answer, value::dt(message, address)),
+            Lookup::Tm => element_answers::put_time(answer, value::tm(message, address)),
+            Lookup::Ts => element_answers::put_time(answer, value::ts(message, address)),
+        }
+        Some(())
     }
-    let decoded = hex::decode(words::word(line, 1), message);
-    let Decoded::Length(length) = decoded else {
-        return answers::no_question(answer);
-    };
-    let asked = addresses::address(line);
-    let Asked::At(address) = asked else {
-        return answers::no_question(answer);
-    };
-    put_lookup(lookup, &message[..length], address, answer)
 }

@@ -1,28 +1,16 @@
 // A number with a sign, in decimal.
 ghost use Rattle.std.specs.Prelude.{◌+◌, ◌≤◌, length};
+ghost use Rattle.answering.specs.Answers.{Fits};
 
-use answering::{answers, printing};
-use asking::bytes;
-
-// How far a number is from 0. The least one is further from it than the greatest one, so that a negative one is taken
-// from -1, which always fits, and the step that this leaves out is made where there is no sign.
-fn magnitude(value: i64) -> u64 {
-    if value < 0 {
-        let nearer = -1 - value;
-        return nearer as u64 + 1;
-    }
-    value as u64
-}
+use answering::Answer;
 
 // Puts a number with its sign, where that is a minus.
-pub fn put_signed(answer: &mut [u8], at: usize, value: i64, end: u8) -> usize
-    requires { at + 22 ≤ length answer.old }
-    ensures { result ≤ at + 22 }
+pub fn put_signed(answer: &mut Answer, value: i64, end: u8)
+    requires { Fits answer.old 22 }
+    ensures { length answer.new ≤ length answer.old + 22 }
 {
-    let number = magnitude(value);
     if value < 0 {
-        let next = bytes::put(answer, at, b"-");
-        return answers::put_number(answer, next, number, end);
+        answer.put(b"-");
     }
-    printing::put_plain(answer, at, number, end)
+    answer.put_number(value.unsigned_abs(), end);
 }

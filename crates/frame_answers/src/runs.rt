@@ -17,8 +17,7 @@ pub fn put_piece(
 ) -> Option<FrameState>
     requires buffer_len_bound { length buffer.old ≤ 65536 }
     requires room { Fits answer.old ending }
-    ensures same_buffer { length buffer.new ≡ length buffer.old }
-    ensures room_after { OnSome result (Fits answer.new ending) }
+    ensures { OnSome result (Fits answer.new ending) }
 {
     let mut state = begun;
     let mut rest = piece;

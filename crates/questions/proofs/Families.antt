@@ -1,25 +1,33 @@
--- Laws of a word that has a family: it is a verb. Assumes nothing.
+-- Laws of a word that a family knows, and of the answer to `read`. Assumes nothing.
 use Prim.Native.Nat.{ℕ}
-use mathlib.Core.Path.{◌≡◌, sym, subst, ◌∙◌}
+use mathlib.Core.Path.{◌≡◌, sym, ap, subst, ◌∙◌}
+use mathlib.Core.Bool.{Bool, true, false}
 use mathlib.Core.List.{List}
+use Rattle.std.specs.Prelude.{Option, Some, None, is_some}
+use Rattle.alphabet.specs.Lists.{same}
+use Rattle.alphabet.proofs.BoolLaws.{false_true}
+use Rattle.alphabet.proofs.ListLaws.{same_is, same_own}
+use Rattle.answering.specs.Answers.{no_question}
+use Rattle.judge_questions.specs.Readings.{TwoNumbers, ReadAnswer, numbers, unknown}
 use Rattle.questions.specs.Verbs.{Verb}
-use Rattle.questions.specs.declared.Family.{Family}
-use Rattle.questions.specs.declared.Family.TheVariants.{Read, Element, Judgement, Text, Acknowledgement, Frame, Unknown}
 
--- a word that means something to a family whose verbs are verbs
-pub of_family : {X M Own : Type 0} {word : List ℕ} {meaning unknown : M} → (Own → Verb word) → ((Own → ⊥) → meaning ≡ unknown) → (meaning ≡ unknown → ⊥) → (Verb word → ⊥) → X
-of_family i u k n = absurd (k (u (λ v. n (i v))))
+-- a word that is the same as a verb is one
+pub same_verb : {X : Type 0} {word verb : List ℕ} {found : Bool} → Verb verb → found ≡ same word verb → found ≡ true → (Verb word → ⊥) → X
+same_verb {word = word} {verb = verb} v s t n = absurd (n (subst Verb (sym (same_is word verb (sym s ∙ t))) v))
 
--- a family that is one
-abbrev pub Known : Family → Type 0
-Known Read = Unit {0}
-Known (Element lookup) = Unit {0}
-Known (Judgement judge) = Unit {0}
-Known (Text writing) = Unit {0}
-Known Acknowledgement = Unit {0}
-Known (Frame asked) = Unit {0}
-Known Unknown = ⊥
+-- one that is not the same is another
+pub other_verb : {X : Type 0} {word verb : List ℕ} {found : Bool} → found ≡ same word verb → found ≡ false → word ≡ verb → X
+other_verb {verb = verb} s f e = false_true (sym f ∙ s ∙ ap (λ w. same w verb) e ∙ same_own verb)
 
--- a line whose first word has a family
-pub asks : {X : Type 0} {word first : List ℕ} {family known : Family} → word ≡ first → ((Verb word → ⊥) → family ≡ Unknown) → family ≡ known → Known known → (Verb first → ⊥) → X
-asks w u e k n = absurd (subst Known (sym e ∙ u (λ v. n (subst Verb w v))) k)
+-- a word that means something to a family whose verbs are verbs is a verb
+pub of_family : {X M Own : Type 0} {word : List ℕ} {meaning : Option M} {m : M} → (Own → Verb word) → ((Own → ⊥) → meaning ≡ None) → meaning ≡ Some m → (Verb word → ⊥) → X
+of_family i u k n = let e = u (λ v. n (i v)) in cc
+
+-- the answer to `read`, where a message is said and where none is
+pub read_some : {asked : Option (List ℕ)} {answer : List ℕ} → true ≡ is_some asked → TwoNumbers answer → ReadAnswer asked answer
+read_some {asked = Some message} e q = numbers q
+read_some {asked = None} e q = false_true (sym e)
+
+pub read_none : {asked : Option (List ℕ)} {answer : List ℕ} → false ≡ is_some asked → answer ≡ no_question → ReadAnswer asked answer
+read_none {asked = Some message} e q = false_true e
+read_none {asked = None} e q = subst (λ (l : List ℕ). ReadAnswer None l) (sym q) unknown

@@ -3,76 +3,97 @@
 // question. The buffers are lent by the program, which has room in them: so it is required.
 #![tactic(auto)]
 
-ghost use Rattle.std.specs.Prelude.{◌≡◌, [], length, take, get_or};
-ghost use Rattle.io.specs.Counts.{IsPrefixLen};
-ghost use Rattle.answering.specs.Answers.{Roomy, no_question};
+ghost use Rattle.std.specs.Prelude.{◌≡◌, [], length, get_or, Some, None, is_some, OnSome};
+ghost use Rattle.answering.specs.Answers.{no_question};
 ghost use Rattle.asking.specs.Words.{words as Words·words};
+ghost use Rattle.asking.specs.Hex.{fitting};
+ghost use Rattle.judge_questions.specs.Readings.{read_verb, read_asked, ReadAnswer, TwoNumbers};
 ghost use Rattle.questions.specs.Verbs.{Verb};
-ghost use Rattle.questions.specs.declared.Family.TheVariants.{Unknown};
+ghost use Rattle.questions.specs.declared.Question.TheVariants.{Read};
 
-use answering::answers;
+use answering::Answer;
 use asking::words;
 use element_questions::Lookup;
 use frame_questions::Asked;
 use judge_questions::Judge;
 use text_questions::Writing;
 
-// The families of verbs, each with what tells its verbs apart.
-#[derive(Drop)]
-enum Family {
+// What is asked: the families of verbs, each with what tells its verbs apart.
+#[derive(Clone, Copy)]
+enum Question {
     Read,
     Element(Lookup),
     Judgement(Judge),
     Text(Writing),
     Acknowledgement,
     Frame(Asked),
-    Unknown,
 }
 
-// The family of a verb.
-fn family_of(verb: &[u8]) -> Family
-    ensures { (Verb verb.now → ⊥) → result ≡ Unknown }
-{
-    if alphabet::same(verb, b"read") {
-        return Family::Read;
+impl Question {
+    // What a verb asks.
+    fn of(verb: &[u8]) -> Option<Question>
+        ensures unknown { (Verb verb.now → ⊥) → result ≡ None }
+        ensures read { verb.now ≡ read_verb → result ≡ Some Read }
+    {
+        if alphabet::same(verb, b"read") {
+            return Some(Question::Read);
+        }
+        if alphabet::same(verb, b"ack") {
+            return Some(Question::Acknowledgement);
+        }
+        if let Some(lookup) = Lookup::of(verb) {
+            return Some(Question::Element(lookup));
+        }
+        if let Some(judge) = Judge::of(verb) {
+            return Some(Question::Judgement(judge));
+        }
+        if let Some(writing) = Writing::of(verb) {
+            return Some(Question::Text(writing));
+        }
+        if let Some(asked) = Asked::of(verb) {
+            return Some(Question::Frame(asked));
+        }
+        None
     }
-    if alphabet::same(verb, b"ack") {
-        return Family::Acknowledgement;
+
+    // Puts the answer to a line with such a verb, unless it is no question.
+    fn answer(self, line: &[u8], said: &mut [u8], answer: &mut Answer) -> Option<()>
+        requires { length answer.old ≡ 0 }
+        ensures asked { self ≡ Read → is_some result ≡ is_some (fitting (length said.old) (read_asked (Words·words line.now))) }
+        ensures numbers { self ≡ Read → OnSome result (TwoNumbers answer.new) }
+    {
+        match self {
+            Question::Read => judge_questions::answer_read(line, said, answer),
+            Question::Element(lookup) => lookup.answer(line, said, answer),
+            Question::Judgement(judge) => judge.answer(line, said, answer),
+            Question::Text(writing) => writing.answer(line, said, answer),
+            Question::Acknowledgement => acknowledgement_questions::answer(line, said, answer),
+            Question::Frame(asked) => asked.answer(line, said, answer),
+        }
     }
-    let element = element_questions::meaning_of(verb);
-    if let element_questions::Meaning::Asks(lookup) = element {
-        return Family::Element(lookup);
-    }
-    let judgement = judge_questions::meaning_of(verb);
-    if let judge_questions::Meaning::Asks(judge) = judgement {
-        return Family::Judgement(judge);
-    }
-    let text = text_questions::meaning_of(verb);
-    if let text_questions::Meaning::Asks(writing) = text {
-        return Family::Text(writing);
-    }
-    let frame = frame_questions::meaning_of(verb);
-    if let frame_questions::Meaning::Asks(asked) = frame {
-        return Family::Frame(asked);
-    }
-    Family::Unknown
 }
 
-// Puts the answer to a line into `answer`, and returns its length. `said` is lent for the bytes that the line says.
-pub fn answer(line: &[u8], said: &mut [u8], answer: &mut [u8]) -> usize
-    requires { Roomy answer.old }
-    ensures prefix_len { IsPrefixLen result answer.new }
-    ensures answer_after { (Verb (get_or (Words·words line.now) 0 []) → ⊥) → take result answer.new
-        ≡ no_question }
+// Puts the answer to a line, unless it is no question.
+fn put_known(line: &[u8], said: &mut [u8], answer: &mut Answer) -> Option<()>
+    requires { length answer.old ≡ 0 }
+    ensures unknown { (Verb (get_or (Words·words line.now) 0 []) → ⊥) → result ≡ None }
+    ensures asked { get_or (Words·words line.now) 0 [] ≡ read_verb
+        → is_some result ≡ is_some (fitting (length said.old) (read_asked (Words·words line.now))) }
+    ensures numbers { get_or (Words·words line.now) 0 [] ≡ read_verb → OnSome result (TwoNumbers answer.new) }
 {
-    let family = family_of(words::word(line, 0));
-    match family {
-        Family::Read => judge_questions::answer_read(line, said, answer),
-        Family::Element(lookup) => element_questions::answer(lookup, line, said, answer),
-        Family::Judgement(judge) => judge_questions::answer(judge, line, said, answer),
-        Family::Text(writing) => text_questions::answer(writing, line, said, answer),
-        Family::Acknowledgement => acknowledgement_questions::answer(line, said, answer),
-        Family::Frame(asked) => frame_questions::answer(asked, line, said, answer),
-        Family::Unknown => answers::no_question(answer),
+    let question = Question::of(words::word(line, 0))?;
+    question.answer(line, said, answer)
+}
+
+// Puts the answer to a line, in the place of whatever was put before. `said` is lent for the bytes that the line says.
+pub fn answer(line: &[u8], said: &mut [u8], answer: &mut Answer)
+    ensures unknown { (Verb (get_or (Words·words line.now) 0 []) → ⊥) → answer.new ≡ no_question }
+    ensures read { get_or (Words·words line.now) 0 [] ≡ read_verb
+        → ReadAnswer (fitting (length said.old) (read_asked (Words·words line.now))) answer.new }
+{
+    answer.clear();
+    match put_known(line, said, answer) {
+        Some(()) => {}
+        None => answer.put_no_question(),
     }
 }

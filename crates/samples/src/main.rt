@@ -3,6 +3,8 @@
 // specs/, and are proved.
 #![tactic(auto)]
 
+use alphabet::{Fault, Refusal};
+
 // Standard output, by its number.
 const STDOUT_FILENO: i32 = 1;
 
@@ -11,19 +13,14 @@ fn run(buffer: &mut [u8]) {
     let message = b"MSH|^~\\&|LAB|PATH|GP|CLINIC|20240229093000+1000||ORU^R01|A7|P|2.4\rOBR|1\r";
     let answer = acknowledgement::acknowledge(message, b"20240229093001+1000", b"K1", buffer);
     io::write_all(STDOUT_FILENO, buffer);
-    let kind = answer.kind;
-    let number = alphabet::number(kind);
-    if number == 0 {
-        io::write_all(STDOUT_FILENO, b" 0\n");
-    }
-    if number == 10 {
-        io::write_all(STDOUT_FILENO, b" 10\n");
-    }
-    if answer.length == 76 {
-        io::write_all(STDOUT_FILENO, b"76 bytes were written\n");
-    }
-    if answer.length == 0 {
-        io::write_all(STDOUT_FILENO, b"nothing was written\n");
+    match answer {
+        Ok(76) => io::write_all(STDOUT_FILENO, b" 0\n76 bytes were written\n"),
+        Ok(_) => io::write_all(STDOUT_FILENO, b" 0\n"),
+        Err(Fault {
+            kind: Refusal::AcknowledgementTooLong,
+            ..
+        }) => io::write_all(STDOUT_FILENO, b" 10\nnothing was written\n"),
+        Err(_) => io::write_all(STDOUT_FILENO, b"nothing was written\n"),
     }
 }
 

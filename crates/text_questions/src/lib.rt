@@ -5,4 +5,4 @@
 
 mod texts;
 
-pub use texts::{Meaning, Writing, answer, meaning_of};
+pub use texts::Writing;
