@@ -113,9 +113,10 @@ refusing m time id =
 abbrev pub answer_to : List ℕ → List ℕ → List ℕ → Judgement → List ℕ
 answer_to m time id r = acknowledgement (header m) time id (code_of r) (error_lines m r)
 
--- the answer, and what is left in the buffer that was lent: a refusal gives number and place 0, and writes nothing; what
--- is written "fills the front of the buffer, its length is given, the bytes behind it stay"
+-- the answer, and what is left in the buffer that was lent: a refusal gives number and place 0, and writes nothing;
+-- what is written "fills the front of the buffer, its length is given, the bytes behind it stay"
 pub data Acknowledges (m time id lent : List ℕ) : Refusable ℕ → List ℕ → Type 0 where
   not_written : (f : Fault) → refusing m time id ≡ Err f → Acknowledges m time id lent (Err f) lent
   written : refusing m time id ≡ passes → (r : Judgement) → Verdicts m r
-      → Acknowledges m time id lent (answer (roomy (length lent) (answer_to m time id r))) (filled (roomy (length lent) (answer_to m time id r)) lent)
+      → Acknowledges m time id lent (answer (roomy (length lent) (answer_to m time id r)))
+      (filled (roomy (length lent) (answer_to m time id r)) lent)

@@ -1,5 +1,5 @@
--- For private functions alone: the header without its CR, and fields of it. `proofs/FieldLaws.antt` shows that its parts
--- are the fields which are `sent`.
+-- For private functions alone: the header without its CR, and fields of it. `proofs/FieldLaws.antt` shows that its
+-- parts are the fields which are `sent`.
 use Rattle.std.specs.Prelude.{ℕ, ◌+◌, List, [], ◌∷◌, ◌++◌, Bool, cond, ◌&&◌, eqb, is_ok, length, get_or, take}
 use Rattle.alphabet.specs.Bytes.{carriage_return}
 use Rattle.alphabet.specs.Lists.{find}

@@ -22,8 +22,8 @@ fn error_buffer() -> [u8; 80]
     [0; 80]
 }
 
-// Writes the acknowledgement of a message to the front of the buffer, and gives its length there: with the caller's time
-// and his ID, and the code and the ERR segment by the verdict. A bad time, a bad ID and a message that cannot be
+// Writes the acknowledgement of a message to the front of the buffer, and gives its length there: with the caller's
+// time and his ID, and the code and the ERR segment by the verdict. A bad time, a bad ID and a message that cannot be
 // acknowledged are refused first, whatever the buffer.
 pub fn acknowledge<'a>(
     message: &'a [u8],

@@ -36,7 +36,8 @@ impl<'a> Header<'a> {
     // The header of a message, if that can be acknowledged: its header is there and sound, it is no acknowledgement
     // itself, and its control ID is present and not too long.
     pub fn of(message: &'a [u8]) -> Option<Header<'a>>
-        ensures { MatchOption result (acknowledgeable message.now ≡ false) (λ h. (acknowledgeable message.now ≡ true) × (h.bytes.now ≡ taken message.now)) }
+        ensures { MatchOption result (acknowledgeable message.now ≡ false)
+            (λ h. (acknowledgeable message.now ≡ true) × (h.bytes.now ≡ taken message.now)) }
     {
         let end = search::find_return(message);
         if end == message.len() {
@@ -49,6 +50,7 @@ impl<'a> Header<'a> {
         }
         let mut ends = [0; ends::ROOM];
         ends::note(line, alphabet::byte_at(bytes, 3), 10, &mut ends);
+        // The type is field 9 and the control ID field 10; parts count from 0, and the separator is field 1.
         let kind = component(bytes, ends::part(line, &ends, 8), 0);
         let id = ends::part(line, &ends, 9);
         let known = alphabet::same(kind, b"ACK");
@@ -69,8 +71,8 @@ impl<'a> Header<'a> {
         ends::part(line, &self.ends, number - 1)
     }
 
-    // Two fields, the first by its number, with the separator behind each. A header that has a control ID has all fields
-    // before it.
+    // Two fields, the first by its number, with the separator behind each. A header that has a control ID has all
+    // fields before it.
     pub fn pair(&self, number: usize) -> &'a [u8]
         requires { (3 ≤ number) × (number ≤ 8) }
         ensures { result.now ≡ pair self.now.bytes.now number }
