@@ -19,9 +19,7 @@ use Rattle.alphabet.proofs.ListLaws.{same_is}
 use Rattle.alphabet.specs.Limits.{message_limit, id_limit}
 use Rattle.alphabet.specs.Lists.{find, same}
 use Rattle.alphabet.specs.Parts.{split}
-use Rattle.alphabet.specs.declared.answers.Answer.{Answer}
-use Rattle.alphabet.specs.declared.answers.Check.TheVariants.{Passes}
-use Rattle.alphabet.specs.declared.answers.Refusal.TheVariants.{None, NotAcknowledgeable, AcknowledgementTooLong}
+use Rattle.alphabet.specs.declared.answers.Refusal.TheVariants.{NotAcknowledgeable, AcknowledgementTooLong}
 use Rattle.reading.specs.Segments.{segments, delimiters_of, field_separator, name, name_of}
 use Rattle.reading.specs.Reading.{reading, opening}
 use Rattle.reading.specs.Message.{Opened, Message}
@@ -34,7 +32,7 @@ use Rattle.laws.proofs.HeaderLaws.{first_segment as begins}
 use Rattle.element.proofs.RawLaws.{raw_header, raw_component}
 use Rattle.times.specs.Times.{is_ts}
 use Rattle.escaping.specs.Escape.{escape}
-use Rattle.escaping.specs.Outcomes.{text, fault}
+use Rattle.escaping.specs.Outcomes.{Outcome, text, fault}
 use Rattle.escaping.specs.Outcomes.{fitting, answer, filled}
 use Rattle.text.specs.Unescape.{unescaping}
 use Rattle.laws.proofs.RoundTrip.{AreBytes, round_trip}
@@ -47,27 +45,28 @@ use Rattle.laws.proofs.FaultNumbers.{none_sound}
 use Rattle.laws.proofs.ControlId.{control_id}
 use Rattle.structure.specs.SegmentNames.{segment_names}
 use Rattle.structure.specs.Structures.{ack, chosen, structure_for, built_in, acknowledgement as ackListed}
-use Rattle.fault.specs.Faults.{plain}
+use Rattle.fault.specs.Faults.{Judgement}
 use Rattle.structure.specs.Judged.{Judged, Answers}
-use Rattle.verdict.specs.Verdicts.{Accepts}
+use Rattle.verdict.specs.Verdicts.{Verdicts, Accepts}
 use Rattle.verdict.proofs.VerdictLaws.{one_verdict, accepts_exactly as verdict-accepts}
-use Rattle.acknowledgement.specs.Acknowledgement.{header, field_address, sent, type_part, present, type_sent, acknowledgement, bad_id, passes, acknowledgeable, roomy, answer_to, Acknowledges}
+use Rattle.acknowledgement.specs.Acknowledgement.{header, field_address, sent, type_part, present, type_sent, acknowledgement, bad_id, acknowledgeable, roomy, answer_to, Acknowledges}
 use Rattle.acknowledgement.specs.Acknowledgement.Acknowledges.{not_written, written}
 use Rattle.error_segment.specs.Errors.{error_parts, error_line, error_lines}
 use Rattle.fault.specs.declared.FaultRecord.{FaultRecord}
-use Rattle.alphabet.specs.Answers.{number_of}
-use Rattle.alphabet.proofs.CheckLaws.{number_none}
+use Rattle.std.specs.Prelude.{Ok, Err, is_ok}
+use Rattle.alphabet.specs.Answers.{Refusable, number_given, length_given, passes, fails}
+use Rattle.alphabet.proofs.CheckLaws.{number_positive, never_both}
 use Rattle.laws.specs.Told.{TellsCode, TellsPlace}
 use Rattle.acknowledgement_code.specs.Codes.{code_of, letters_of}
 use Rattle.acknowledgement_code.specs.declared.Code.{Code}
 use Rattle.acknowledgement.proofs.HeaderLaws.{nothing_against, return_inside, header_find, header_ends, sound_header}
 use Rattle.laws.proofs.SenderLaws.{segments_header}
-use Rattle.laws.specs.Rejected.{Rejects, Rejected}
-use Rattle.laws.proofs.CodeLaws.{letters_accept, letters_reject, letters_error}
+use Rattle.laws.specs.Rejected.{Rejected}
+use Rattle.laws.proofs.CodeLaws.{Turns, letters_accept, letters_reject, letters_error}
 use Rattle.laws.proofs.WrittenLaws as W
 use Rattle.laws.proofs.ErrorLines as E
 use Rattle.laws.proofs.ErrorTold.{told_as, place_tells, code_tells}
-use Rattle.acknowledgement.proofs.AnswerLaws.{Writes, zero_writes, nine_unacknowledgeable}
+use Rattle.acknowledgement.proofs.AnswerLaws.{Writes, ok_writes, nine_unacknowledgeable}
 
 -- ---- the header's fields are the message's
 
@@ -117,47 +116,50 @@ module _ (m : List ℕ) (inside : find carriage_return m < length m) (opened : O
 
 -- ---- what is written
 
-length_told : (m time id lent : List ℕ) {r : Answer} {x : List ℕ} → Acknowledges m time id lent r x → r.kind ≡ None → (length x ≡ length lent) × (r.length ≤ length lent)
+-- by whether there is room
+abbrev outcome : List ℕ → Bool → Outcome ℕ
+outcome w t = cond t (text w) (fault AcknowledgementTooLong 0)
+
+length_told : (m time id lent : List ℕ) {r : Refusable ℕ} {x : List ℕ} → Acknowledges m time id lent r x → (n : ℕ) → r ≡ Ok n → (length x ≡ length lent) × (n ≤ length lent)
 unfolding answer filled roomy
-length_told m time id lent (not_written n) zero = absurd (n zero)
-length_told m time id lent (written e found v) zero = at (leb (length w) (length lent)) (leb (length w) message_limit) refl zero
+length_told m time id lent (not_written f e) n q = absurd (let z = ap number_given q in omega (arith, number_positive f.kind))
+length_told m time id lent (written e found v) n q = at (leb (length w) (length lent)) (leb (length w) message_limit) refl q
   where
     w : List ℕ
     w = answer_to m time id found
 
-    at : (s t : Bool) → leb (length w) (length lent) ≡ s → (answer (cond (s && t) (text w) (fault AcknowledgementTooLong 0))).kind ≡ None
-        → (length (filled (cond (s && t) (text w) (fault AcknowledgementTooLong 0)) lent) ≡ length lent)
-        × ((answer (cond (s && t) (text w) (fault AcknowledgementTooLong 0))).length ≤ length lent)
+    at : (s t : Bool) → leb (length w) (length lent) ≡ s → answer (outcome w (s && t)) ≡ Ok n → (length (filled (outcome w (s && t)) lent) ≡ length lent) × (n ≤ length lent)
     at true true f z =
         let h = leb-true (length w) (length lent) f in
         let a = length-append w (drop (length w) lent) in
         let b = length-drop (length w) lent in
-        (omega arith, h)
-    at true false f z = absurd (let q : ◌≡◌ {A = ℕ} 0 1 = cc in omega arith)
-    at false t f z = absurd (let q : ◌≡◌ {A = ℕ} 0 1 = cc in omega arith)
+        let k = ap length_given z in
+        (omega arith, omega (arith, h, k))
+    at true false f z = absurd (let k = ap number_given z in omega arith)
+    at false t f z = absurd (let k = ap number_given z in omega arith)
 
 -- over another buffer: the same answer where that has room for what was written, else 10
-pub room_exactly : (m time id lent other : List ℕ) {r s : Answer} {x y : List ℕ} → Acknowledges m time id lent r x → r.kind ≡ None → Acknowledges m time id other s y
-    → (r.length ≤ length other → s ≡ r) × (length other < r.length → s.kind ≡ AcknowledgementTooLong)
+pub room_exactly : (m time id lent other : List ℕ) {r s : Refusable ℕ} {x y : List ℕ} → Acknowledges m time id lent r x → (n : ℕ) → r ≡ Ok n → Acknowledges m time id other s y
+    → (n ≤ length other → s ≡ Ok n) × (length other < n → s ≡ fails AcknowledgementTooLong 0)
 unfolding answer filled roomy
-room_exactly m time id lent other (not_written n) zero b = absurd (n zero)
-room_exactly m time id lent other (written e found v) zero (not_written n) = absurd (n e)
-room_exactly m time id lent other (written e found v) zero (written f again u) =
-    at (leb (length w) (length lent)) (leb (length w) message_limit) refl zero (ap (λ (z : FaultRecord). answer (roomy (length other) (answer_to m time id z))) (one_verdict m u v))
+room_exactly m time id lent other (not_written f e) n q b = absurd (let z = ap number_given q in omega (arith, number_positive f.kind))
+room_exactly m time id lent other (written e found v) n q (not_written f p) = absurd (never_both (sym e ∙ p))
+room_exactly m time id lent other (written e found v) n q (written f again u) =
+    at (leb (length w) (length lent)) (leb (length w) message_limit) refl q (ap (λ (z : Judgement). answer (roomy (length other) (answer_to m time id z))) (one_verdict m u v))
   where
     w : List ℕ
     w = answer_to m time id found
 
-    at : (s t : Bool) → leb (length w) message_limit ≡ t → (answer (cond (s && t) (text w) (fault AcknowledgementTooLong 0))).kind ≡ None → {k : Answer}
-        → k ≡ answer (cond (leb (length w) (length other) && leb (length w) message_limit) (text w) (fault AcknowledgementTooLong 0))
-        → ((answer (cond (s && t) (text w) (fault AcknowledgementTooLong 0))).length ≤ length other → k ≡ answer (cond (s && t) (text w) (fault AcknowledgementTooLong 0)))
-        × (length other < (answer (cond (s && t) (text w) (fault AcknowledgementTooLong 0))).length → k.kind ≡ AcknowledgementTooLong)
-    at true true l z q = (
-      λ h. q ∙ rw (le-leb (length w) (length other) h) (rw l),
-      λ h. ap (λ (y : Answer). y.kind) q ∙ rw (lt-leb (length w) (length other) h),
-    )
-    at true false l z q = absurd (let c : ◌≡◌ {A = ℕ} 0 1 = cc in omega arith)
-    at false t l z q = absurd (let c : ◌≡◌ {A = ℕ} 0 1 = cc in omega arith)
+    at : (s t : Bool) → leb (length w) message_limit ≡ t → answer (outcome w (s && t)) ≡ Ok n → {k : Refusable ℕ}
+        → k ≡ answer (outcome w (leb (length w) (length other) && leb (length w) message_limit))
+        → (n ≤ length other → k ≡ Ok n) × (length other < n → k ≡ fails AcknowledgementTooLong 0)
+    at true true l z q =
+        let k = ap length_given z in (
+          λ h. q ∙ rw (le-leb (length w) (length other) (omega (arith, h, k))) (rw l z),
+          λ h. q ∙ rw (lt-leb (length w) (length other) (omega (arith, h, k))),
+        )
+    at true false l z q = absurd (let k = ap number_given z in omega arith)
+    at false t l z q = absurd (let k = ap number_given z in omega arith)
 
 -- field f of MSA, which stands behind MSH
 abbrev pub answer_address : ℕ → Address
@@ -168,13 +170,13 @@ abbrev pub error_address : ℕ → ℕ → Address
 error_address repetition c = record { segment = 2; field = 1; repetition = repetition; component = c; subcomponent = 0 }
 
 -- each number is a byte, as in every slice that is handed in
-module _ (m time id lent : List ℕ) (small : AreBytes id) {r : Answer} {x : List ℕ} (a : Acknowledges m time id lent r x) (done : r.kind ≡ None) where
+module _ (m time id lent : List ℕ) (small : AreBytes id) {r : Refusable ℕ} {x : List ℕ} (a : Acknowledges m time id lent r x) (n : ℕ) (done : r ≡ Ok n) where
   -- the bytes that were written
   abbrev pub w : List ℕ
-  w = take r.length x
+  w = take n x
 
-  pub writes : Writes m time id lent r x
-  writes = zero_writes m time id lent a done
+  pub writes : Writes m time id lent n x
+  writes = ok_writes m time id lent a n done
 
   abbrev h : List ℕ
   h = header m
@@ -207,7 +209,7 @@ module _ (m time id lent : List ℕ) (small : AreBytes id) {r : Answer} {x : Lis
   unfolding acknowledgeable
   identified_sender =
       let a = and_both (ltb (find carriage_return m) (length m)) _ against.2 in
-      let b = and_both (passes (opening h)) _ a.1 in
+      let b = and_both (is_ok (opening h)) _ a.1 in
       let c = and_both (not (same (type_part h 1) (ascii "ACK"))) _ b.1 in
       let d = and_both (present h (sent h 10)) (leb (length (sent h 10)) id_limit) c.1 in
       let same_id = of_message 10 (λ e. omega arith) in (
@@ -217,18 +219,18 @@ module _ (m time id lent : List ℕ) (small : AreBytes id) {r : Answer} {x : Lis
       )
 
   -- the length that is told is that of what was written, and the buffer keeps its own length and what stands behind
-  pub told : (length x ≡ length lent) × (r.length ≤ length lent) × (drop r.length x ≡ drop r.length lent)
+  pub told : (length x ≡ length lent) × (n ≤ length lent) × (drop n x ≡ drop n lent)
   told =
-      let t = length_told m time id lent a done in
+      let t = length_told m time id lent a n done in
       (t.0, t.1, writes.behind)
 
   -- "reads back through our reader"
-  pub reads_back : reading w ≡ Passes
+  pub reads_back : reading w ≡ passes
   reads_back = ap reading writes.bytes ∙ W.reads_back h sound.0 sound.1 time id against.0 small code es behind writes.most
 
   -- "fits the ACK structure": the structure judge accepts it
-  pub fits_ack : Answers w (plain None 0)
-  fits_ack = subst (λ (b : List ℕ). Answers b (plain None 0)) (sym writes.bytes) (W.judged_written h sound.0 sound.1 time id against.0 small code es behind writes.most)
+  pub fits_ack : Answers w (Ok tt)
+  fits_ack = subst (λ (b : List ℕ). Answers b (Ok tt)) (sym writes.bytes) (W.judged_written h sound.0 sound.1 time id against.0 small code es behind writes.most)
 
   -- "carries the sender's own control ID": MSA-2, the whole field, is byte for byte the sender's MSH-10, the whole field
   pub carries_id : raw_bytes w (answer_address 2) ≡ raw_bytes m (field_address 10)
@@ -259,9 +261,9 @@ module _ (m time id lent : List ℕ) (small : AreBytes id) {r : Answer} {x : Lis
   named_so : segment_names w ≡ name "MSH" ∷ name "MSA" ∷ map name_of es
   named_so = ap segment_names writes.bytes ∙ W.names_written h sound.0 sound.1 time id against.0 small code es behind
 
-  pub yields_ack : Judged ack (segment_names w) (plain None 0)
+  pub yields_ack : Judged ack (segment_names w) (Ok tt)
   yields_ack =
-      subst (λ (b : List ℕ). Judged ack (segment_names b) (plain None 0)) (sym writes.bytes)
+      subst (λ (b : List ℕ). Judged ack (segment_names b) (Ok tt)) (sym writes.bytes)
       (W.fits_ack h sound.0 sound.1 time id against.0 small code es behind)
 
   pub counted : (length (split (field_separator w) (get_or (segments w) 0 [])) ≡ 12) × (length (split (field_separator w) (get_or (segments w) 1 [])) ≡ 3)
@@ -322,15 +324,18 @@ module _ (m time id lent : List ℕ) (small : AreBytes id) {r : Answer} {x : Lis
       let l = letters_accept writes.found in
       (λ q. v.0 (l.0 (sym code_told ∙ q)), λ q. code_told ∙ l.1 (v.1 q))
 
-  -- the record that the letters go by is the first fault, and there is no second
-  own_fault : Rejected m → Rejects writes.found
-  own_fault j = subst Rejects (one_verdict m j.first writes.verdict) j.rejects
+  -- the judgement that the letters go by is the first fault, and there is no second
+  own_fault : Rejected m → Turns writes.found
+  own_fault j = (j.fault, one_verdict m writes.verdict j.first, j.rejects)
+
+  its_fault : Turns writes.found → Rejected m
+  its_fault t = record { fault = t.0; first = subst (Verdicts m) t.1 writes.verdict; rejects = t.2 }
 
   -- "an unsupported type (20), or MSH-11 or MSH-12 outside its list (33), is AR"
   pub rejects_exactly : (raw_bytes w (answer_address 1) ≡ ascii "AR") ↔ Rejected m
   rejects_exactly =
       let l = letters_reject writes.found in
-      (λ q. record { fault = writes.found; first = writes.verdict; rejects = l.0 (sym code_told ∙ q) }, λ j. code_told ∙ l.1 (own_fault j))
+      (λ q. its_fault (l.0 (sym code_told ∙ q)), λ j. code_told ∙ l.1 (own_fault j))
 
   -- "the rest stays AE"
   pub errors_exactly : (raw_bytes w (answer_address 1) ≡ ascii "AE") ↔ ((Accepts m → ⊥) × (Rejected m → ⊥))
@@ -338,7 +343,7 @@ module _ (m time id lent : List ℕ) (small : AreBytes id) {r : Answer} {x : Lis
       let v = verdict-accepts m writes.verdict in
       let l = letters_error writes.found in (
         λ q. let n = l.0 (sym code_told ∙ q) in (λ a. n.0 (v.1 a), λ j. n.1 (own_fault j)),
-        λ n. code_told ∙ l.1 (λ e. n.0 (v.0 e), λ j. n.1 (record { fault = writes.found; first = writes.verdict; rejects = j })),
+        λ n. code_told ∙ l.1 (λ e. n.0 (v.0 e), λ j. n.1 (its_fault j)),
       )
 
   -- ---- ERR
@@ -347,35 +352,46 @@ module _ (m time id lent : List ℕ) (small : AreBytes id) {r : Answer} {x : Lis
   pub two_segments : raw_bytes w (answer_address 1) ≡ ascii "AA" → segment_names w ≡ name "MSH" ∷ name "MSA" ∷ []
   two_segments aa =
       let none = (letters_accept writes.found).0 (sym code_told ∙ aa) in
-      named_so ∙ ap (λ (l : List (List ℕ)). name "MSH" ∷ name "MSA" ∷ map name_of l) (E.lines_none m writes.found none)
+      named_so ∙ ap (λ (l : List (List ℕ)). name "MSH" ∷ name "MSA" ∷ map name_of l) (E.lines_none m none)
 
   module _ (other : raw_bytes w (answer_address 1) ≡ ascii "AA" → ⊥) where
-    -- the record tells a fault
-    faulted : number_of writes.found.kind ≡ 0 → ⊥
-    faulted e = other (code_told ∙ (letters_accept writes.found).1 (number_none writes.found.kind e))
+    -- the judgement is a fault
+    faulted : (j : Judgement) → writes.found ≡ j → (r : FaultRecord) × (writes.found ≡ Err r)
+    faulted (Ok _) e = absurd (other (code_told ∙ (letters_accept writes.found).1 e))
+    faulted (Err r) e = (r, e)
+
+    pub told_fault : FaultRecord
+    told_fault = (faulted writes.found refl).0
+
+    pub is_found : writes.found ≡ Err told_fault
+    unfolding told_fault faulted
+    is_found = (faulted writes.found refl).1
+
+    pub its_verdict : Verdicts m (Err told_fault)
+    its_verdict = subst (Verdicts m) is_found writes.verdict
 
     -- one line stands behind MSA
-    one_line : es ≡ error_line m writes.found ∷ []
-    one_line = E.lines_one m writes.found faulted
+    one_line : es ≡ error_line m told_fault ∷ []
+    one_line = E.lines_one m is_found
 
     pub three_segments : segment_names w ≡ name "MSH" ∷ name "MSA" ∷ name "ERR" ∷ []
     three_segments =
         named_so ∙ ap (λ (l : List (List ℕ)). name "MSH" ∷ name "MSA" ∷ map name_of l) one_line
-        ∙ ap (λ (n : ℕ). name "MSH" ∷ name "MSA" ∷ n ∷ []) (E.line_name h sound.0 sound.1 m alike writes.verdict)
+        ∙ ap (λ (n : ℕ). name "MSH" ∷ name "MSA" ∷ n ∷ []) (E.line_name h sound.0 sound.1 m alike its_verdict)
 
     -- ERR-1, whole
-    field_told : raw_bytes w (error_address 0 0) ≡ E.told h sound.0 sound.1 m alike writes.verdict
+    field_told : raw_bytes w (error_address 0 0) ≡ E.told h sound.0 sound.1 m alike its_verdict
     field_told =
         ap (λ (b : List ℕ). raw_bytes b (error_address 0 0)) writes.bytes ∙ W.error_field h sound.0 sound.1 time id against.0 small code es behind
         ∙ ap (λ (l : List (List ℕ)). get_or (split (field_separator h) (get_or l 0 [])) 1 []) one_line
-        ∙ ap (λ (ps : List (List ℕ)). get_or ps 1 []) (E.line_parts h sound.0 sound.1 m alike writes.verdict)
+        ∙ ap (λ (ps : List (List ℕ)). get_or ps 1 []) (E.line_parts h sound.0 sound.1 m alike its_verdict)
 
     -- component c of ERR-1 is the part of that number
-    component_told : (c : ℕ) → 1 ≤ c → raw_bytes w (error_address 1 c) ≡ get_or (error_parts m writes.found) (c - 1) []
+    component_told : (c : ℕ) → 1 ≤ c → raw_bytes w (error_address 1 c) ≡ get_or (error_parts m told_fault) (c - 1) []
     component_told c l =
         ap (λ (b : List ℕ). raw_bytes b (error_address 1 c)) writes.bytes ∙ W.error_component h sound.0 sound.1 time id against.0 small code es behind c l
         ∙ ap (λ (ls : List (List ℕ)). get_or (split (get_or (delimiters_of h) 1 0) (get_or (split (get_or (delimiters_of h) 2 0) (get_or (split (field_separator h) (get_or ls 0 [])) 1 [])) 0 [])) (c - 1) []) one_line
-        ∙ E.told_component h sound.0 sound.1 m alike writes.verdict c
+        ∙ E.told_component h sound.0 sound.1 m alike its_verdict c
 
     -- one field, of one repetition and four components, of which the last has one subcomponent
     pub error_counted : (length (split (field_separator w) (get_or (segments w) 2 [])) ≡ 2)
@@ -387,19 +403,18 @@ module _ (m time id lent : List ℕ) (small : AreBytes id) {r : Answer} {x : Lis
         let third =
         ap (λ (b : List ℕ). get_or (segments b) 2 []) writes.bytes
         ∙ ap (λ (ss : List (List ℕ)). get_or ss 2 []) (W.segments_written h sound.0 sound.1 time id against.0 small code es behind) ∙ ap (λ (ls : List (List ℕ)). get_or ls 0 []) one_line in (
-          ap₂ (λ (x l : List ℕ). length (split (get_or x 0 0) l)) d third ∙ ap length (E.line_parts h sound.0 sound.1 m alike writes.verdict),
-          ap₂ (λ (x l : List ℕ). length (split (get_or x 2 0) l)) d field_told ∙ ap length (E.told_once h sound.0 sound.1 m alike writes.verdict),
-          ap₂ (λ (x l : List ℕ). length (split (get_or x 1 0) l)) d field_told ∙ ap length (E.told_parts h sound.0 sound.1 m alike writes.verdict) ∙ E.four m writes.found,
-          ap₂ (λ (x l : List ℕ). length (split (get_or x 4 0) l)) d (component_told 4 (omega arith)) ∙ ap length (E.part_alone h sound.0 sound.1 m alike writes.verdict 3),
+          ap₂ (λ (x l : List ℕ). length (split (get_or x 0 0) l)) d third ∙ ap length (E.line_parts h sound.0 sound.1 m alike its_verdict),
+          ap₂ (λ (x l : List ℕ). length (split (get_or x 2 0) l)) d field_told ∙ ap length (E.told_once h sound.0 sound.1 m alike its_verdict),
+          ap₂ (λ (x l : List ℕ). length (split (get_or x 1 0) l)) d field_told ∙ ap length (E.told_parts h sound.0 sound.1 m alike its_verdict) ∙ E.four m told_fault,
+          ap₂ (λ (x l : List ℕ). length (split (get_or x 4 0) l)) d (component_told 4 (omega arith)) ∙ ap length (E.part_alone h sound.0 sound.1 m alike its_verdict 3),
         )
 
     -- what the parts tell of the message, by its verdict
-    pub tells : TellsPlace m writes.found (raw_bytes w (error_address 1 1)) (raw_bytes w (error_address 1 2)) (raw_bytes w (error_address 1 3)) × TellsCode writes.found (raw_bytes w (error_address 1 4))
+    pub tells : TellsPlace m told_fault (raw_bytes w (error_address 1 1)) (raw_bytes w (error_address 1 2)) (raw_bytes w (error_address 1 3)) × TellsCode told_fault (raw_bytes w (error_address 1 4))
     tells =
-        let found = writes.found in
-        let at : (c : ℕ) → 1 ≤ c → get_or (error_parts m found) (c - 1) [] ≡ raw_bytes w (error_address 1 c) = λ c l. sym (component_told c l) in (
-          told_as (λ (x y z : List ℕ). TellsPlace m found x y z) (at 1 (omega arith)) (at 2 (omega arith)) (at 3 (omega arith)) (place_tells m writes.verdict faulted),
-          subst (TellsCode found) (at 4 (omega arith)) (code_tells m writes.verdict faulted),
+        let at : (c : ℕ) → 1 ≤ c → get_or (error_parts m told_fault) (c - 1) [] ≡ raw_bytes w (error_address 1 c) = λ c l. sym (component_told c l) in (
+          told_as (λ (x y z : List ℕ). TellsPlace m told_fault x y z) (at 1 (omega arith)) (at 2 (omega arith)) (at 3 (omega arith)) (place_tells m its_verdict),
+          subst (TellsCode told_fault) (at 4 (omega arith)) (code_tells m its_verdict),
         )
 
 -- ---- 9 for an accepted message
@@ -468,9 +483,9 @@ module _ (m : List ℕ) (accepts : Accepts m) where
       ) (le-leb (length (sent m 10)) id_limit identified.1)
 
 -- 9 "is never the answer to an accepted message except for its type"
-pub nine_for_type : (m time id lent : List ℕ) {r : Answer} {x : List ℕ} → Acknowledges m time id lent r x → r.kind ≡ NotAcknowledgeable → Accepts m → type_part m 1 ≡ ascii "ACK"
-nine_for_type m time id lent a nine accepts = at (same (type_part m 1) (ascii "ACK")) refl
+pub nine_for_type : (m time id lent : List ℕ) {r : Refusable ℕ} {x : List ℕ} → Acknowledges m time id lent r x → (place : ℕ) → r ≡ fails NotAcknowledgeable place → Accepts m → type_part m 1 ≡ ascii "ACK"
+nine_for_type m time id lent a place nine accepts = at (same (type_part m 1) (ascii "ACK")) refl
   where
     at : (t : Bool) → same (type_part m 1) (ascii "ACK") ≡ t → type_part m 1 ≡ ascii "ACK"
     at true e = same_is (type_part m 1) (ascii "ACK") e
-    at false e = absurd (false_true (sym (nine_unacknowledgeable m time id lent a nine) ∙ acknowledged m accepts e))
+    at false e = absurd (false_true (sym (nine_unacknowledgeable m time id lent a place nine) ∙ acknowledged m accepts e))

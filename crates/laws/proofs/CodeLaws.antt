@@ -1,6 +1,6 @@
 -- The letters of an acknowledgement by the verdict's record: AA exactly for the one that accepts, AR exactly for those that reject, AE exactly for every
 -- other. Assumes nothing.
-use mathlib.Core.Path.{◌≡◌, refl, sym, ap, ◌∙◌}
+use mathlib.Core.Path.{◌≡◌, refl, sym, ap, subst, ◌∙◌}
 use mathlib.Core.Logic.{◌↔◌}
 use mathlib.Core.Bool.{Bool, true, false, cond, ◌&&◌, ◌||◌}
 use mathlib.Core.List.{List}
@@ -8,12 +8,12 @@ use Prim.Native.Nat.{ℕ}
 use native.Mathlib.Omega.{arith}
 use lib.Dec.{eqb}
 use lib.ListN.{get_or}
-use borrow.Author.Tests.{eqb-true, eqb-false}
+use borrow.Author.Tests.{eqb-true}
+use Rattle.fault.specs.Faults.{Judgement}
+use Rattle.std.specs.Prelude.{Ok, Err}
 use Rattle.alphabet.specs.Answers.{number_of}
 use Rattle.alphabet.specs.Bytes.{ascii}
 use Rattle.alphabet.proofs.BoolLaws.{and_both, false_true}
-use Rattle.alphabet.proofs.CheckLaws.{number_none}
-use Rattle.alphabet.specs.declared.answers.Refusal.TheVariants.{None}
 use Rattle.fault.specs.declared.FaultRecord.{FaultRecord}
 use Rattle.acknowledgement_code.specs.Codes.{rejects, code_of, letters_of}
 use Rattle.acknowledgement_code.specs.declared.Code.{Code}
@@ -41,50 +41,63 @@ module _ (r : FaultRecord) where
   tested (processing n p f) = rw (n, p, f) refl
   tested (version n p f) = rw (n, p, f) refl
 
-  -- what a record says that is answered with a code
-  data Says : Code → Type 0 where
-    accepts : r.kind ≡ None → Says Accept
-    refuses : (r.kind ≡ None → ⊥) → (Rejects r → ⊥) → Says Error
-    turns_away : (r.kind ≡ None → ⊥) → Rejects r → Says Reject
+-- what a verdict says that is answered with a code
+data Says (r : Judgement) : Code → Type 0 where
+  accepts : r ≡ Ok tt → Says r Accept
+  refuses : (f : FaultRecord) → r ≡ Err f → (Rejects f → ⊥) → Says r Error
+  turns_away : (f : FaultRecord) → r ≡ Err f → Rejects f → Says r Reject
 
-  says : Says (code_of r)
-  unfolding code_of
-  says = at (eqb number 0) (rejects number r.place r.field) refl refl
+-- a fault that rejects
+abbrev pub Turns : Judgement → Type 0
+Turns r = (f : FaultRecord) × (r ≡ Err f) × Rejects f
+
+says : (r : Judgement) → Says r (code_of r)
+unfolding code_of
+says (Ok _) = accepts refl
+says (Err f) = at (rejects (number_of f.kind) f.place f.field) refl
+  where
+    at : (t : Bool) → rejects (number_of f.kind) f.place f.field ≡ t → Says (Err f) (cond t Reject Error)
+    at true e = turns_away f refl (by_number f (eqb (number_of f.kind) 20) refl e)
+    at false e = refuses f refl (λ j. false_true (sym e ∙ tested f j))
+
+-- two faults that are the same
+fault_or : FaultRecord → Judgement → FaultRecord
+fault_or f (Ok _) = f
+fault_or f (Err g) = g
+
+pub same_fault : {f g : FaultRecord} → ◌≡◌ {A = Judgement} (Err f) (Err g) → f ≡ g
+unfolding fault_or
+same_fault {f} q = ap (fault_or f) q
+
+-- two codes are not written alike: the second letters differ
+unlike : {A : Type 0} (a b : ℕ) (v w : List ℕ) → get_or v 1 0 ≡ a → get_or w 1 0 ≡ b → (a ≡ b → ⊥) → v ≡ w → A
+unlike a b v w e f n q = absurd (n (sym e ∙ ap (λ (l : List ℕ). get_or l 1 0) q ∙ f))
+
+-- what is accepted has no fault
+pub apart : {r : Judgement} {f : FaultRecord} → r ≡ Ok tt → r ≡ Err f → ⊥
+apart e q = let w = sym e ∙ q in let z : ◌≡◌ {A = ℕ} 0 1 = cc in omega arith
+
+module _ (r : Judgement) where
+  pub letters_accept : (letters_of (code_of r) ≡ ascii "AA") ↔ (r ≡ Ok tt)
+  letters_accept = at (code_of r) (says r)
     where
-      at : (s t : Bool) → eqb number 0 ≡ s → rejects number r.place r.field ≡ t → Says (cond s Accept (cond t Reject Error))
-      at true t e f = accepts (number_none r.kind (eqb-true number 0 e))
-      at false true e f = turns_away (λ q. eqb-false number 0 e (ap number_of q)) (by_number (eqb number 20) refl f)
-      at false false e f = refuses (λ q. eqb-false number 0 e (ap number_of q)) (λ j. false_true (sym f ∙ tested j))
-
-  -- two codes are not written alike: the second letters differ
-  unlike : {A : Type 0} (a b : ℕ) (v w : List ℕ) → get_or v 1 0 ≡ a → get_or w 1 0 ≡ b → (a ≡ b → ⊥) → v ≡ w → A
-  unlike a b v w e f n q = absurd (n (sym e ∙ ap (λ (l : List ℕ). get_or l 1 0) q ∙ f))
-
-  pub letters_accept : (letters_of (code_of r) ≡ ascii "AA") ↔ (r.kind ≡ None)
-  letters_accept = at (code_of r) says
-    where
-      at : (c : Code) → Says c → (letters_of c ≡ ascii "AA") ↔ (r.kind ≡ None)
+      at : (c : Code) → Says r c → (letters_of c ≡ ascii "AA") ↔ (r ≡ Ok tt)
       at Accept (accepts e) = (λ q. e, λ q. refl)
-      at Error (refuses n j) = (unlike 69 65 (ascii "AE") (ascii "AA") refl refl (λ e. omega arith), λ q. absurd (n q))
-      at Reject (turns_away n j) = (unlike 82 65 (ascii "AR") (ascii "AA") refl refl (λ e. omega arith), λ q. absurd (n q))
+      at Error (refuses f e j) = (unlike 69 65 (ascii "AE") (ascii "AA") refl refl (λ e. omega arith), λ q. absurd (apart q e))
+      at Reject (turns_away f e j) = (unlike 82 65 (ascii "AR") (ascii "AA") refl refl (λ e. omega arith), λ q. absurd (apart q e))
 
-  pub letters_reject : (letters_of (code_of r) ≡ ascii "AR") ↔ Rejects r
-  letters_reject = at (code_of r) says
+  pub letters_reject : (letters_of (code_of r) ≡ ascii "AR") ↔ Turns r
+  letters_reject = at (code_of r) (says r)
     where
-      none : r.kind ≡ None → Rejects r → ⊥
-      none e (unsupported n) = let z = ap number_of e in omega arith
-      none e (processing n p f) = let z = ap number_of e in omega arith
-      none e (version n p f) = let z = ap number_of e in omega arith
+      at : (c : Code) → Says r c → (letters_of c ≡ ascii "AR") ↔ Turns r
+      at Accept (accepts e) = (unlike 65 82 (ascii "AA") (ascii "AR") refl refl (λ e. omega arith), λ t. absurd (apart e t.1))
+      at Error (refuses f e j) = (unlike 69 82 (ascii "AE") (ascii "AR") refl refl (λ e. omega arith), λ t. absurd (j (subst Rejects (same_fault (sym t.1 ∙ e)) t.2)))
+      at Reject (turns_away f e j) = (λ q. (f, e, j), λ q. refl)
 
-      at : (c : Code) → Says c → (letters_of c ≡ ascii "AR") ↔ Rejects r
-      at Accept (accepts e) = (unlike 65 82 (ascii "AA") (ascii "AR") refl refl (λ e. omega arith), λ j. absurd (none e j))
-      at Error (refuses n j) = (unlike 69 82 (ascii "AE") (ascii "AR") refl refl (λ e. omega arith), λ q. absurd (j q))
-      at Reject (turns_away n j) = (λ q. j, λ q. refl)
-
-  pub letters_error : (letters_of (code_of r) ≡ ascii "AE") ↔ ((r.kind ≡ None → ⊥) × (Rejects r → ⊥))
-  letters_error = at (code_of r) says
+  pub letters_error : (letters_of (code_of r) ≡ ascii "AE") ↔ ((r ≡ Ok tt → ⊥) × (Turns r → ⊥))
+  letters_error = at (code_of r) (says r)
     where
-      at : (c : Code) → Says c → (letters_of c ≡ ascii "AE") ↔ ((r.kind ≡ None → ⊥) × (Rejects r → ⊥))
+      at : (c : Code) → Says r c → (letters_of c ≡ ascii "AE") ↔ ((r ≡ Ok tt → ⊥) × (Turns r → ⊥))
       at Accept (accepts e) = (unlike 65 69 (ascii "AA") (ascii "AE") refl refl (λ e. omega arith), λ q. absurd (q.0 e))
-      at Error (refuses n j) = (λ q. (n, j), λ q. refl)
-      at Reject (turns_away n j) = (unlike 82 69 (ascii "AR") (ascii "AE") refl refl (λ e. omega arith), λ q. absurd (q.1 j))
+      at Error (refuses f e j) = (λ q. (λ o. apart o e, λ t. j (subst Rejects (same_fault (sym t.1 ∙ e)) t.2)), λ q. refl)
+      at Reject (turns_away f e j) = (unlike 82 69 (ascii "AR") (ascii "AE") refl refl (λ e. omega arith), λ q. absurd (q.1 (f, e, j)))

@@ -14,12 +14,12 @@ use Rattle.element.specs.declared.states.State.{State}
 use Rattle.element.specs.declared.Element.{Element}
 use Rattle.fault.specs.Faults.{Judgement, number_judged}
 use Rattle.std.specs.Prelude.{Ok, Err, Result, IsOk}
-use Rattle.alphabet.specs.Answers.{number_of, fails_if, Check, passes, fails, number_given, Refusable}
+use Rattle.alphabet.specs.Answers.{number_of, fails_if, Check, passes, number_given, Refusable}
 use Rattle.alphabet.specs.Digits.{decimal}
 use Rattle.alphabet.specs.Limits.{message_limit}
 use Rattle.alphabet.specs.declared.answers.Refusal.{Refusal}
 use Rattle.alphabet.specs.declared.answers.Refusal.TheVariants.{Address as BadAddress, CallersTime, CallersId, NotAcknowledgeable, AcknowledgementTooLong, SegmentMisplaced, EndedEarly, BreaksForm, ValueTooLong}
-use Rattle.alphabet.proofs.CheckLaws.{NumberFromTo, Numbered, checked_given, number_checked}
+use Rattle.alphabet.proofs.CheckLaws.{Numbered, checked_given, number_checked}
 use Rattle.reading.specs.Reading.{reading}
 use Rattle.reading.specs.Segments.{segment_at}
 use Rattle.reading.proofs.Honest.{reading_numbered}
@@ -175,19 +175,16 @@ verdict_numbers m (by-fields a) = at (fields_number m rows)
 
 -- ---- acknowledging
 
-refusing_numbers : (m time id : List ℕ) → In (number_of (refusing m time id)) of_acknowledging
+refusing_numbers : (m time id : List ℕ) → In (number_given (refusing m time id)) of_acknowledging
 unfolding refusing
-refusing_numbers m time id = at (not (is_ts time)) (bad_id id) (not (acknowledgeable m))
-  where
-    at : (t u v : Bool) → In (number_of (cond t CallersTime (cond u CallersId (cond v NotAcknowledgeable None)))) of_acknowledging
-    at true u v = among of_acknowledging 16 refl
-    at false true v = among of_acknowledging 17 refl
-    at false false true = among of_acknowledging 9 refl
-    at false false false = here
+refusing_numbers m time id =
+    given_or of_acknowledging (fails_if (not (is_ts time)) CallersTime 0) _ (given_if of_acknowledging (not (is_ts time)) CallersTime 0 here (among of_acknowledging 16 refl))
+    (given_or of_acknowledging (fails_if (bad_id id) CallersId 0) _ (given_if of_acknowledging (bad_id id) CallersId 0 here (among of_acknowledging 17 refl))
+    (given_or of_acknowledging (fails_if (not (acknowledgeable m)) NotAcknowledgeable 0) passes (given_if of_acknowledging (not (acknowledgeable m)) NotAcknowledgeable 0 here (among of_acknowledging 9 refl)) here))
 
-pub acknowledge_numbers : (m time id lent : List ℕ) {r : Answer} {x : List ℕ} → Acknowledges m time id lent r x → In (number_of r.kind) of_acknowledging
+pub acknowledge_numbers : (m time id lent : List ℕ) {r : Refusable ℕ} {x : List ℕ} → Acknowledges m time id lent r x → In (number_given r) of_acknowledging
 unfolding answer roomy
-acknowledge_numbers m time id lent (not_written n) = refusing_numbers m time id
+acknowledge_numbers m time id lent (not_written f n) = subst (λ (c : Check). In (number_given c) of_acknowledging) n (refusing_numbers m time id)
 acknowledge_numbers m time id lent (written e found v) = at (leb (length w) (length lent) && leb (length w) message_limit)
   where
     w : List ℕ

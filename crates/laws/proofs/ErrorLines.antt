@@ -7,15 +7,14 @@ use Prim.Native.Nat.{ℕ, ◌+◌, ◌-◌, ◌≤◌, ◌<◌}
 use native.Mathlib.Omega.{arith}
 use lib.Dec.{eqb, ltb}
 use lib.ListN.{length, get_or, take, length-map}
-use borrow.Author.Tests.{eq-eqb, ne_eqb, le-leb, lt-leb, ltb-true}
-use Rattle.alphabet.specs.Answers.{number_of}
+use borrow.Author.Tests.{eq-eqb, le-leb, lt-leb, ltb-true}
+use Rattle.alphabet.specs.Answers.{number_of, passes}
 use Rattle.alphabet.specs.Bytes.{carriage_return, capital, digit, ascii}
 use Rattle.alphabet.specs.Delimiters.{permitted}
 use Rattle.alphabet.specs.Digits.{all_digits}
 use Rattle.alphabet.specs.Lists.{find}
 use Rattle.alphabet.specs.Parts.{split, join}
-use Rattle.alphabet.specs.declared.answers.Check.TheVariants.{Passes}
-use Rattle.alphabet.specs.declared.answers.Refusal.TheVariants.{None, SegmentMisplaced, EndedEarly}
+use Rattle.alphabet.specs.declared.answers.Refusal.TheVariants.{SegmentMisplaced, EndedEarly}
 use Rattle.alphabet.proofs.BoolLaws.{from_to_lem, and_both, false_true}
 use Rattle.alphabet.proofs.CheckLaws.{numbered_fails}
 use Rattle.alphabet.proofs.PartLaws.{split_last}
@@ -28,9 +27,11 @@ use Rattle.structure.specs.SegmentNames.{segment_names}
 use Rattle.structure.specs.Structures.{built_in}
 use Rattle.structure.specs.Shapes.{Shape}
 use Rattle.structure.specs.Judged.{Judged, accepted, refused, no_structure, by, unread, read, Answers}
+use Rattle.fault.specs.Faults.{Judgement}
 use Rattle.fault.specs.declared.FaultRecord.{FaultRecord}
+use Rattle.std.specs.Prelude.{Ok, Err}
 use Rattle.field_table.specs.Table.{rows}
-use Rattle.fields.specs.Judging.{Fault, Sound, Faulty, judging, fault_answer}
+use Rattle.fields.specs.Judging.{Fault, judging, fault_answer}
 use Rattle.verdict.specs.Verdicts.{Verdicts}
 use Rattle.verdict.specs.Verdicts.VerdictsBy.{refused as by-structure, judged as by-fields}
 use Rattle.verdict.proofs.VerdictLaws.{shaped}
@@ -43,6 +44,7 @@ use Rattle.laws.proofs.NumeralReads.{numeral_reads}
 use Rattle.laws.proofs.LineLaws.{or_true, Printable, Not, Clean, joined_printable, joined_parts}
 use Rattle.laws.proofs.SenderLaws.{delimiter_printable, delimiters_apart, no_delimiter, sign_clean}
 use Rattle.laws.proofs.ValueBytes.{digit_none}
+use Rattle.laws.proofs.CodeLaws.{same_fault, apart}
 use Rattle.laws.proofs.WrittenLaws.{Behind}
 
 -- ---- signs
@@ -137,34 +139,38 @@ low_nowhere n h = ap (λ (t : Bool). eqb n 22 || t) (le-leb n 8 h) ∙ or_true (
 -- where it points somewhere, the message was read, and the record's place is that of a segment; that of a 20 is 0
 module _ (m : List ℕ) where
   abbrev Points : FaultRecord → Type 0
-  Points r = nowhere (number_of r.kind) ≡ false → (reading m ≡ Passes) × (r.place < length (segments m)) × (number_of r.kind ≡ 20 → r.place ≡ 0)
+  Points r = nowhere (number_of r.kind) ≡ false → (reading m ≡ passes) × (r.place < length (segments m)) × (number_of r.kind ≡ 20 → r.place ≡ 0)
 
-  judged_points : (s : Shape) {r : FaultRecord} → reading m ≡ Passes → Judged s (segment_names m) r → Points r
+  judged_points : (s : Shape) {j : Judgement} → reading m ≡ passes → Judged s (segment_names m) j → (r : FaultRecord) → j ≡ Err r → Points r
   unfolding segment_names
-  judged_points s p (accepted y) q = absurd (false_true (sym q))
-  judged_points s p (refused place ends list f) q = at (ltb place (length (segment_names m))) refl q
+  judged_points s p (accepted y) r e = absurd (apart refl e)
+  judged_points s p (refused place ends list f) r e = subst Points (same_fault e) (λ q. at (ltb place (length (segment_names m))) refl q)
     where
       at : (t : Bool) → ltb place (length (segment_names m)) ≡ t → nowhere (number_of (cond t SegmentMisplaced EndedEarly)) ≡ false
-          → (reading m ≡ Passes) × (place < length (segments m)) × (number_of (cond t SegmentMisplaced EndedEarly) ≡ 20 → place ≡ 0)
+          → (reading m ≡ passes) × (place < length (segments m)) × (number_of (cond t SegmentMisplaced EndedEarly) ≡ 20 → place ≡ 0)
       at true e n = let l = ltb-true place (length (segment_names m)) e in let k = length-map (segments m) name_of in (p, omega arith, λ q. absurd (omega arith))
       at false e n = absurd (false_true (sym n))
 
-  answers_points : {r : FaultRecord} → Answers m r → Points r
-  answers_points (unread kind place f) q = absurd (false_true (sym q ∙ low_nowhere (number_of kind) (numbered_fails 1 8 (reading m) kind place (reading_numbered m) f).1))
-  answers_points (read p (no_structure g)) q = (p, let n = (accepted-message m p).some_segments in omega arith, λ e. refl)
-  answers_points (read p (by x g j)) q = judged_points x.shape p j q
+  answers_points : {j : Judgement} → Answers m j → (r : FaultRecord) → j ≡ Err r → Points r
+  answers_points (unread kind place f) r e =
+      subst Points (same_fault e) (λ q. absurd (false_true (sym q ∙ low_nowhere (number_of kind) (numbered_fails 1 8 (reading m) kind place (reading_numbered m) f).1)))
+  answers_points (read p (no_structure g)) r e = subst Points (same_fault e) (λ q. (p, let n = (accepted-message m p).some_segments in omega arith, λ e. refl))
+  answers_points (read p (by x g j)) r e = judged_points x.shape p j r e
 
-  fields_points : (f : Fault) → reading m ≡ Passes → FaultNumbered 0 (length (segments m)) f → Points (fault_answer f)
-  fields_points Sound p h q = absurd (false_true (sym q))
-  fields_points (Faulty kind segment field repetition) p h q = (p, h.2, λ e. absurd (let b = h.0.0 in omega arith))
+  fields_points : (f : Fault) → reading m ≡ passes → FaultNumbered 0 (length (segments m)) f → (r : FaultRecord) → fault_answer f ≡ Err r → Points r
+  fields_points (Ok _) p h r e = absurd (apart refl e)
+  fields_points (Err f) p h r e = subst Points (same_fault e) (λ q. (p, h.2, λ e. absurd (let b = h.0.0 in omega arith)))
 
-  pub points : {r : FaultRecord} → Verdicts m r → Points r
-  points (by-structure r a n) = answers_points a
-  points (by-fields r a n) = fields_points (judging rows m) (shaped built_in m a n).passed (judging_numbered m rows)
+  verdict_points : {j : Judgement} → Verdicts m j → (r : FaultRecord) → j ≡ Err r → Points r
+  verdict_points (by-structure f a) r e = answers_points a r e
+  verdict_points (by-fields a) r e = fields_points (judging rows m) (shaped built_in m a refl).passed (judging_numbered m rows) r e
+
+  pub points : {r : FaultRecord} → Verdicts m (Err r) → Points r
+  points {r} v = verdict_points v r refl
 
 -- ---- the parts
 
-part_signs : (m : List ℕ) {r : FaultRecord} → Verdicts m r → Every (Each Sign) (error_parts m r)
+part_signs : (m : List ℕ) {r : FaultRecord} → Verdicts m (Err r) → Every (Each Sign) (error_parts m r)
 unfolding Every Each
 part_signs m {r = r} v = at (nowhere (number_of r.kind)) refl
   where
@@ -184,16 +190,16 @@ four m r = at (nowhere (number_of r.kind)) refl
 
 -- ---- whether there is a line
 
-module _ (m : List ℕ) (r : FaultRecord) where
-  pub lines_none : r.kind ≡ None → error_lines m r ≡ []
-  lines_none e = rw (eq-eqb (number_of r.kind) 0 (ap number_of e))
+module _ (m : List ℕ) {found : Judgement} where
+  pub lines_none : found ≡ Ok tt → error_lines m found ≡ []
+  lines_none e = ap (error_lines m) e
 
-  pub lines_one : (number_of r.kind ≡ 0 → ⊥) → error_lines m r ≡ error_line m r ∷ []
-  lines_one n = rw (ne_eqb (number_of r.kind) 0 n)
+  pub lines_one : {r : FaultRecord} → found ≡ Err r → error_lines m found ≡ error_line m r ∷ []
+  lines_one e = ap (error_lines m) e
 
 -- ---- the line, under the delimiters of a sound header h of the same delimiters
 
-module _ (h : List ℕ) (o : Opened h) (one : find carriage_return h + 1 ≡ length h) (m : List ℕ) (same : delimiters_of h ≡ delimiters_of m) {r : FaultRecord} (v : Verdicts m r) where
+module _ (h : List ℕ) (o : Opened h) (one : find carriage_return h + 1 ≡ length h) (m : List ℕ) (same : delimiters_of h ≡ delimiters_of m) {r : FaultRecord} (v : Verdicts m (Err r)) where
   abbrev ds : List ℕ
   ds = delimiters_of h
 
@@ -247,7 +253,7 @@ module _ (h : List ℕ) (o : Opened h) (one : find carriage_return h + 1 ≡ len
   unfolding join name_of
   line_name = ap name_of line_is
 
-  line_behind : Behind sep (error_line m r ∷ [])
+  pub line_behind : Behind sep (error_line m r ∷ [])
   unfolding Every join name_of
   line_behind =
       let l = line_is in
@@ -257,14 +263,6 @@ module _ (h : List ℕ) (o : Opened h) (one : find carriage_return h + 1 ≡ len
         named_well = (ap (named sep) l ∙ rw (eq-eqb sep sep refl) (or_true (eqb (length (join sep (ascii "ERR" ∷ told ∷ []))) 3)), tt);
         no_other = (ap is_header l, tt);
       }
-
-  pub lines_behind : Behind sep (error_lines m r)
-  unfolding Every
-  lines_behind = at (eqb (number_of r.kind) 0)
-    where
-      at : (t : Bool) → Behind sep (cond t [] (error_line m r ∷ []))
-      at true = record { told = inl refl; printed = tt; named_well = tt; no_other = tt }
-      at false = line_behind
 
   -- ---- component c of ERR-1, from what is looked up in the line
 
@@ -280,3 +278,11 @@ module _ (h : List ℕ) (o : Opened h) (one : find carriage_return h + 1 ≡ len
       let p = get_or (error_parts m r) c [] in
       let n = each_free (get_or ds 4 0) p (each_weaken (Clean (get_or ds 4 0)) (Not (get_or ds 4 0)) (λ b q. q.1) p (every_at (Each (Clean (get_or ds 4 0))) (error_parts m r) tt (parts_clean 4 (omega arith)) c)) in
       split_last (get_or ds 4 0) p (omega arith)
+
+-- ---- the lines, by any verdict
+
+module _ (h : List ℕ) (o : Opened h) (one : find carriage_return h + 1 ≡ length h) (m : List ℕ) (same : delimiters_of h ≡ delimiters_of m) where
+  pub lines_behind : {found : Judgement} → Verdicts m found → Behind (get_or (delimiters_of h) 0 0) (error_lines m found)
+  unfolding Every
+  lines_behind {found = Ok _} v = record { told = inl refl; printed = tt; named_well = tt; no_other = tt }
+  lines_behind {found = Err r} v = line_behind h o one m same v

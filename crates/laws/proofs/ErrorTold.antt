@@ -11,11 +11,12 @@ use lib.Dec.{eqb, leb}
 use lib.ListN.{length, get_or, take, length-map}
 use lib.Seq.{length-take-le, take-take}
 use borrow.Author.Tests.{eq-eqb, ne_eqb, eqb-true, eqb-false, le-leb, lt-leb, leb-true}
-use Rattle.alphabet.specs.Answers.{number_of}
+use Rattle.alphabet.specs.Answers.{number_of, passes}
 use Rattle.alphabet.specs.Bytes.{carriage_return, ascii}
 use Rattle.alphabet.specs.Lists.{find}
-use Rattle.alphabet.specs.declared.answers.Check.TheVariants.{Passes}
+use Rattle.std.specs.Prelude.{Err}
 use Rattle.alphabet.proofs.BoolLaws.{and_both, false_true}
+use Rattle.alphabet.proofs.CheckLaws.{number_positive}
 use Rattle.reading.specs.Reading.{reading}
 use Rattle.reading.specs.Segments.{segments, field_separator, is_header, name_of}
 use Rattle.reading.proofs.Accepted.{accepted as accepted-message}
@@ -144,7 +145,7 @@ name_at [] (suc k) = refl
 name_at (s ∷ ss) zero = refl
 name_at (s ∷ ss) (suc k) = name_at ss k
 
-located : (m : List ℕ) (k : ℕ) → reading m ≡ Passes → k < length (segments m) → Located m k (take 3 (faulty m k)) (sequence_of m k)
+located : (m : List ℕ) (k : ℕ) → reading m ≡ passes → k < length (segments m) → Located m k (take 3 (faulty m k)) (sequence_of m k)
 unfolding segment_names
 located m k p h =
     let s = named_signs (field_separator m) (faulty m k) ((accepted-message m p).all_named k h) in
@@ -170,7 +171,7 @@ located_so m k l = (
 
 module _ (m : List ℕ) where
   -- the first segment's name is MSH, and it is the first of that name
-  first_name : reading m ≡ Passes → (take 3 (faulty m 0) ≡ ascii "MSH") × (sequence_of m 0 ≡ 1)
+  first_name : reading m ≡ passes → (take 3 (faulty m 0) ≡ ascii "MSH") × (sequence_of m 0 ≡ 1)
   unfolding segment_names count_of
   first_name p =
       let g = accepted-message m p in
@@ -217,7 +218,7 @@ numeral_nine = refl
 pub told_as : (P : List ℕ → List ℕ → List ℕ → Type 0) {a b c x y z : List ℕ} → a ≡ x → b ≡ y → c ≡ z → P a b c → P x y z
 told_as P {a = a} {b = b} {c = c} {x = x} {y = y} {z = z} e f g p = subst (λ (u : List ℕ). P x y u) g (subst (λ (u : List ℕ). P x u c) f (subst (λ (u : List ℕ). P u b c) e p))
 
-module _ (m : List ℕ) {r : FaultRecord} (v : Verdicts m r) (some : number_of r.kind ≡ 0 → ⊥) where
+module _ (m : List ℕ) {r : FaultRecord} (v : Verdicts m (Err r)) where
   abbrev number : ℕ
   number = number_of r.kind
 
@@ -243,7 +244,7 @@ module _ (m : List ℕ) {r : FaultRecord} (v : Verdicts m r) (some : number_of r
       let l = located m r.place p.0 p.1 in
       at (eqb number 20) (eqb number 21) refl refl p l
     where
-      at : (s t : Bool) → eqb number 20 ≡ s → eqb number 21 ≡ t → (reading m ≡ Passes) × (r.place < length (segments m)) × (number ≡ 20 → r.place ≡ 0) → Located m r.place (take 3 (faulty m r.place)) (sequence_of m r.place)
+      at : (s t : Bool) → eqb number 20 ≡ s → eqb number 21 ≡ t → (reading m ≡ passes) × (r.place < length (segments m)) × (number ≡ 20 → r.place ≡ 0) → Located m r.place (take 3 (faulty m r.place)) (sequence_of m r.place)
           → TellsPlace m r (take 3 (faulty m r.place)) (numeral (sequence_of m r.place)) (cond t [] (numeral (cond s 9 r.field)))
       at true true e f p l = absurd (let n = eqb-true number 20 e in let k = eqb-true number 21 f in omega arith)
       at true false e f p l =
@@ -261,7 +262,7 @@ module _ (m : List ℕ) {r : FaultRecord} (v : Verdicts m r) (some : number_of r
     where
       at : (s t : Bool) → eqb number 22 ≡ s → leb number 8 ≡ t → Tells_place
       at true t e f = empty (rw e) (at_the_end (eqb-true number 22 e))
-      at false true e f = empty (rw e (rw f)) (not_read (let n = some in omega arith) (leb-true number 8 f))
+      at false true e f = empty (rw e (rw f)) (not_read (number_positive r.kind) (leb-true number 8 f))
       at false false e f = there_so (rw e (rw f)) (somewhere (rw e (rw f)))
 
   code_part : part 3 ≡ numeral (error_code number r.place r.field)
@@ -272,7 +273,7 @@ module _ (m : List ℕ) {r : FaultRecord} (v : Verdicts m r) (some : number_of r
       at false w = ap (λ (l : List (List ℕ)). get_or l 3 []) (parts_there m r w)
 
   pub code_tells : TellsCode r (part 3)
-  code_tells = subst (TellsCode r) (sym code_part) (each_in (Tells r) of_verdict (each_tells r) (verdict_numbers m v) some refl)
+  code_tells = subst (TellsCode r) (sym code_part) (each_in (Tells r) of_verdict (each_tells r) (verdict_numbers m v) (λ e. let n = number_positive r.kind in omega arith) refl)
 
 -- ---- no second answer
 

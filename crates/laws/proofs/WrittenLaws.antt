@@ -9,12 +9,13 @@ use native.Mathlib.Omega.{arith}
 use lib.Dec.{eqb}
 use lib.ListN.{length, get_or}
 use borrow.Author.Tests.{eq-eqb, le-leb}
+use Rattle.std.specs.Prelude.{Ok}
+use Rattle.alphabet.specs.Answers.{passes}
 use Rattle.alphabet.specs.Bytes.{carriage_return, digit, ascii}
 use Rattle.alphabet.specs.Delimiters.{permitted}
 use Rattle.alphabet.specs.Limits.{message_limit}
 use Rattle.alphabet.specs.Lists.{find, same}
 use Rattle.alphabet.specs.Parts.{split, join}
-use Rattle.alphabet.specs.declared.answers.Check.TheVariants.{Passes}
 use Rattle.alphabet.proofs.BoolLaws.{from_to_lem}
 use Rattle.alphabet.proofs.DelimiterLaws.{delimiter_own}
 use Rattle.alphabet.proofs.LimitLaws.{segment_limit_three}
@@ -32,13 +33,11 @@ use Rattle.laws.proofs.ValueBytes.{time_each, digit_none}
 use Rattle.escaping.specs.Escape.{escape}
 use Rattle.laws.proofs.RoundTrip.{AreBytes}
 use Rattle.laws.proofs.Clean.{MayStand, never_separator}
-use Rattle.alphabet.specs.declared.answers.Refusal.TheVariants.{None}
 use Rattle.structure.specs.Shapes.{Yields, names}
 use Rattle.structure.specs.Shapes.Spans.{stand, skip, once, ended as ended-shape}
 use Rattle.structure.specs.SegmentNames.{segment_names, among, passed_over, kept}
 use Rattle.element.specs.Addresses.{type_address}
 use Rattle.structure.specs.Structures.{ack, chosen, structure_for, built_in, acknowledgement as ackListed}
-use Rattle.fault.specs.Faults.{plain}
 use Rattle.structure.specs.Judged.{Judged, accepted, by, Answers, read}
 use Rattle.structure.proofs.ChoiceLaws.{is_acknowledgement}
 use Rattle.acknowledgement.specs.Acknowledgement.{field_address, sent, type_part, present, encoding, type_sent, header_parts, answer_parts, acknowledgement, version}
@@ -249,7 +248,7 @@ module _ (h : List ℕ) (o : Opened h) (one : find carriage_return h + 1 ≡ len
       message_written = lines_message all_lines fits
 
       -- "reads back through our reader"
-      pub reads_back : reading written ≡ Passes
+      pub reads_back : reading written ≡ passes
       reads_back = accepting written message_written
 
     -- ---- its fields
@@ -352,14 +351,14 @@ module _ (h : List ℕ) (o : Opened h) (one : find carriage_return h + 1 ≡ len
     names_written = ap (map name_of) segments_written
 
     -- "fits the ACK structure": it yields the names
-    pub fits_ack : Judged ack (segment_names written) (plain None 0)
+    pub fits_ack : Judged ack (segment_names written) (Ok tt)
     unfolding kept passed_over among
     fits_ack =
         ⊎_elim (λ q. fits q (stand (stand (skip ended-shape)))) (λ q. fits q (stand (stand (once (stand ended-shape) ended-shape)))) behind.told
       where
-        fits : {l : List ℕ} → map name_of es ≡ l → Yields ack (kept (names ack) (name "MSH" ∷ name "MSA" ∷ l)) → Judged ack (segment_names written) (plain None 0)
+        fits : {l : List ℕ} → map name_of es ≡ l → Yields ack (kept (names ack) (name "MSH" ∷ name "MSA" ∷ l)) → Judged ack (segment_names written) (Ok tt)
         fits q y = accepted (subst (λ (ns : List ℕ). Yields ack (kept (names ack) ns)) (sym (names_written ∙ ap (λ (l : List ℕ). name "MSH" ∷ name "MSA" ∷ l) q)) y)
 
     -- the structure judge accepts it
-    pub judged_written : length written ≤ message_limit → Answers written (plain None 0)
+    pub judged_written : length written ≤ message_limit → Answers written (Ok tt)
     judged_written fits = read (reads_back fits) (by ackListed structure_written fits_ack)
