@@ -3,8 +3,7 @@ use mathlib.Core.Path.{◌≡◌, sym, ap, ◌∙◌}
 use mathlib.Core.List.{List}
 use Prim.Native.Nat.{ℕ}
 use lib.ListN.{get_or}
-use Rattle.std.specs.Prelude.{Result}
-use Rattle.fault.specs.declared.FaultRecord.{FaultRecord}
+use Rattle.fault.specs.Faults.{Judgement}
 use Rattle.structure.proofs.OnlyOne.{only_one}
 use Rattle.verdict.proofs.VerdictLaws.{one_verdict}
 use Rattle.acknowledgement.proofs.AnswerLaws.{one_answer}
@@ -20,7 +19,7 @@ pub one_verdict_seen : (m : List ℕ) {r t : CVerdict} → VerdictSeen m r → V
 one_verdict_seen m a b = a.seen_as ∙ ap verdict_seen (one_verdict m a.answers b.answers) ∙ sym b.seen_as
 
 pub one_name_seen : (m : List ℕ) (index : ℕ) {r t : ℕ} → NameSeen m index r → NameSeen m index t → r ≡ t
-one_name_seen m index a b = a.seen_as ∙ ap (λ (j : Result (Unit {0}) FaultRecord). get_or (names_listed j) index 0) (only_one m a.answers b.answers) ∙ sym b.seen_as
+one_name_seen m index a b = a.seen_as ∙ ap (λ (j : Judgement). get_or (names_listed j) index 0) (only_one m a.answers b.answers) ∙ sym b.seen_as
 
 -- the answer, and every byte of the buffer
 pub one_acknowledge_seen : (m time id lent : List ℕ) {r t : CAnswer} {x y : List ℕ} → AcknowledgeSeen m time id lent r x → AcknowledgeSeen m time id lent t y → (r ≡ t) × (x ≡ y)

@@ -37,7 +37,14 @@ frame_seen (Some (Frame n)) = n
 frame_seen (Some (Drop kind)) = 0
 
 abbrev pub told_seen : Fed → CFed
-told_seen f = record { number = drop_seen f.stop; stop = stop_seen f.stop; used = f.used; length = frame_seen f.stop; state = handed_back f.state }
+told_seen f =
+    record {
+      number = drop_seen f.stop;
+      stop = stop_seen f.stop;
+      used = f.used;
+      length = frame_seen f.stop;
+      state = handed_back f.state;
+    }
 
 -- where the state that was handed in is refused, it goes back as it is
 abbrev pub fed_seen : CFrameState → Result Fed Refusal → CFed

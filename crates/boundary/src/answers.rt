@@ -1,7 +1,9 @@
-// What every answer has in common: the number of the refusal, and its place.
+// What every answer has in common: the number of the refusal, and its place. The C interface has a struct of numbers for
+// what is a Result in the library.
 ghost use Rattle.std.specs.Prelude.{◌≡◌};
+ghost use Rattle.alphabet.specs.Answers.{given};
 ghost use Rattle.reading.specs.Reading.{reading};
-ghost use Rattle.boundary.specs.Seen.{seen, seen_check};
+ghost use Rattle.boundary.specs.Seen.{seen};
 
 use alphabet::Fault;
 
@@ -12,17 +14,6 @@ pub struct CAnswer {
     pub number: u32,
     pub place: usize,
     pub length: usize,
-}
-
-// A refusal as C sees it.
-fn refused(fault: Fault) -> CAnswer
-    ensures { result ≡ seen (Err fault) }
-{
-    CAnswer {
-        number: u32::from(u8::from(fault.kind)),
-        place: fault.place,
-        length: 0,
-    }
 }
 
 // An answer that gives a length, as C sees it.
@@ -36,31 +27,19 @@ impl From<Result<usize, Fault>> for CAnswer {
                 place: 0,
                 length,
             },
-            Err(fault) => refused(fault),
-        }
-    }
-}
-
-// One that gives nothing has length 0.
-impl From<Result<(), Fault>> for CAnswer {
-    ghost from_gives = { λ check r. r ≡ seen_check check };
-
-    fn from(check: Result<(), Fault>) -> CAnswer {
-        match check {
-            Ok(()) => CAnswer {
-                number: 0,
-                place: 0,
+            Err(fault) => CAnswer {
+                number: u32::from(u8::from(fault.kind)),
+                place: fault.place,
                 length: 0,
             },
-            Err(fault) => refused(fault),
         }
     }
 }
 
-// Reads a message: 0, or 1 to 8 and the byte.
+// Reads a message: 0, or 1 to 8 and the byte. Nothing is written: the length is 0.
 #[unsafe(no_mangle)]
 pub extern "C" fn turrethog_read(message: &[u8]) -> CAnswer
-    ensures { result ≡ seen_check (reading message.now) }
+    ensures { result ≡ seen (given (reading message.now) 0) }
 {
-    CAnswer::from(reading::read(message))
+    CAnswer::from(reading::read(message).map(|()| 0))
 }

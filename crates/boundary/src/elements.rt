@@ -1,5 +1,6 @@
 // An element of a message by its address, and the number or the time that it says. A state is 0 absent, 1 empty, 2
-// null, 3 present; an element that is not present has no number: an empty box is not a zero.
+// null, 3 present; an element that is not present has no number: an empty box is not a zero. The C interface has the
+// five numbers of an address one by one.
 ghost use Rattle.std.specs.Prelude.{◌≡◌};
 ghost use Rattle.element.specs.Finding.{found};
 ghost use Rattle.value.specs.Asked.{nm_found, si_found, dt_found, tm_found, ts_found};

@@ -27,13 +27,15 @@ pub struct CFed {
 }
 
 // The state that C handed in: a number that is no mode's stands for a mode that cannot be.
-fn handed_in(state: CFrameState) -> FrameState
-    ensures { result ≡ handed_in state }
-{
-    FrameState {
-        mode: Mode::from(state.mode),
-        held: state.held,
-        count: state.count,
+impl From<CFrameState> for FrameState {
+    ghost from_gives = { λ state r. r ≡ handed_in state };
+
+    fn from(state: CFrameState) -> FrameState {
+        FrameState {
+            mode: Mode::from(state.mode),
+            held: state.held,
+            count: state.count,
+        }
     }
 }
 
@@ -79,7 +81,7 @@ pub extern "C" fn turrethog_feed(state: CFrameState, piece: &[u8], buffer: &mut 
     ensures buffer_after { buffer.new
         ≡ (fed (handed_in state) piece.now buffer.old).left }
 {
-    match handed_in(state).feed(piece, buffer) {
+    match FrameState::from(state).feed(piece, buffer) {
         Ok(fed) => CFed::from(fed),
         Err(kind) => CFed {
             number: u32::from(u8::from(kind)),

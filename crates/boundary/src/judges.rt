@@ -1,5 +1,6 @@
 // The judges: structure alone, and the verdict over reading, structure and fields; and the names that could have stood
-// where a segment could not, one by one.
+// where a segment could not, one by one. The C interface has no Result and no Option: what is accepted is the number 0,
+// and no name is 0.
 ghost use Rattle.std.specs.Prelude.{◌≡◌};
 ghost use Rattle.boundary.specs.Seen.{structure_seen, verdict_seen, StructureSeen, VerdictSeen, NameSeen};
 
@@ -100,9 +101,5 @@ pub extern "C" fn turrethog_could_stand(message: &[u8], index: usize) -> u32
     let Err(fault) = structure::judge_structure(message) else {
         return 0;
     };
-    let names = fault.names;
-    if names.list.len() <= index {
-        return 0;
-    }
-    names.list[index]
+    fault.names.list.get(index).copied().unwrap_or(0)
 }

@@ -1,5 +1,5 @@
 // What writes into a lent buffer: text escaped, unescaped and laid out in lines, and the acknowledgement. A refusal
-// writes nothing.
+// writes nothing. The C interface has the five delimiters one by one.
 ghost use Rattle.std.specs.Prelude.{◌≡◌, [], ◌∷◌, length};
 ghost use Rattle.escaping.specs.Outcomes.{escaping, answer, filled};
 ghost use Rattle.text.specs.Unescape.{unescaping};

@@ -6,10 +6,11 @@ ghost use Rattle.boundary.specs.Framing.{fed_seen, handed_in};
 
 use boundary::{CFed, CFrameState};
 
-// Reads a piece of the line, and gathers a frame at the front of the buffer.
+// Reads a piece of the line, and gathers a frame at the front of the buffer. Where the state is refused the stop is 3,
+// and C's own state goes back to it.
 #[unsafe(no_mangle)]
 pub extern "C" fn turrethog_feed(state: CFrameState, piece: &[u8], buffer: &mut [u8]) -> CFed
-    ensures value { result ≡ fed_seen (fed (handed_in state) piece.now buffer.old).said }
+    ensures value { result ≡ fed_seen state (fed (handed_in state) piece.now buffer.old).said }
     ensures buffer_after { buffer.new
         ≡ (fed (handed_in state) piece.now buffer.old).left }
 {
