@@ -1,15 +1,13 @@
 -- Rests on what stands against an acknowledgement, check by check, and on the ERR segment having room.
 use mathlib.Core.Path.{◌≡◌, sym, ap, ap₂, ◌∙◌, subst}
-use mathlib.Core.Bool.{Bool, false, not}
+use mathlib.Core.Bool.{Bool, not}
 use mathlib.Core.List.{List}
-use Prim.Native.Nat.{ℕ, ◌≤◌}
-use lib.ListN.{length, take, drop, length-append}
-use lib.Seq.{take-append_seam, length-take-le}
-use native.Mathlib.Omega.{arith}
+use Prim.Native.Nat.{ℕ}
+use lib.ListN.{length, take, drop}
+use lib.Seq.{take-append_seam}
 use borrow.Author.Rules.{rules}
 use Rattle.std.specs.Prelude.{Err}
 use Rattle.alphabet.specs.Answers.{Refusable, fails_if, passes}
-use Rattle.alphabet.proofs.CheckLaws.{passes_not}
 use Rattle.alphabet.specs.declared.answers.Refusal.TheVariants.{CallersTime, CallersId}
 use Rattle.reading.specs.Message.{ended}
 use Rattle.times.specs.Times.{is_ts}
@@ -17,7 +15,7 @@ use Rattle.error_segment.specs.Errors.{error_lines}
 use Rattle.acknowledgement.specs.Acknowledgement.{bad_id, Acknowledges}
 use Rattle.acknowledgement.specs.Acknowledgement.Acknowledges.{not_written}
 use Rattle.acknowledgement.proofs.AnswerLaws.{meets}
-use Rattle.acknowledgement.proofs.HeaderLaws.{time_stops, id_stops, header_stops, none_stops, id_short}
+use Rattle.acknowledgement.proofs.HeaderLaws.{time_stops, id_stops, header_stops, none_stops}
 use Rattle.acknowledgement.proofs.acknowledging.acknowledge.Goals.{In_ok-fails_if, In_ok-fails_if-2, After-put_segment-n}
 use Rattle.acknowledgement.proofs.acknowledging.acknowledge.Goals as goal
 
@@ -48,32 +46,13 @@ returns-in_default c =
     let a = c.args in
     not_written _ (header_stops a.message.now a.time.now a.id.now (timed (goal.at.returns-in_default c).In_ok-fails_if) (named (goal.at.returns-in_default c).In_ok-fails_if-2) c.in_default.ensures)
 
--- the ERR segment that was written, and the front of the small buffer that is handed on
+-- the ERR segment that was written is handed on
 line : (c : After-put_segment-n)
-    → let m = c.args.message.now in
-    let w = ended (error_lines m c.verdict-found.result) in
-    (take c.put_segment-n.result c.put_segment-n.new.line ≡ w) × (c.put_segment-n.result ≤ length c.put_segment-n.new.line)
+    → take c.put_segment-n.result c.put_segment-n.new.line ≡ ended (error_lines c.args.message.now c.verdict-found.result)
 line c =
-    let m = c.args.message.now in
-    let w = ended (error_lines m c.verdict-found.result) in
-    let b = c.error_buffer-error.result in
-    let n = c.put_segment-n.ensures.value in
-    let d = c.put_segment-n.ensures.line_after in (
-      ap₂ (λ (k : ℕ) (x : List ℕ). take k x) n d ∙ take-append_seam w (drop (length w) b),
-      omega (arith, n, ap length d, length-append w (drop (length w) b)),
-    )
-
-id_right : (c : In_ok-fails_if-2) → bad_id c.args.id.now ≡ false
-id_right c = passes_not (bad_id c.args.id.now) CallersId 0 (named c)
-
-pub write-requires : goal.write-requires
-write-requires c = let a = c.args in id_short a.message.now a.time.now a.id.now (id_right (goal.at.write-requires c).In_ok-fails_if-2)
-
-pub slice_bounds-error-end : goal.slice_bounds-error-end
-slice_bounds-error-end c = let l = (line (goal.at.slice_bounds-error-end c).After-put_segment-n).1 in omega arith
-
-pub slice_bounds-write-end : goal.slice_bounds-write-end
-slice_bounds-write-end c = sym (length-take-le _ _ (line (goal.at.slice_bounds-write-end c).After-put_segment-n).1)
+    let w = ended (error_lines c.args.message.now c.verdict-found.result) in
+    ap₂ (λ (k : ℕ) (x : List ℕ). take k x) c.put_segment-n.ensures.value c.put_segment-n.ensures.line_after
+    ∙ take-append_seam w (drop (length w) c.error_buffer-error.result)
 
 pub returns : goal.returns
 returns c =
@@ -81,4 +60,4 @@ returns c =
     let known = c.in-Some.ensures in
     meets a.message.now a.time.now a.id.now a.buffer.now c.in-Some.header.bytes.now _ c.code_of.result c.verdict-found.result _ _
     (none_stops a.message.now a.time.now a.id.now (timed (goal.at.returns c).In_ok-fails_if) (named (goal.at.returns c).In_ok-fails_if-2) known.0) c.verdict-found.ensures
-    known.1 c.code_of.ensures (line (goal.at.returns c).After-put_segment-n).0 c.write.ensures.value c.write.ensures.buffer_after
+    known.1 c.code_of.ensures (line (goal.at.returns c).After-put_segment-n) c.write.ensures.value c.write.ensures.buffer_after

@@ -1,11 +1,10 @@
 -- Rests on the ID being written as text, and on the texts together being the acknowledgement.
-use mathlib.Core.Path.{◌≡◌, sym, ap, ap₂, ◌∙◌}
+use mathlib.Core.Path.{◌≡◌, ap, ap₂, ◌∙◌}
 use mathlib.Core.List.{List, [], ◌++◌}
-use Prim.Native.Nat.{ℕ, ◌≤◌}
-use lib.ListN.{length, take, drop, length-append}
-use lib.Seq.{take-append_seam, length-take-le}
+use Prim.Native.Nat.{ℕ}
+use lib.ListN.{length, take, drop}
+use lib.Seq.{take-append_seam}
 use native.Mathlib.Omega.{arith}
-use borrow.Author.Rules.{rules}
 use Rattle.alphabet.specs.Delimiters.{first_wrong_delimiter}
 use Rattle.reading.specs.Segments.{delimiters_of}
 use Rattle.reading.specs.Message.{Opened}
@@ -32,13 +31,6 @@ handed c =
     ap₂ (λ (n : ℕ) (x : List ℕ). take n x) c.put_id-n.ensures.value c.put_id-n.ensures.buffer_after ∙ take-append_seam w (drop (length w) c.id_buffer-escaped.result)
     ∙ ap (λ (ds : List ℕ). escape ds a.id.now) c.delimiters_of-delimiters.ensures
 
-inside : (c : After-put_id-n) → c.put_id-n.result ≤ length c.put_id-n.new.buffer
-inside c =
-    let a = c.args in
-    let w = escape c.delimiters_of-delimiters.result.bytes a.id.now in
-    let e = c.put_id-n.ensures in
-    omega (arith, e.value, ap length e.buffer_after, length-append w (drop (length w) c.id_buffer-escaped.result))
-
 pub put_id-n-requires : goal.put_id-n-requires
 put_id-n-requires c =
     (ap first_wrong_delimiter c.delimiters_of-delimiters.ensures ∙ (opened (goal.at.put_id-n-requires c).Start).delimiters_right, c.requires, c.id_buffer-escaped.ensures)
@@ -63,12 +55,3 @@ returns-clause-value c = c.write_pieces.ensures.value ∙ ap answer (written (go
 
 pub returns-clause-buffer_after : goal.returns-clause-buffer_after
 returns-clause-buffer_after c = c.write_pieces.ensures.buffer_after ∙ ap (λ (x : Outcome ℕ). filled x c.args.buffer.now) (written (goal.at.returns-clause-buffer_after c).After-fixed_text-fixed)
-
-pub slice_bounds-escaped-end : goal.slice_bounds-escaped-end
-slice_bounds-escaped-end c = inside (goal.at.slice_bounds-escaped-end c).After-put_id-n
-
-pub slice_bounds-write_pieces-end : goal.slice_bounds-write_pieces-end
-slice_bounds-write_pieces-end c = sym (length-take-le _ _ (inside (goal.at.slice_bounds-write_pieces-end c).After-put_id-n))
-
-pub write_pieces-requires : goal.write_pieces-requires
-write_pieces-requires c = search rules
