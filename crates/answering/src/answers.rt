@@ -1,5 +1,5 @@
-// An answer is gathered in memory of a fixed size, and written out whole. Each thing in it is put together with the byte
-// that ends it: a space, or the end of the line.
+// An answer is gathered in memory of a fixed size, and written out whole. Each thing in it is put together with the
+// byte that ends it: a space, or the end of the line.
 ghost use Rattle.std.specs.Prelude.{ℕ, List, [], ◌∷◌, ◌++◌, ◌==◌, ◌+◌, ◌*◌, ◌<◌, ◌≤◌, ◌≡◌, length, take};
 ghost use Rattle.answering.specs.Answers.{Fits, NumberPut, TwoPut, fault_number, fault_place, no_question};
 ghost use Rattle.answering.specs.Hex.{hexed};
@@ -86,7 +86,7 @@ impl Answer {
         self.put(&[end]);
     }
 
-    // Puts a number in decimal.
+    // Puts a number in decimal. It is put by its digits and not by Display, since the answer to `read` promises them.
     pub fn put_number(&mut self, number: u64, end: u8)
         requires { Fits self.old 21 }
         ensures after { NumberPut self.old self.new number end }

@@ -1,6 +1,6 @@
-// What is answered to a question: an answer is gathered word by word, and what the library gave back is put into it. The
-// programs that answer questions share it; it is no part of the library that is shipped, so its functions require that
-// there is room for what they put.
+// What is answered to a question: an answer is gathered word by word, and what the library gave back is put into it.
+// The programs that answer questions share it; it is no part of the library that is shipped, so its functions require
+// that there is room for what they put.
 #![tactic(auto)]
 
 pub mod answers;

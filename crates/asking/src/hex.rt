@@ -17,8 +17,8 @@ fn put_pairs(word: &[u8], buffer: &mut [u8])
     }
 }
 
-// The digits of a word that says bytes, of which `-` has none. They are judged here, so that the writing loop has nothing
-// to refuse.
+// The digits of a word that says bytes, of which `-` has none. They are judged here, so that the writing loop has
+// nothing to refuse.
 fn digits_of(word: &[u8]) -> Option<&[u8]>
     ensures said { said word.now ≡ option_map (λ digits. pairs_of digits.now) result }
     ensures pairs { IfSome result (λ digits. all_hex digits.now ≡ true) }

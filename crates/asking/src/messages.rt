@@ -1,5 +1,5 @@
-// The message that a program hands to the library. It holds one of up to 64 KiB, which is less than the library takes: a
-// longer one is refused by the program itself, with 1 and in the form of whatever was asked.
+// The message that a program hands to the library. It holds one of up to 64 KiB, which is less than the library takes:
+// a longer one is refused by the program itself, with 1 and in the form of whatever was asked.
 ghost use Rattle.std.specs.Prelude.{◌≡◌, leb};
 ghost use Rattle.asking.specs.Messages.{held_of, not_held};
 

@@ -13,6 +13,7 @@ pub fn count(line: &[u8]) -> usize
 }
 
 // The word at a place of a line, where the first is at place 0. There is an empty one at every place behind the last.
+// The words come one by one and not as an array of slices, since what returns one of any size is not proved yet.
 pub fn word(line: &[u8], place: usize) -> &[u8]
     ensures { result.now ≡ get_or (words line.now) place [] }
 {

@@ -60,6 +60,7 @@ fn put_whole(answer: &mut Answer, found: Result<Value<Number>, NoValue>)
 
 impl Lookup {
     // What a verb asks.
+    // An Option and no TryFrom: a word that is no verb of this family is no error, and the next family is asked.
     pub fn of(verb: &[u8]) -> Option<Lookup>
         ensures { (Verb verb.now → ⊥) → result ≡ None }
     {

@@ -14,6 +14,7 @@ pub enum Asked {
 
 impl Asked {
     // What a verb asks for.
+    // An Option and no TryFrom: a word that is no verb of this family is no error, and the next family is asked.
     pub fn of(verb: &[u8]) -> Option<Asked>
         ensures { (Verb verb.now → ⊥) → result ≡ None }
     {

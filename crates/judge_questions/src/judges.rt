@@ -14,6 +14,7 @@ pub enum Judge {
 
 impl Judge {
     // The judge that a verb names.
+    // An Option and no TryFrom: a word that is no verb of this family is no error, and the next family is asked.
     pub fn of(verb: &[u8]) -> Option<Judge>
         ensures { (Verb verb.now → ⊥) → result ≡ None }
     {

@@ -59,7 +59,8 @@ impl Question {
     // Puts the answer to a line with such a verb, unless it is no question.
     fn answer(self, line: &[u8], said: &mut [u8], answer: &mut Answer) -> Option<()>
         requires { length answer.old ≡ 0 }
-        ensures asked { self ≡ Read → is_some result ≡ is_some (fitting (length said.old) (read_asked (Words·words line.now))) }
+        ensures asked { self ≡ Read
+            → is_some result ≡ is_some (fitting (length said.old) (read_asked (Words·words line.now))) }
         ensures numbers { self ≡ Read → OnSome result (TwoNumbers answer.new) }
     {
         match self {

@@ -13,7 +13,6 @@ use Rattle.reading.specs.Reading.{reading, opening, segments_check, segment_chec
 use Rattle.element.specs.Finding.{found, lookup_check, element_of, bytes_at}
 use Rattle.element.specs.Levels.{part_in, field_in, below, repetition_at, component_at, subcomponent_at, unsplit, element_at}
 use Rattle.element.specs.States.{state_of}
-use Rattle.value.specs.Asked.{number_from, time_from}
 use Rattle.escaping.specs.Escape.{escape_byte, escape_bytes, escape}
 use Rattle.text.specs.Unescape.{known, meaning, sequence, step, scan}
 use Rattle.escaping.specs.Outcomes.{fitting, escaping, answer}
@@ -21,7 +20,7 @@ use Rattle.text.specs.Unescape.{unescaping}
 use Rattle.numbers.specs.Numbers.{nm_form, unsigned, nm_read, nm_check, nm_value}
 use Rattle.calendar.specs.Calendar.{valid_date, valid_clock}
 use Rattle.forms.specs.Forms.{fraction_form, zone_form, time_form}
-use Rattle.times.specs.Times.{figure_at, date_of, clock_of, offset_of, time_of, is_time, time_read}
+use Rattle.times.specs.Times.{figure_at, date_of, fraction_of, clock_of, offset_of, time_of, is_time, time_read}
 use Rattle.samples.proofs.Structures.{report_10, report_11, report_12}
 use Rattle.samples.specs.Table.{Row, Holds, All, of_text, of_numbers, of_times, of_states, of_structures, samples}
 
@@ -36,11 +35,11 @@ unfolding All of_text Holds first first_wrong_delimiter fitting escaping unescap
 texts = (refl, (refl, (refl, (refl, (refl, (refl, tt))))))
 
 numbers : All of_numbers
-unfolding All of_numbers Holds number_from nm_read nm_check nm_value nm_form unsigned all_digits counted bytes_at found lookup_check reading opening message_limit segment_limit first_wrong_delimiter first segments_check segment_checks segments all_but_last split segment_at standing element_of element_at unsplit subcomponent_at component_at repetition_at below part_in part_at field_in state_of
+unfolding All of_numbers Holds nm_read nm_check nm_value nm_form unsigned all_digits counted bytes_at found lookup_check reading opening message_limit segment_limit first_wrong_delimiter first segments_check segment_checks segments all_but_last split segment_at standing element_of element_at unsplit subcomponent_at component_at repetition_at below part_in part_at field_in state_of
 numbers = (refl, (refl, ((refl, refl), ((refl, refl), ((refl, refl), (refl, ((refl, refl), tt)))))))
 
 times : All of_times
-unfolding All of_times Holds time_from time_read is_time time_of time_form all_digits fraction_form zone_form valid_date date_of figure_at counted valid_clock clock_of offset_of bytes_at found lookup_check reading opening message_limit segment_limit first_wrong_delimiter first segments_check segment_checks segments all_but_last split segment_at standing element_of element_at unsplit subcomponent_at component_at repetition_at below part_in part_at field_in state_of
+unfolding All of_times Holds time_read is_time time_of time_form all_digits fraction_form zone_form valid_date date_of figure_at counted valid_clock clock_of fraction_of offset_of bytes_at found lookup_check reading opening message_limit segment_limit first_wrong_delimiter first segments_check segment_checks segments all_but_last split segment_at standing element_of element_at unsplit subcomponent_at component_at repetition_at below part_in part_at field_in state_of
 times = ((refl, refl), ((refl, refl), ((refl, refl), tt)))
 
 states : All of_states

@@ -1,3 +1,4 @@
+pub mod TableTest
 pub mod Structures
 pub mod AllHold
 pub mod FormattedHold

@@ -2,7 +2,7 @@
 -- definition that the public contract cites.
 use Rattle.std.specs.Prelude.{ℕ, ◌≡◌, List, [], ◌∷◌, ◌++◌, replicate}
 use Rattle.alphabet.specs.Bytes.{ascii}
-use Rattle.alphabet.specs.Answers.{number_of}
+use Rattle.alphabet.specs.Answers.{number_given, place_given}
 use Rattle.escaping.specs.Outcomes.{text, answer}
 use Rattle.formatting.specs.Formatting.{formatting}
 use Rattle.samples.specs.Table.{usual}
@@ -18,7 +18,7 @@ pub data Row : Type 0 where
 unfoldable pub Holds : Row → Type 0
 Holds (lays s t) = formatting usual s 500 ≡ text t
 Holds (refused s n place) =
-    (number_of (answer (formatting usual s 500)).kind ≡ n) × ((answer (formatting usual s 500)).place ≡ place)
+    (number_given (answer (formatting usual s 500)) ≡ n) × (place_given (answer (formatting usual s 500)) ≡ place)
 
 -- every row of a table
 unfoldable pub All : List Row → Type 0

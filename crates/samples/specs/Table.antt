@@ -1,15 +1,15 @@
 -- The starred samples of document 01, 'Samples', as one table. A row says what comes of some bytes; `Holds` says it by
 -- the definitions that the public contracts cite.
-use Rattle.std.specs.Prelude.{ℕ, ◌+◌, ℤ, pos, neg_ℤ, ◌≡◌, Bool, true, false, List, [], ◌∷◌, ◌++◌, map, length}
+use Rattle.std.specs.Prelude.{ℕ, ◌+◌, ℤ, pos, neg_ℤ, ◌≡◌, Bool, true, false, List, [], ◌∷◌, ◌++◌, map, length, Ok, Err}
 use Prim.Native.String.{String}
 use Rattle.alphabet.specs.Bytes.{ascii}
-use Rattle.alphabet.specs.Answers.{number_of}
-use Rattle.alphabet.specs.declared.answers.Refusal.TheVariants.{None}
-use Rattle.element.specs.Finding.{found}
+use Rattle.alphabet.specs.Answers.{number_of, number_given}
+use Rattle.element.specs.Finding.{found, element_found}
 use Rattle.element.specs.declared.address.Address.{Address}
 use Rattle.element.specs.declared.states.State.{State}
 use Rattle.element.specs.declared.states.State.TheVariants.{Absent, Empty, Present}
-use Rattle.value.specs.Asked.{nm_found, ts_found}
+use Rattle.value.specs.Asked.{nm_found, ts_found, number_told}
+use Rattle.value.specs.declared.asked.Value.{Value}
 use Rattle.escaping.specs.Outcomes.{text}
 use Rattle.escaping.specs.Outcomes.{escaping, answer}
 use Rattle.text.specs.Unescape.{unescaping}
@@ -62,34 +62,29 @@ named (n ∷ ns) = ascii n ++ 13 ∷ named ns
 abbrev pub report_of : List String → List ℕ
 report_of ns = ascii "MSH|^~\\&|||||||ORU^R01" ++ 13 ∷ named ns
 
+-- the state of field 1 of such a message
+abbrev pub state_in : List ℕ → State
+state_in m = (element_found (found m (in_segment 1))).state
+
 -- what a row says, by the definitions; the room is more than any sample needs
 unfoldable pub Holds : Row → Type 0
 Holds (says written t) = unescaping usual (ascii written) 100 ≡ text (ascii t)
-Holds (says_not written n) = number_of (answer (unescaping usual (ascii written) 100)).kind ≡ n
+Holds (says_not written n) = number_given (answer (unescaping usual (ascii written) 100)) ≡ n
 Holds (is_written t written) = escaping usual (ascii t) 100 ≡ text (ascii written)
 Holds (is_number bytes value decimals) =
-    nm_found (with_field bytes) (in_segment 1)
-    ≡ record {
-      answer = record { kind = None; place = 0; length = 0 };
-      state = Present;
-      value = value;
-      decimals = decimals;
-    }
+    nm_found (with_field bytes) (in_segment 1) ≡ Ok (Value.Present (record { value = value; decimals = decimals }))
 Holds (no_number bytes n) =
-    (number_of (nm_found (with_field bytes) (in_segment 1)).answer.kind ≡ n)
-    × ((nm_found (with_field bytes) (in_segment 1)).state ≡ Present)
+    (number_told (nm_found (with_field bytes) (in_segment 1)) ≡ n) × (state_in (with_field bytes) ≡ Present)
 Holds (is_time_row bytes) =
-    ((ts_found (with_field bytes) (in_segment 1)).answer.kind ≡ None)
-    × ((ts_found (with_field bytes) (in_segment 1)).state ≡ Present)
+    (number_told (ts_found (with_field bytes) (in_segment 1)) ≡ 0) × (state_in (with_field bytes) ≡ Present)
 Holds (no_time_row bytes n) =
-    (number_of (ts_found (with_field bytes) (in_segment 1)).answer.kind ≡ n)
-    × ((ts_found (with_field bytes) (in_segment 1)).state ≡ Present)
+    (number_told (ts_found (with_field bytes) (in_segment 1)) ≡ n) × (state_in (with_field bytes) ≡ Present)
 Holds (has_state s f state) =
-    ((found (message_of s) (in_segment f)).answer.kind ≡ None)
-    × ((found (message_of s) (in_segment f)).element.state ≡ state)
+    (number_given (found (message_of s) (in_segment f)) ≡ 0)
+    × ((element_found (found (message_of s) (in_segment f))).state ≡ state)
 Holds (is_refused ns n place could ends) =
     (number_of (refused_as (1 + length ns) place ends (map name could)).kind ≡ n)
-    × Answers (report_of ns) (refused_as (1 + length ns) place ends (map name could))
+    × Answers (report_of ns) (Err (refused_as (1 + length ns) place ends (map name could)))
 
 -- every row of a table
 unfoldable pub All : List Row → Type 0

@@ -3,7 +3,7 @@
 // specs/, and are proved.
 #![tactic(auto)]
 
-use alphabet::{Fault, Refusal};
+use alphabet::Refusal;
 
 // Standard output, by its number.
 const STDOUT_FILENO: i32 = 1;
@@ -16,12 +16,11 @@ fn run(buffer: &mut [u8]) {
     match answer {
         Ok(76) => io::write_all(STDOUT_FILENO, b" 0\n76 bytes were written\n"),
         Ok(_) => io::write_all(STDOUT_FILENO, b" 0\n"),
-        Err(Fault {
-            kind: Refusal::AcknowledgementTooLong,
-            ..
-        }) => io::write_all(STDOUT_FILENO, b" 10\nnothing was written\n"),
+        Err(fault) if fault.kind == Refusal::AcknowledgementTooLong => {
+            io::write_all(STDOUT_FILENO, b" 10\nnothing was written\n")
+        }
         Err(_) => io::write_all(STDOUT_FILENO, b"nothing was written\n"),
-    }
+    };
 }
 
 fn main() {

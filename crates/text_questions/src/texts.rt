@@ -26,6 +26,7 @@ fn delimiters_of(word: &[u8]) -> Option<Delimiters> {
 
 impl Writing {
     // What a verb asks to be written.
+    // An Option and no TryFrom: a word that is no verb of this family is no error, and the next family is asked.
     pub fn of(verb: &[u8]) -> Option<Writing>
         ensures { (Verb verb.now → ⊥) → result ≡ None }
     {
