@@ -4,17 +4,16 @@ ghost use Rattle.std.specs.Prelude.{◌≡◌};
 ghost use Rattle.acknowledgement.specs.Acknowledgement.{header as taken, sent, present, acknowledgeable};
 ghost use Rattle.acknowledging.specs.Reasons.{is_none, answerable};
 
-use alphabet::{Check, Refusal};
+use alphabet::{CARRIAGE_RETURN, Fault};
 use element::Address;
 use terminal::Output;
 
-// No reason; or the header has no end, a fault of its own, says that this is an acknowledgement, or has no control ID
-// or one that is too long.
+// The header has no end, has a fault of its own, says that this is an acknowledgement, or has no control ID or one that
+// is too long.
 #[derive(Clone, Copy)]
 pub enum Reason {
-    None,
     NoEnd,
-    Opening { kind: Refusal, place: usize },
+    Opening(Fault),
     Acknowledgement,
     NoId,
     LongId,
@@ -24,7 +23,7 @@ pub enum Reason {
 fn header_of(message: &[u8]) -> &[u8]
     ensures { result.now ≡ taken message.now }
 {
-    let end = alphabet::find(message, alphabet::CARRIAGE_RETURN);
+    let end = alphabet::find(message, CARRIAGE_RETURN);
     if end < message.len() {
         let behind = end + 1;
         return &message[..behind];
@@ -55,7 +54,7 @@ fn is_present(header: &[u8], bytes: &[u8]) -> bool
 }
 
 // The reason in a header that has an end and no fault of its own.
-fn reason_in(header: &[u8]) -> Reason
+fn reason_in(header: &[u8]) -> Option<Reason>
     ensures { is_none result ≡ answerable header.now }
 {
     let kind = element::raw(header, element::type_address(1));
@@ -64,91 +63,85 @@ fn reason_in(header: &[u8]) -> Reason
     let has_id = is_present(header, id);
     let is_short = id.len() <= alphabet::id_limit();
     if is_acknowledgement {
-        return Reason::Acknowledgement;
+        return Some(Reason::Acknowledgement);
     }
     if !has_id {
-        return Reason::NoId;
+        return Some(Reason::NoId);
     }
     if !is_short {
-        return Reason::LongId;
+        return Some(Reason::LongId);
     }
-    Reason::None
+    None
 }
 
 // The reason why a message cannot be acknowledged.
-fn reason_of(message: &[u8]) -> Reason
+fn reason_of(message: &[u8]) -> Option<Reason>
     ensures { is_none result ≡ acknowledgeable message.now }
 {
-    let end = alphabet::find(message, alphabet::CARRIAGE_RETURN);
+    let end = alphabet::find(message, CARRIAGE_RETURN);
     if message.len() <= end {
-        return Reason::NoEnd;
+        return Some(Reason::NoEnd);
     }
     let header = header_of(message);
     let opening = reading::check_opening(header);
     match opening {
-        Check::Passes => reason_in(header),
-        Check::Fails { kind, place } => Reason::Opening {
-            kind: kind,
-            place: place,
-        },
+        Ok(()) => reason_in(header),
+        Err(fault) => Some(Reason::Opening(fault)),
     }
 }
 
 // A hint for a header that has a fault of its own, or has no end.
-fn print_hint(out: Output, message: &[u8]) -> Output {
-    let answer = alphabet::answer_of(reading::check_opening(header_of(message)));
-    let kind = answer.kind;
-    hints::print_hint(out, message, alphabet::number(kind), answer.place)
+fn print_hint(out: &mut Output, message: &[u8]) {
+    if let Err(fault) = reading::check_opening(header_of(message)) {
+        hints::print_hint(out, message, fault);
+    }
 }
 
 // Says that the header is refused, and by which byte.
-fn print_opening(out: Output, kind: Refusal, place: usize) -> Output {
-    let out = wording::print_numbered(out, b"  its header is refused", kind);
-    let out = terminal::print_counted(out, b" (byte ", place, b")");
-    terminal::end_line(out)
+fn print_opening(out: &mut Output, fault: Fault) {
+    wording::print_numbered(out, b"  its header is refused", fault.kind);
+    out.print_counted(b" (byte ", fault.place, b")");
+    out.end_line();
 }
 
 // Says that the control ID is too long, and how long it may be.
-fn print_long(out: Output, length: usize) -> Output {
-    let out = terminal::print_counted(
-        out,
+fn print_long(out: &mut Output, length: usize) {
+    out.print_counted(
         b"  its control ID (MSH-10) has ",
         length,
         b" bytes, and may have ",
     );
-    let out = terminal::print_number(out, alphabet::id_limit());
-    terminal::end_line(out)
+    out.print_number(alphabet::id_limit());
+    out.end_line();
 }
 
-// Says that the header has no end, in so many bytes.
-fn print_no_end(out: Output, length: usize) -> Output {
-    if length == 0 {
-        return terminal::print_line(out, b"  this file has no bytes");
-    }
-    terminal::print_line(out, b"  its header has no end: there is no CR")
+// Says that the header has no end.
+fn print_no_end(out: &mut Output, message: &[u8]) {
+    out.print_line(if message.is_empty() {
+        b"  this file has no bytes"
+    } else {
+        b"  its header has no end: there is no CR"
+    });
 }
 
 // Says why a message cannot be acknowledged.
-pub fn print_reason(out: Output, message: &[u8]) -> Output {
-    let reason = reason_of(message);
-    match reason {
-        Reason::None => out,
-        Reason::NoEnd => {
-            let out = print_no_end(out, message.len());
-            print_hint(out, message)
+pub fn print_reason(out: &mut Output, message: &[u8]) {
+    match reason_of(message) {
+        None => {}
+        Some(Reason::NoEnd) => {
+            print_no_end(out, message);
+            print_hint(out, message);
         }
-        Reason::Opening { kind, place } => {
-            let out = print_opening(out, kind, place);
-            print_hint(out, message)
+        Some(Reason::Opening(fault)) => {
+            print_opening(out, fault);
+            hints::print_hint(out, message, fault);
         }
-        Reason::Acknowledgement => terminal::print_line(
-            out,
+        Some(Reason::Acknowledgement) => out.print_line(
             b"  it is an acknowledgement itself (MSH-9 says ACK), and these are not answered",
         ),
-        Reason::NoId => terminal::print_line(
-            out,
-            b"  it has no control ID: MSH-10 is absent, empty or null",
-        ),
-        Reason::LongId => print_long(out, control_id(header_of(message)).len()),
+        Some(Reason::NoId) => {
+            out.print_line(b"  it has no control ID: MSH-10 is absent, empty or null");
+        }
+        Some(Reason::LongId) => print_long(out, control_id(header_of(message)).len()),
     }
 }

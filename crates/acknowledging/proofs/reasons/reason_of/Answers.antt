@@ -22,13 +22,13 @@ returns-then-message-end c =
     let m = c.args.message.now in
     sym (no_return_no m (omega (arith, c.find-end.ensures, first_le (eqb carriage_return) m, c.if-message-end.true)))
 
-pub returns-in-Passes : goal.returns-in-Passes
-returns-in-Passes c =
+pub returns-in-Ok : goal.returns-in-Ok
+returns-in-Ok c =
     let m = c.args.message.now in
     c.reason_in.ensures ∙ ap answerable c.header_of-header.ensures
-    ∙ sym (sound_is m (inside (goal.at.returns-in-Passes c).Else-message-end) (ap opening (sym c.header_of-header.ensures) ∙ sym c.check_opening-opening.ensures ∙ c.in-Passes.is))
+    ∙ sym (sound_is m (inside (goal.at.returns-in-Ok c).Else-message-end) (ap opening (sym c.header_of-header.ensures) ∙ sym c.check_opening-opening.ensures ∙ c.in-Ok.is))
 
-pub returns-in-Fails : goal.returns-in-Fails
-returns-in-Fails c =
+pub returns-in-Err : goal.returns-in-Err
+returns-in-Err c =
     let m = c.args.message.now in
-    sym (unsound_no m (inside (goal.at.returns-in-Fails c).Else-message-end) _ _ (ap opening (sym c.header_of-header.ensures) ∙ sym c.check_opening-opening.ensures ∙ c.in-Fails.is))
+    sym (unsound_no m (inside (goal.at.returns-in-Err c).Else-message-end) _ (ap opening (sym c.header_of-header.ensures) ∙ sym c.check_opening-opening.ensures ∙ c.in-Err.is))
