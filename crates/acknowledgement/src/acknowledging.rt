@@ -1,8 +1,9 @@
 // Acknowledging a message: what stands against it, the verdict's code, and the writing. The message and the time share
 // a lifetime, since pieces of both go into one array.
-ghost use Rattle.std.specs.Prelude.{◌≡◌, length};
+ghost use Rattle.std.specs.Prelude.{◌≡◌};
 ghost use Rattle.acknowledgement.specs.Acknowledgement.{bad_id, Acknowledges};
 
+use crate::pieces;
 use crate::pieces::write;
 use crate::sender::Header;
 use acknowledgement_code::code_of;
@@ -13,13 +14,6 @@ fn is_bad_id(id: &[u8]) -> bool
     ensures { result ≡ bad_id id.now }
 {
     id.is_empty() | (alphabet::id_limit() < id.len())
-}
-
-// A buffer for the ERR segment. By a call of its own it is no list of so many bytes in the caller's proof.
-fn error_buffer() -> [u8; 80]
-    ensures { length result ≡ 80 }
-{
-    [0; 80]
 }
 
 // Writes the acknowledgement of a message to the front of the buffer, and gives its length there: with the caller's
@@ -43,7 +37,7 @@ pub fn acknowledge<'a>(
         });
     };
     let found = verdict::verdict(message);
-    let mut error = error_buffer();
+    let mut error = pieces::zeros::<80>();
     let n = error_segment::put_segment(message, found, &mut error);
     write(header, time, id, code_of(found), &error[..n], buffer)
 }

@@ -120,12 +120,11 @@ fn fixed_text(mark: u8, code: Code) -> [u8; 18]
     ]
 }
 
-// A buffer for the ID, of which each byte may be written as five. By a call of its own it is no list of so many bytes
-// in the caller's proof.
-fn id_buffer() -> [u8; 1000]
-    ensures { length result ≡ 1000 }
+// A buffer of zeros. By a call of its own it is no list of so many bytes in the caller's proof.
+pub fn zeros<const N: usize>() -> [u8; N]
+    ensures { length result ≡ N }
 {
-    [0; 1000]
+    [0; N]
 }
 
 // Whether the ID, as text, is its own bytes: none of them is escaped, and it is not null.
@@ -168,7 +167,8 @@ pub fn write<'a>(
         buffer.old }
 {
     let delimiters = reading::delimiters_of(header.bytes);
-    let mut escaped = id_buffer();
+    // Each byte of the ID may be written as five.
+    let mut escaped = zeros::<1000>();
     let n = put_id(delimiters, id, &mut escaped);
     let fixed = fixed_text(alphabet::byte_at(header.bytes, 3), code);
     write_pieces(header, time, &escaped[..n], &fixed, behind, buffer)

@@ -52,7 +52,7 @@ line : (c : After-put_segment-n)
 line c =
     let w = ended (error_lines c.args.message.now c.verdict-found.result) in
     ap₂ (λ (k : ℕ) (x : List ℕ). take k x) c.put_segment-n.ensures.value c.put_segment-n.ensures.line_after
-    ∙ take-append_seam w (drop (length w) c.error_buffer-error.result)
+    ∙ take-append_seam w (drop (length w) c.zeros-error.result)
 
 pub returns : goal.returns
 returns c =

@@ -28,12 +28,12 @@ handed : (c : After-put_id-n)
 handed c =
     let a = c.args in
     let w = escape c.delimiters_of-delimiters.result.bytes a.id.now in
-    ap₂ (λ (n : ℕ) (x : List ℕ). take n x) c.put_id-n.ensures.value c.put_id-n.ensures.buffer_after ∙ take-append_seam w (drop (length w) c.id_buffer-escaped.result)
+    ap₂ (λ (n : ℕ) (x : List ℕ). take n x) c.put_id-n.ensures.value c.put_id-n.ensures.buffer_after ∙ take-append_seam w (drop (length w) c.zeros-escaped.result)
     ∙ ap (λ (ds : List ℕ). escape ds a.id.now) c.delimiters_of-delimiters.ensures
 
 pub put_id-n-requires : goal.put_id-n-requires
 put_id-n-requires c =
-    (ap first_wrong_delimiter c.delimiters_of-delimiters.ensures ∙ (opened (goal.at.put_id-n-requires c).Start).delimiters_right, c.requires, c.id_buffer-escaped.ensures)
+    (ap first_wrong_delimiter c.delimiters_of-delimiters.ensures ∙ (opened (goal.at.put_id-n-requires c).Start).delimiters_right, c.requires, c.zeros-escaped.ensures)
 
 -- the pieces that are written are the acknowledgement
 written : (c : After-fixed_text-fixed)
