@@ -30,15 +30,13 @@ fn name_of(number: usize, segment: &[u8]) -> u32
 fn first_row(name: u32) -> usize
     ensures { NoneBefore rows name result }
 {
-    let mut index = 0;
-    while index < COUNT {
+    for index in 0..COUNT {
         let row = field_table::row_at(index);
         if row.segment == name {
-            break;
+            return index;
         }
-        index += 1;
     }
-    index
+    COUNT
 }
 
 // Where the rows of a name end: none from there on is of it.
@@ -71,10 +69,8 @@ fn judge_rows(
     ensures { result ≡ judged_in rows delimiters.bytes number segment.now }
 {
     let mut cursor = Cursor { index: 0, place: 0 };
-    let mut index = from;
-    while index < to {
+    for index in from..to {
         let row = field_table::row_at(index);
-        index += 1;
         if row.segment != name {
             continue;
         }

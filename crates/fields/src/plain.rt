@@ -96,10 +96,8 @@ pub fn is_plain(
     let mut ends = [0usize; 16];
     ends::note(segment, bytes[0], most, &mut ends);
     let base = base_of(number);
-    let mut index = from;
-    while index < to {
+    for index in from..to {
         let row = field_table::row_at(index);
-        index += 1;
         if row.segment != name {
             continue;
         }

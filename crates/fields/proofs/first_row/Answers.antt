@@ -1,7 +1,8 @@
 -- Rests on the loop: each row that it has passed is of another name.
-use mathlib.Core.Path.{ap, ◌∙◌}
+use mathlib.Core.Path.{◌≡◌, ap, ◌∙◌, subst}
 use native.Mathlib.Omega.{arith}
 use Rattle.field_table.specs.Table.{rows}
+use Rattle.fields.specs.Walk.{NoneBefore}
 use Rattle.field_table.specs.declared.Row.{Row}
 use Rattle.field_table.proofs.TableLaws.{rows_count}
 use Rattle.fields.proofs.JudgeLaws.{none_yet, none_next}
@@ -19,14 +20,8 @@ loop-index-init c = none_yet rows c.args.name
 pub row_at-row-requires : goal.row_at-row-requires
 row_at-row-requires c = c.loop-index-test.true
 
-pub overflow_add-index : goal.overflow_add-index
-overflow_add-index c = omega (arith, c.loop-index-test.true)
-
-pub loop-index-smaller : goal.loop-index-smaller
-loop-index-smaller c = omega (arith, c.loop-index-test.true)
-
-pub returns-after-loop-index : goal.returns-after-loop-index
-returns-after-loop-index c = c.loop-index.invariant
+pub returns : goal.returns
+returns c = let e : c.loop-index.index ≡ 16 = omega arith in subst (NoneBefore rows c.args.name) e c.loop-index.invariant
 
 pub returns-then-row-name : goal.returns-then-row-name
 returns-then-row-name c = c.loop-index.invariant

@@ -1,10 +1,6 @@
-use Prim.Native.Nat.{◌-◌}
 use Rattle.field_table.specs.Table.{rows}
 use Rattle.fields.specs.Walk.{NoneBefore}
 use Rattle.fields.proofs.first_row.Given as goal
 
 abbrev pub invariant-loop-index : goal.invariant-loop-index
 invariant-loop-index l = NoneBefore rows l.name l.index
-
-abbrev pub decreases-loop-index : goal.decreases-loop-index
-decreases-loop-index l = 16 - l.index

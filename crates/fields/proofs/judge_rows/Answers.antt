@@ -62,14 +62,5 @@ returns c =
 pub row_at-row-requires : goal.row_at-row-requires
 row_at-row-requires c = few c
 
-pub overflow_add-index : goal.overflow_add-index
-overflow_add-index c = let h = few (goal.at.overflow_add-index c).In-loop-index in omega arith
-
-pub loop-index-smaller-then-row-name : goal.loop-index-smaller-then-row-name
-loop-index-smaller-then-row-name c = let h = c.loop-index-test.true in omega arith
-
 pub judge_row-requires : goal.judge_row-requires
 judge_row-requires c = (c.loop-index.invariant.0, c.requires.3)
-
-pub loop-index-smaller : goal.loop-index-smaller
-loop-index-smaller c = let h = c.loop-index-test.true in omega arith

@@ -1,4 +1,3 @@
-use Prim.Native.Nat.{◌-◌}
 use mathlib.Core.Path.{◌≡◌}
 use lib.ListN.{get_or}
 use Rattle.field_table.specs.Table.{rows}
@@ -9,6 +8,3 @@ use Rattle.fields.proofs.judge_rows.Given as goal
 abbrev pub invariant-loop-index : goal.invariant-loop-index
 invariant-loop-index l =
     Stands (get_or l.delimiters.bytes 0 0) l.segment l.cursor × (judged_in rows l.delimiters.bytes l.number l.segment ≡ rows_left rows l.delimiters.bytes l.number l.segment l.index)
-
-abbrev pub decreases-loop-index : goal.decreases-loop-index
-decreases-loop-index l = l.to - l.index

@@ -1,5 +1,4 @@
 use mathlib.Core.Path.{◌≡◌}
-use Prim.Native.Nat.{◌-◌}
 use lib.ListN.{get_or}
 use Rattle.ends.specs.Ends.{Noted}
 use Rattle.rules.specs.Plain.{Permitted}
@@ -13,6 +12,3 @@ abbrev pub invariant-loop-index : goal.invariant-loop-index
 invariant-loop-index l =
     Noted (get_or l.delimiters.bytes 0 0) l.segment l.most l.ends
     × (Permitted l.delimiters.bytes → l.name ≡ name_at l.number l.segment → judged_in rows l.delimiters.bytes l.number l.segment ≡ rows_left rows l.delimiters.bytes l.number l.segment l.index)
-
-abbrev pub decreases-loop-index : goal.decreases-loop-index
-decreases-loop-index l = l.to - l.index
