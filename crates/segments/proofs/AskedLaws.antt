@@ -1,17 +1,14 @@
 -- Laws of a segment that is asked for: what the answer is in each case. Assumes nothing.
 use mathlib.Core.Path.{◌≡◌}
-use mathlib.Core.List.{List, [], ◌∷◌}
-use Prim.Native.Nat.{ℕ, ◌+◌, ◌-◌, ◌≤◌}
-use native.Mathlib.Omega.{arith}
-use lib.ListN.{length, take, drop}
-use Rattle.alphabet.proofs.PartLaws.{split_some}
+use mathlib.Core.List.{List}
+use Prim.Native.Nat.{ℕ, ◌-◌}
+use lib.ListN.{take, drop}
 use Rattle.std.specs.Prelude.{Ok, Err, None}
-use Rattle.alphabet.specs.Bytes.{carriage_return}
-use Rattle.alphabet.specs.Parts.{from_to, split}
+use Rattle.alphabet.specs.Parts.{from_to}
 use Rattle.alphabet.specs.Answers.{passes, fails}
 use Rattle.alphabet.specs.declared.answers.Refusal.{Refusal}
 use Rattle.alphabet.specs.declared.answers.Fault.{Fault}
-use Rattle.reading.specs.Segments.{all_but_last, segments, segment_at, name_of}
+use Rattle.reading.specs.Segments.{segment_at, name_of}
 use Rattle.reading.specs.Reading.{reading}
 use Rattle.reading.proofs.SegmentLaws.{segment_bytes}
 use Rattle.segments.specs.Asked.{segment_asked, segment_found}
@@ -28,14 +25,3 @@ pub asked_there : (m : List ℕ) (k s e : ℕ) → reading m ≡ passes → segm
     → Ok (record { name = name_of (take (e - s) (drop s m)); start = s; end = e }) ≡ segment_found m k
 unfolding segment_found segment_asked
 asked_there m k s e r q = rw (r, q, (segment_bytes m k s e q).3)
-
--- what stands behind the last CR is no segment
-but_last_count : (ps : List (List ℕ)) → 1 ≤ length ps → length (all_but_last ps) + 1 ≡ length ps
-unfolding all_but_last
-but_last_count [] h = absurd (omega arith)
-but_last_count (p ∷ []) h = omega arith
-but_last_count (p ∷ q ∷ ps) h = let n = but_last_count (q ∷ ps) (omega arith) in omega arith
-
-pub segments_count : (m : List ℕ) → length (segments m) + 1 ≡ length (split carriage_return m)
-unfolding segments
-segments_count m = but_last_count (split carriage_return m) (split_some carriage_return m)

@@ -6,7 +6,7 @@ ghost use Rattle.std.specs.Prelude.{◌≡◌, length};
 ghost use Rattle.reading.specs.Segments.{segments};
 ghost use Rattle.segments.specs.Asked.{counting, segment_found};
 
-use alphabet::{CARRIAGE_RETURN, Fault, Refusal};
+use alphabet::{Fault, Refusal};
 
 // A segment: its name as one number in base 256, and the bytes of the message that it is, from `start` up to and without
 // `end`, where its CR stands.
@@ -17,17 +17,21 @@ pub struct Segment {
     pub end: usize,
 }
 
-// How many segments stand in some bytes: one before each CR.
+// How many segments stand in some bytes: one before each CR. It walks from CR to CR, which are sought by blocks: counted
+// over the bytes one by one, they take twice as long.
 fn count_in(message: &[u8]) -> usize
     ensures { result ≡ length (segments message.now) }
 {
     let mut count = 0;
-    for &b in message {
-        if b == CARRIAGE_RETURN {
-            count += 1;
+    let mut start = 0;
+    loop {
+        let end = reading::segment_end(message, start);
+        if message.len() <= end {
+            return count;
         }
+        start = end + 1;
+        count += 1;
     }
-    count
 }
 
 // How many segments a message has, or why it cannot be asked.
