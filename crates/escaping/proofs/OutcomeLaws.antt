@@ -12,7 +12,7 @@ use Rattle.alphabet.specs.Lists.{find}
 use Rattle.alphabet.specs.Bytes.{printable, hex_digit, is_null}
 use Rattle.alphabet.specs.Filling.{over}
 use Rattle.alphabet.specs.Delimiters.{first_wrong_delimiter}
-use Rattle.alphabet.specs.Answers.{Refusable, Check, passes, fails_if}
+use Rattle.alphabet.specs.Answers.{Refusable, passes, fails_if}
 use Rattle.alphabet.specs.declared.answers.Fault.{Fault}
 use Rattle.alphabet.specs.declared.answers.Refusal.TheVariants.{Delimiter, NoRoom}
 use Rattle.alphabet.proofs.CheckLaws.{passes_not}

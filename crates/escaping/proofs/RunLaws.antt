@@ -2,10 +2,9 @@
 use mathlib.Core.Path.{◌≡◌, refl, ap, ◌∙◌}
 use mathlib.Core.List.{List, [], ◌∷◌, ◌++◌}
 use mathlib.Core.Bool.{Bool, true, false, cond}
-use Prim.Native.Nat.{ℕ, zero, suc, ◌+◌, ◌≤◌}
+use Prim.Native.Nat.{ℕ, zero, suc, ◌≤◌}
 use native.Mathlib.Omega.{arith}
-use lib.ListN.{length, take, drop, length-append, length-drop}
-use lib.Seq.{length-take-le, drop-drop}
+use lib.ListN.{take, drop}
 use Rattle.alphabet.specs.Lists.{first}
 use Rattle.plain.specs.Plain.{special}
 use Rattle.plain.proofs.PlainLaws.{plain_is}
@@ -24,14 +23,3 @@ bytes_run ds (b ∷ r) (suc n) h = at (special ds b) refl h (bytes_run ds r n)
     at false e h ih =
         let p = plain_is ds b e in
         ap (λ (w : List ℕ). w ++ escape_bytes ds r) (written_plain ds b p.1 p.0) ∙ ap (λ (w : List ℕ). b ∷ w) (ih (omega arith))
-
--- the same from a place on, as a loop meets it
-module _ (ds s : List ℕ) (i n : ℕ) (h : n ≤ first (special ds) (drop i s)) where
-  pub bytes_from : escape_bytes ds (drop i s) ≡ take n (drop i s) ++ escape_bytes ds (drop (i + n) s)
-  bytes_from = bytes_run ds (drop i s) n h ∙ ap (λ (l : List ℕ). take n (drop i s) ++ escape_bytes ds l) (drop-drop n i s)
-
-  pub length_from : i + n ≤ length s → length (escape_bytes ds (drop i s)) ≡ n + length (escape_bytes ds (drop (i + n) s))
-  length_from k =
-      let d = length-drop i s in
-      let t = length-take-le n (drop i s) (omega arith) in
-      ap length bytes_from ∙ length-append (take n (drop i s)) (escape_bytes ds (drop (i + n) s)) ∙ ap (λ (m : ℕ). m + length (escape_bytes ds (drop (i + n) s))) t

@@ -39,13 +39,12 @@ fn write_escaped(delimiters: Delimiters, text: &[u8], buffer: &mut [u8]) -> usiz
         ≡ over (escape_bytes delimiters.bytes text.now) buffer.old }
 {
     let mut place = 0;
-    let mut i = 0;
-    while i < text.len() {
-        place = put_written(delimiters, text[i], buffer, place);
-        i += 1;
-        let end = i + plain_run(delimiters, &text[i..]);
-        place = alphabet::put_long(buffer, place, &text[i..end]);
-        i = end;
+    let mut rest = text;
+    while let Some((first, behind)) = rest.split_first() {
+        place = put_written(delimiters, *first, buffer, place);
+        let (run, next) = behind.split_at(plain_run(delimiters, behind));
+        place = alphabet::put_long(buffer, place, run);
+        rest = next;
     }
     place
 }

@@ -19,7 +19,8 @@ pub enum Order {
     Once(Amount),
 }
 
-// Whether three bytes are the name of a command: a point and two letters.
+// Whether three bytes are the name of a command: a point and two letters. The bytes go one by one, since a match on a
+// slice owes a proof for each byte at which it may turn away.
 fn is_name(x: u8, y: u8, z: u8, one: u8, two: u8) -> bool
     ensures { result ≡ same (x ∷ y ∷ z ∷ []) (46 ∷ one ∷ two ∷ []) }
 {

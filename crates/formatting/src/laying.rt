@@ -61,7 +61,8 @@ fn fault(kind: Refusal, place: usize) -> Result<Page, Fault>
     Err(Fault { kind, place })
 }
 
-// Lays a text on a page. The page of a text that has a fault is of no use.
+// Lays a text on a page. The page of a text that has a fault is of no use. By index: a fault is told with its place,
+// and how far a turn goes is known only in it.
 pub fn lay(
     page: Page,
     line: &mut [u8],

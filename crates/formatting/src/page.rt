@@ -9,8 +9,10 @@ use format_commands::hold;
 // How many bytes a line has at the most.
 pub const WIDTH: usize = 200;
 
-// The state of the layout. What is owed and where a line begins are held at 201, which fits on no line. The numbers
-// stand before what is true or false, so that the compiler has no gaps between them to copy.
+// The state of the layout. It is handed on by value, and its two places are lent beside it and not kept in it: so a
+// signature says which of them a step writes, and which it only reads. What is owed and where a line begins are held
+// at 201, which fits on no line. The numbers stand before what is true or false, so that the compiler has no gaps
+// between them to copy.
 #[derive(Clone, Copy)]
 pub struct Page {
     // how many bytes were written, as long as the room is not too short
@@ -22,7 +24,8 @@ pub struct Page {
     pub left: usize,
     // whether the lines are written, or measured alone
     pub writes: bool,
-    // whether something could not be laid
+    // whether something could not be laid: a bit, and no Result around the page, since the walk goes on behind it to
+    // find the faults that come first, and each step would have to take the Result apart and put it together again
     pub unfit: bool,
     pub fill: bool,
     pub centre: bool,

@@ -62,7 +62,7 @@ fn step_at(delimiters: Delimiters, text: &[u8], i: usize) -> Result<Said, Fault>
 }
 
 // The text's length, or its first fault: what stands at a place, and the bytes that stand plainly behind it, at each
-// turn.
+// turn. By index: a fault is told with its place, and how far a turn goes is known only in it.
 fn judge(delimiters: Delimiters, text: &[u8]) -> Result<usize, Fault>
     ensures { result ≡ answer (scan plain_text delimiters.bytes 0 0 text.now) }
 {

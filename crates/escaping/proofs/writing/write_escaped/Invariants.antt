@@ -1,11 +1,10 @@
-use Prim.Native.Nat.{◌≤◌, ◌-◌}
-use lib.ListN.{length, drop}
+use lib.ListN.{length}
 use Rattle.escaping.specs.Escape.{escape_bytes}
 use Rattle.alphabet.proofs.FillingLaws.{Filling}
 use Rattle.escaping.proofs.writing.write_escaped.Given as goal
 
-abbrev pub invariant-loop-i : goal.invariant-loop-i
-invariant-loop-i l = (l.i ≤ length l.text) × Filling (escape_bytes l.delimiters.bytes l.text) l.initial.buffer (escape_bytes l.delimiters.bytes (drop l.i l.text)) l.buffer l.place
+abbrev pub invariant-loop-first : goal.invariant-loop-first
+invariant-loop-first l = Filling (escape_bytes l.delimiters.bytes l.text) l.initial.buffer (escape_bytes l.delimiters.bytes l.rest) l.buffer l.place
 
-abbrev pub decreases-loop-i : goal.decreases-loop-i
-decreases-loop-i l = length l.text - l.i
+abbrev pub decreases-loop-first : goal.decreases-loop-first
+decreases-loop-first l = length l.rest
