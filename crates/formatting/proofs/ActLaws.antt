@@ -2,19 +2,18 @@
 use mathlib.Core.Path.{◌≡◌, refl, sym, ap, subst, ◌∙◌}
 use mathlib.Core.List.{List, [], ◌∷◌, ◌++◌, append_assoc}
 use mathlib.Core.Bool.{Bool, true, false, ◌&&◌}
-use Prim.Native.Nat.{ℕ, ◌+◌, ◌<◌}
+use Prim.Native.Nat.{ℕ, ◌+◌, ◌≤◌, ◌<◌}
 use native.Mathlib.Omega.{arith}
 use lib.Dec.{eqb}
 use lib.ListN.{length, replicate}
 use borrow.Author.Tests.{eq-eqb, ne_eqb, eqb-true, eqb-false}
-use Rattle.std.specs.Prelude.{Option}
 use Rattle.alphabet.proofs.BoolLaws.{false_true}
 use Rattle.format_commands.specs.Commands.{held_size}
 use Rattle.format_commands.specs.Items.{Item, byte}
 use Rattle.format_commands.proofs.CommandLaws.{held_own}
 use Rattle.formatting.specs.declared.page.Page.{Page}
 use Rattle.formatting.specs.Sheet.{Sheet, Laid, laid, unfit, then_laid, is_empty, shown, end_line, lead, put, end_word, note_cr, owe, of_word, space, move, moves}
-use Rattle.formatting.specs.Pages.{Within, lead_of, reach_of, Slight, line_with, new_line, owing, noted, out_with, shown_of, Wrote, Matches, Sound, Reaches, at, nowhere, Follows, closed, Tells, Acts}
+use Rattle.formatting.specs.Pages.{lead_of, reach_of, Slight, line_with, new_line, owing, noted, out_with, shown_of, Wrote, Matches, Sound, Reaches, at, nowhere, Follows, closed, Tells, Acts}
 use Rattle.formatting.proofs.SheetLaws.{goes_moves, moves_one, end_some, end_none}
 use Rattle.formatting.proofs.PageLaws.{held_min, some_length, empty_is, ended_none, ended_some, reach_exact, reach_least}
 use Rattle.formatting.proofs.EndLaws.{line_of, line_ended, slight_new, unfit_new}
@@ -60,7 +59,7 @@ closed_same c = by (eqb c.word 0) refl
 
 pub closed_sound : (c : Page) (t d : List ℕ) → Sound c t d → Sound (closed c) t d
 closed_sound c t d f =
-    record { slight = (closed_slight c f.slight).0; place = subst (λ (n : Option ℕ). Within n (length d)) (sym (closed_same c).2) f.place; broad = f.broad }
+    record { slight = (closed_slight c f.slight).0; place = subst (λ (n : ℕ). n ≤ length d) (sym (closed_same c).2) f.place; broad = f.broad }
 
 pub closing_sound : (c k : Page) (t d : List ℕ) → Sound c t d → k ≡ closed c → (Sound k t d) × (k.word ≡ 0)
 closing_sound c k t d f e = (subst (λ (q : Page). Sound q t d) (sym e) (closed_sound c t d f), ap (λ (q : Page). q.word) e ∙ (closed_slight c f.slight).1)
@@ -167,7 +166,7 @@ pub acts_plain : (act : Sheet → Laid) (c c' : Page) (t d : List ℕ) → Sound
     → ((d₀ : List ℕ) (s : Sheet) → Matches d₀ s c t d → is_empty s.word ≡ true → Tells d₀ (act s) c' t d) → Acts act c t d c' t d
 acts_plain act c c' t d f s p w u g =
     record {
-      sound = record { slight = s; place = subst (λ (n : Option ℕ). Within n (length d)) (sym p) f.place; broad = f.broad };
+      sound = record { slight = s; place = subst (λ (n : ℕ). n ≤ length d) (sym p) f.place; broad = f.broad };
       writes = w;
       size = refl;
       still = λ (q : c.writes ≡ false). refl;
@@ -185,7 +184,7 @@ acts_none c t d f =
     acts_plain (λ (s : Sheet). laid s) c c t d f f.slight refl refl (λ (q : c.unfit ≡ true). q) (λ (d₀ : List ℕ) (s : Sheet) (m : Matches d₀ s c t d) (e : is_empty s.word ≡ true). m)
 
 -- the line and n LF were written
-pub acts_ended : (n : ℕ) (out : Sheet → List ℕ) (c c' : Page) (t d d' : List ℕ) → Sound c t d → c.word ≡ 0 → c' ≡ new_line (out_with c'.place c)
+pub acts_ended : (n : ℕ) (out : Sheet → List ℕ) (c c' : Page) (t d d' : List ℕ) → Sound c t d → c.word ≡ 0 → c' ≡ new_line (out_with c'.place c'.short c)
     → Wrote (shown_of c t ++ replicate n 10) c d c' d' → ((s : Sheet) → out s ≡ s.out ++ (shown s ++ replicate n 10)) → Acts (λ (s : Sheet). laid (line_of (out s) s)) c t d c' t d'
 acts_ended n out c c' t d d' f z e w o =
     record {
@@ -203,7 +202,7 @@ pub acts_map : (f h : Sheet → Sheet) (c k c' : Page) (t d t' d' : List ℕ) �
     → ((d₀ : List ℕ) (s : Sheet) → Matches d₀ s c t d → is_empty s.word ≡ true → Matches d₀ (f s) k t' d' → Matches d₀ (h s) c' t' d') → Acts (λ (s : Sheet). laid (h s)) c t d c' t' d'
 acts_map f h c k c' t d t' d' a s p w u g =
     record {
-      sound = record { slight = s; place = subst (λ (n : Option ℕ). Within n (length d')) (sym p) a.sound.place; broad = a.sound.broad };
+      sound = record { slight = s; place = subst (λ (n : ℕ). n ≤ length d') (sym p) a.sound.place; broad = a.sound.broad };
       writes = w ∙ a.writes;
       size = a.size;
       still = a.still;
@@ -211,7 +210,7 @@ acts_map f h c k c' t d t' d' a s p w u g =
       goes = λ (d₀ : List ℕ) (s : Sheet) (m : Matches d₀ s c t d) (e : is_empty s.word ≡ true). g d₀ s m e (a.goes d₀ s m e);
     }
 
-pub acts_line : (c c' : Page) (t d d' : List ℕ) → Sound c t d → c.word ≡ 0 → c' ≡ new_line (out_with c'.place c) → Wrote (shown_of c t ++ 10 ∷ []) c d c' d' → Acts (λ (s : Sheet). laid (end_line s)) c t d c' t d'
+pub acts_line : (c c' : Page) (t d d' : List ℕ) → Sound c t d → c.word ≡ 0 → c' ≡ new_line (out_with c'.place c'.short c) → Wrote (shown_of c t ++ 10 ∷ []) c d c' d' → Acts (λ (s : Sheet). laid (end_line s)) c t d c' t d'
 unfolding end_line
 acts_line c c' t d d' f z e w = acts_ended 1 (λ (s : Sheet). s.out ++ shown s ++ 10 ∷ []) c c' t d d' f z e w (λ (s : Sheet). append_assoc s.out (shown s) (10 ∷ []))
 
@@ -266,7 +265,7 @@ module _ (b : ℕ) (other : of_word b ≡ false) (c : Page) (t d : List ℕ) (f 
   pub take_again : (b ≡ 32 → ⊥) → (eqb b 10 && c.after) ≡ true → Follows (byte b ∷ []) c t d k t d
   take_again n z = space_follows b other c t d (λ (s : Sheet). s) k t d (space_again b other c t d n z) (closing (acts_none k t d sound_closing))
 
-  pub take_end : (b ≡ 32 → ⊥) → (eqb b 10 && c.after) ≡ false → (r : Page) (d' : List ℕ) → r ≡ new_line (out_with r.place k) → Wrote (shown_of k t ++ 10 ∷ []) k d r d'
+  pub take_end : (b ≡ 32 → ⊥) → (eqb b 10 && c.after) ≡ false → (r : Page) (d' : List ℕ) → r ≡ new_line (out_with r.place r.short k) → Wrote (shown_of k t ++ 10 ∷ []) k d r d'
       → Follows (byte b ∷ []) c t d (noted (eqb b 13) r) t d'
   take_end n z r d' g w =
       space_follows b other c t d (λ (s : Sheet). note_cr (eqb b 13) (end_line s)) (noted (eqb b 13) r) t d' (space_ends b other c t d n z)

@@ -7,7 +7,6 @@ use native.Mathlib.Omega.{arith}
 use lib.Dec.{eqb}
 use lib.ListN.{length, take, length-append, length-replicate}
 use borrow.Author.Tests.{ne_eqb}
-use Rattle.std.specs.Prelude.{Option}
 use Rattle.alphabet.proofs.BoolLaws.{and_both}
 use Rattle.format_commands.specs.Commands.{held_size}
 use Rattle.format_commands.specs.Items.{Item, byte}
@@ -15,7 +14,7 @@ use Rattle.formatting.specs.declared.page.Page.{Page}
 use Rattle.formatting.specs.Sheet.{Sheet, Laid, laid, then_laid, blanks, is_empty, lead, end_word, note_cr, of_word, space, move, moves, written, lines_from}
 use Rattle.formatting.specs.Going.{Goes}
 use Rattle.formatting.specs.Runs.{clear}
-use Rattle.formatting.specs.Pages.{Within, lead_of, reach_of, Slight, line_with, noted, Settled, word, blank, words, ahead, Matches, Sound, Reaches, at, Follows}
+use Rattle.formatting.specs.Pages.{lead_of, reach_of, Slight, line_with, noted, Settled, word, blank, words, ahead, Matches, Sound, Reaches, at, Follows}
 use Rattle.formatting.proofs.SheetLaws.{on, lead_at, content, blank_is, Runs, runs_ink, runs_blanks, runs_words}
 use Rattle.formatting.proofs.PageLaws.{held_min, reach_exact, length_some}
 use Rattle.formatting.proofs.LineLaws.{begins_less, put_down, down_length, put_begins}
@@ -175,7 +174,7 @@ append_follows c c' t d u t' f h n e g q =
     let x = settled_same g in
     subst (λ (v : List ℕ). Follows (map byte u) c t d c' v d) (sym q)
     (record {
-      sound = record { slight = settled_slight c u h f.slight g; place = subst (λ (n : Option ℕ). Within n (length d)) (sym x.2) f.place; broad = down_length c t u f.broad };
+      sound = record { slight = settled_slight c u h f.slight g; place = subst (λ (k : ℕ). k ≤ length d) (sym x.2) f.place; broad = down_length c t u f.broad };
       writes = x.0;
       size = refl;
       still = λ (w : c.writes ≡ false). refl;

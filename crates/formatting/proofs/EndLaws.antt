@@ -8,7 +8,6 @@ use lib.Dec.{ltb}
 use lib.ListN.{length, take, drop, replicate, length-append, length-replicate, length-drop, take-append-drop}
 use lib.Seq.{take_at, drop-append_seam, take-append_seam, length-take-le}
 use borrow.Author.Tests.{lt-ltb, le-ltb}
-use Rattle.std.specs.Prelude.{Option}
 use Rattle.alphabet.specs.Filling.{put_at}
 use Rattle.alphabet.proofs.FillingLaws.{put_fits}
 use Rattle.format_commands.proofs.CommandLaws.{held_own}
@@ -68,13 +67,13 @@ module _ {d₀ : List ℕ} {s : Sheet} {c : Page} {t d : List ℕ} (m : Matches 
 
   -- the line and n LF were written, and the word that is left stands behind the margin
   pub line_ended : (n : ℕ) (out : List ℕ) (c' : Page) (t' d' : List ℕ) → out ≡ s.out ++ (shown s ++ replicate n 10) → s.margin ≤ 200
-      → c' ≡ new_line (out_with c'.place c) → Wrote (shown_of c t ++ replicate n 10) c d c' d'
+      → c' ≡ new_line (out_with c'.place c'.short c) → Wrote (shown_of c t ++ replicate n 10) c d c' d'
       → (is_empty s.word ≡ false → (s.margin + length s.word ≤ 200) × (take (length (blanks s.margin ++ s.word)) t' ≡ blanks s.margin ++ s.word))
       → Matches d₀ (line_of out s) c' t' d'
   line_ended n out c' t' d' eo hm e w b =
       subst (λ (k : Page). Matches d₀ (line_of out s) k t' d') (sym e)
       (record {
-        output = subst (λ (v : List ℕ). Output d₀ v c.writes c'.place d') (ap (λ (v : List ℕ). s.out ++ (v ++ replicate n 10)) shown_is ∙ sym eo) (w.output d₀ s.out m.size m.output);
+        output = subst (λ (v : List ℕ). Output d₀ v c.writes c'.place c'.short d') (ap (λ (v : List ℕ). s.out ++ (v ++ replicate n 10)) shown_is ∙ sym eo) (w.output d₀ s.out m.size m.output);
         size = w.size ∙ m.size;
         fit = m.fit;
         line = refl;
@@ -106,14 +105,14 @@ module _ {d₀ : List ℕ} {s : Sheet} {c : Page} {t d : List ℕ} (m : Matches 
 
 -- ---- the numbers at the start of a line
 
-reach_line : (c : Page) (n : Option ℕ) → reach_of (new_line (out_with n c)) ≡ c.margin + c.word
+reach_line : (c : Page) (n : ℕ) (t : Bool) → reach_of (new_line (out_with n t c)) ≡ c.margin + c.word
 unfolding reach_of lead_of
-reach_line c n = omega arith
+reach_line c n t = omega arith
 
-pub reach_new : (c c' : Page) → c' ≡ new_line (out_with c'.place c) → reach_of c' ≡ c.margin + c.word
-reach_new c c' e = ap reach_of e ∙ reach_line c c'.place
+pub reach_new : (c c' : Page) → c' ≡ new_line (out_with c'.place c'.short c) → reach_of c' ≡ c.margin + c.word
+reach_new c c' e = ap reach_of e ∙ reach_line c c'.place c'.short
 
-pub slight_new : (c c' : Page) → Slight c → c' ≡ new_line (out_with c'.place c) → (0 < c.word → c.margin + c.word ≤ 200) → Slight c'
+pub slight_new : (c c' : Page) → Slight c → c' ≡ new_line (out_with c'.place c'.short c) → (0 < c.word → c.margin + c.word ≤ 200) → Slight c'
 slight_new c c' s e h =
     let r = reach_new c c' e in
     let l = ap (λ (k : Page). k.line) e in
@@ -132,12 +131,12 @@ slight_new c c' s e h =
       reach = λ (k : 0 < c'.word). let z = h (omega arith) in omega arith;
     }
 
-pub unfit_new : (c c' : Page) → c' ≡ new_line (out_with c'.place c) → (c'.unfit ≡ c.unfit) × (c'.writes ≡ c.writes)
+pub unfit_new : (c c' : Page) → c' ≡ new_line (out_with c'.place c'.short c) → (c'.unfit ≡ c.unfit) × (c'.writes ≡ c.writes)
 unfit_new c c' e = (ap (λ (k : Page). k.unfit) e, ap (λ (k : Page). k.writes) e)
 
 -- ---- a word that goes to the next line
 
-module _ (c c' : Page) (t d t' d' : List ℕ) (f : Sound c t d) (h : c.margin + c.word ≤ 200) (e : c' ≡ new_line (out_with c'.place c))
+module _ (c c' : Page) (t d t' d' : List ℕ) (f : Sound c t d) (h : c.margin + c.word ≤ 200) (e : c' ≡ new_line (out_with c'.place c'.short c))
     (w : Wrote (shown_of c t ++ 10 ∷ []) c d c' d') (broad : length t' ≡ 200) where
   wraps_so : ((d₀ : List ℕ) (s : Sheet) → Matches d₀ s c t d → Matches d₀ (end_line s) c' t' d') → Wraps c t d c' t' d'
   wraps_so g =

@@ -8,10 +8,9 @@ use lib.Dec.{leb, ltb}
 use lib.ListN.{length, take, drop}
 use lib.Seq.{take_at}
 use borrow.Author.Tests.{le-leb, lt-leb, leb-true}
-use Rattle.std.specs.Prelude.{Option, Some, None, Err, Ok}
+use Rattle.std.specs.Prelude.{Err, Ok}
 use Rattle.alphabet.specs.Answers.{Check, Refusable, passes, fails, fails_if}
 use Rattle.alphabet.specs.declared.answers.Fault.{Fault}
-use Rattle.std.specs.Option.{ok_or}
 use Rattle.alphabet.specs.Filling.{over, put_at}
 use Rattle.alphabet.proofs.FillingLaws.{put_fits}
 use Rattle.alphabet.specs.declared.answers.Refusal.{Refusal}
@@ -27,9 +26,9 @@ use Rattle.format_commands.proofs.CommandLaws.{held_own}
 use Rattle.formatting.specs.declared.page.Page.{Page}
 use Rattle.formatting.specs.Sheet.{Sheet, at_first, laid, unfit, is_empty, shown, end_line, lead, put, end_word, note_cr, Lines, lines, none, written, moves, lines_from, lines_of}
 use Rattle.formatting.specs.Formatting.{told, laid_out, formatting}
-use Rattle.formatting.specs.Pages.{Within, first_page, closed, out_with, shown_of, Output, Wrote, Matches, Sound, Reaches, Follows, at, nowhere}
+use Rattle.formatting.specs.Pages.{first_page, closed, out_with, shown_of, Output, Wrote, Matches, Sound, Reaches, Follows, at, nowhere}
 use Rattle.formatting.specs.Laying.{found_of, laid_before, Lays, Finishes, concluded, laid_in, Typesets}
-use Rattle.formatting.proofs.OutputLaws.{over_more, same_place, no_place}
+use Rattle.formatting.proofs.OutputLaws.{over_more}
 use Rattle.formatting.proofs.EndLaws.{shown_is}
 use Rattle.formatting.proofs.ActLaws.{closed_same, closes, Closes}
 
@@ -47,12 +46,7 @@ first_matches : (w : Bool) (t d : List ℕ) → Matches d at_first (first_page w
 unfolding is_empty
 first_matches w t d =
     record {
-      output =
-          record {
-            done = λ (n : ℕ) (q : Some 0 ≡ Some n). sym (same_place q);
-            holds = λ (n : ℕ) (q : Some 0 ≡ Some n) (k : w ≡ true). refl;
-            beyond = λ (q : Some 0 ≡ None). absurd (no_place (sym q));
-          };
+      output = record { done = λ (q : false ≡ false). refl; holds = λ (q : false ≡ false) (k : w ≡ true). refl; beyond = λ (q : false ≡ true). absurd (false_true q) };
       size = refl;
       fit = refl;
       line = refl;
@@ -84,7 +78,7 @@ last_lines : (s s' : Sheet) → end_word (note_cr false s) ≡ laid s' → lines
 unfolding lines_from moves written
 last_lines s s' q = sym (written_note s false) ∙ ap written q
 
-pub finishes : (c k r : Page) (t d d' : List ℕ) → k ≡ closed c → r ≡ out_with r.place k → Wrote (shown_of k t) k d r d' → Finishes c t d r d'
+pub finishes : (c k r : Page) (t d d' : List ℕ) → k ≡ closed c → r ≡ out_with r.place r.short k → Wrote (shown_of k t) k d r d' → Finishes c t d r d'
 finishes c k r t d d' e l w =
     record {
       within = w.within;
@@ -94,14 +88,14 @@ finishes c k r t d d' e l w =
       goes = λ (d₀ : List ℕ) (s : Sheet) (m : Matches d₀ s c t d). by d₀ s (closes m);
     }
   where
-    by : (d₀ : List ℕ) (s : Sheet) → Closes d₀ s c t d → (u : List ℕ) × (lines_from s [] ≡ lines u) × Output d₀ u c.writes r.place d'
+    by : (d₀ : List ℕ) (s : Sheet) → Closes d₀ s c t d → (u : List ℕ) × (lines_from s [] ≡ lines u) × Output d₀ u c.writes r.place r.short d'
     by d₀ s z =
         let n : Matches d₀ z.sheet k t d = subst (λ (p : Page). Matches d₀ z.sheet p t d) (sym e) z.matches in
         let same : k.writes ≡ c.writes = ap (λ (p : Page). p.writes) e ∙ (closed_same c).0 in (
           z.sheet.out ++ shown z.sheet,
           last_lines s z.sheet z.ends,
-          subst (λ (v : Bool). Output d₀ (z.sheet.out ++ shown z.sheet) v r.place d') same
-              (subst (λ (v : List ℕ). Output d₀ (z.sheet.out ++ v) k.writes r.place d') (shown_is n) (w.output d₀ z.sheet.out n.size n.output)),
+          subst (λ (v : Bool). Output d₀ (z.sheet.out ++ shown z.sheet) v r.place r.short d') same
+              (subst (λ (v : List ℕ). Output d₀ (z.sheet.out ++ v) k.writes r.place r.short d') (shown_is n) (w.output d₀ z.sheet.out n.size n.output)),
         )
 
 -- ---- a text that was measured or written
@@ -138,21 +132,14 @@ unfolding page_or
 laid_passes (Ok _) c q = (refl, ap (page_or c) q)
 laid_passes (Err g) c q = absurd (let z : ◌≡◌ {A = ℕ} 0 1 = cc in omega arith)
 
--- what a page says at the end
-abbrev no_room : Fault
-no_room = record { kind = NoRoom; place = 0 }
-
-pub concludes_unfit : (c : Page) {f : Fault} → fails_if c.unfit Layout 0 ≡ Err f → concluded c ≡ Err f
+-- and what it says at the end, where the room was too short
+pub concludes_short : (c : Page) {f : Fault} → c.unfit ≡ false → fails_if c.short NoRoom 0 ≡ Err f → concluded c ≡ Err f
 unfolding concluded
-concludes_unfit c {f} q = by c.unfit q
+concludes_short c {f} u q = rw u (by c.short q)
   where
-    by : (b : Bool) → fails_if b Layout 0 ≡ Err f → cond b (fails Layout 0) (ok_or c.place no_room) ≡ Err f
+    by : (b : Bool) → fails_if b NoRoom 0 ≡ Err f → cond b (fails {T = ℕ} NoRoom 0) (Ok c.place) ≡ Err f
     by true q = fault_same q
     by false q = absurd (never_stops q)
-
-pub concludes_placed : (c : Page) (r : Refusable ℕ) → c.unfit ≡ false → r ≡ ok_or c.place no_room → r ≡ concluded c
-unfolding concluded
-concludes_placed c r u q = rw u q
 
 abbrev counted : ℕ → Refusable ℕ
 counted n = Ok n
@@ -205,20 +192,20 @@ module _ (ds s : List ℕ) (w : Bool) (t d t' d' : List ℕ) (r : Page) (l : Pas
         (λ (v : List ℕ) (x : fault Layout 0 ≡ text v) (h : w ≡ true). absurd (not_text Layout 0 v x))
 
     -- or the lines are too long, or they are there
-    told_lines : (v : List ℕ) → lines_of l.items ≡ lines v → c'.unfit ≡ false → Output d v w c'.place d'' → Typesets ds s w d q d''
+    told_lines : (v : List ℕ) → lines_of l.items ≡ lines v → c'.unfit ≡ false → Output d v w c'.place c'.short d'' → Typesets ds s w d q d''
     unfolding told answer concluded
-    told_lines v z u o = by c'.place refl
+    told_lines v z u o = by c'.short refl
       where
-        by : (p : Option ℕ) → c'.place ≡ p → Typesets ds s w d q d''
-        by None h =
+        by : (b : Bool) → c'.short ≡ b → Typesets ds s w d q d''
+        by true h =
             typeset_so ds s w d d'' q (fault NoRoom 0) (laid_in_lem (lines v) z ∙ fit_long (length d) v (o.beyond h)) (g ∙ rw (u, h)) sized kept
             (λ (y : List ℕ) (x : fault NoRoom 0 ≡ text y) (k : w ≡ true). absurd (not_text NoRoom 0 y x))
-        by (Some n) h =
-            let m = o.done n h in
-            let i = subst (λ (p : Option ℕ). Within p (length d'')) h f.within in
+        by false h =
+            let n = o.done h in
+            let i = f.within in
             let j = sized in
-            typeset_so ds s w d d'' q (text v) (laid_in_lem (lines v) z ∙ fit_text (length d) v (omega arith)) (g ∙ rw (u, h) (ap counted m)) sized kept
-            (λ (y : List ℕ) (x : text v ≡ text y) (k : w ≡ true). o.holds n h k ∙ ap (λ (a : List ℕ). over a d) (text_same v y x))
+            typeset_so ds s w d d'' q (text v) (laid_in_lem (lines v) z ∙ fit_text (length d) v (omega arith)) (g ∙ rw (u, h) (ap counted n)) sized kept
+            (λ (y : List ℕ) (x : text v ≡ text y) (k : w ≡ true). o.holds h k ∙ ap (λ (a : List ℕ). over a d) (text_same v y x))
 
     pub typeset_passes : Typesets ds s w d q d''
     typeset_passes = by (l.follows.goes d at_first (first_matches w t d))
@@ -226,7 +213,7 @@ module _ (ds s : List ℕ) (w : Bool) (t d t' d' : List ℕ) (r : Page) (l : Pas
         by : Reaches d at_first l.items r t' d' → Typesets ds s w d q d''
         by (at s' x m) =
             let z = f.goes d s' m in
-            told_lines z.0 (ap lines_of (sym (append-nil l.items)) ∙ x [] ∙ z.1) (f.unfit ∙ m.fit) (subst (λ (b : Bool). Output d z.0 b c'.place d'') l.follows.writes z.2)
+            told_lines z.0 (ap lines_of (sym (append-nil l.items)) ∙ x [] ∙ z.1) (f.unfit ∙ m.fit) (subst (λ (b : Bool). Output d z.0 b c'.place c'.short d'') l.follows.writes z.2)
         by (nowhere x u) = unlaid (ap lines_of (sym (append-nil l.items)) ∙ x []) (f.unfit ∙ u)
 
 -- ---- the outcome, case by case

@@ -52,7 +52,7 @@ module _ (b : ℕ) (ink : of_word b ≡ true) (c : Page) (t d : List ℕ) (full 
       by d₀ s m (nowhere g q) = nowhere (λ (r : List Item). goes_early s b ink (passes b m full) (sym m.fill ∙ e) r ∙ g r) q
 
   abbrev spoilt : Page
-  spoilt = record { writes = c.writes; place = c.place; unfit = true; line = c.line; owed = c.owed; word = c.word; margin = c.margin; left = c.left; fill = c.fill; centre = c.centre; after = c.after }
+  spoilt = record { writes = c.writes; place = c.place; short = c.short; unfit = true; line = c.line; owed = c.owed; word = c.word; margin = c.margin; left = c.left; fill = c.fill; centre = c.centre; after = c.after }
 
   stuck_so : {d₀ : List ℕ} {s : Sheet} → (c.fill && ltb (c.margin + c.word) 200) ≡ false → Matches d₀ s c t d → Stuck (add_byte b s)
   stuck_so {d₀} {s} e m =

@@ -143,7 +143,7 @@ module _ (c : Page) (t d : List ℕ) (f : Sound c t d) (z : c.word ≡ 0) where
       (left_matches m k n (moved s.margin a) (q ∙ same ∙ sym (held_own (moved s.margin a) (let y = q ∙ same in omega arith)))))
 
   -- the line and n LF were written, and the next line begins at the same column
-  pub acts_down : (n : ℕ) (k : Page) (d' : List ℕ) (p : ℕ) → (n ≡ 0 → ⊥) → k ≡ new_line (out_with k.place c) → Wrote (shown_of c t ++ replicate n 10) c d k d' → p ≡ position_of c
+  pub acts_down : (n : ℕ) (k : Page) (d' : List ℕ) (p : ℕ) → (n ≡ 0 → ⊥) → k ≡ new_line (out_with k.place k.short c) → Wrote (shown_of c t ++ replicate n 10) c d k d' → p ≡ position_of c
       → Acts (λ (s : Sheet). laid (down n s)) c t d (left_at p k) t d'
   unfolding end_line
   acts_down n k d' p h e w q =

@@ -2,18 +2,18 @@
 use mathlib.Core.Path.{◌≡◌, refl, sym, ap, ap₂, subst, ◌∙◌}
 use mathlib.Core.List.{List, [], ◌++◌, append_assoc, append-nil}
 use mathlib.Core.Bool.{Bool, true, false, cond}
-use Prim.Native.Nat.{ℕ, ◌+◌, ◌-◌, ◌≤◌}
+use Prim.Native.Nat.{ℕ, ◌+◌, ◌-◌, ◌≤◌, ◌<◌}
 use native.Mathlib.Omega.{arith}
 use lib.Dec.{ltb, leb}
 use lib.ListN.{length, take, drop, replicate, length-append, length-replicate}
 use lib.Seq.{length-take-le}
 use borrow.Author.Tests.{ltb-true, ltb-false, leb-true}
-use Rattle.std.specs.Prelude.{Option, Some, None}
+use Rattle.alphabet.proofs.BoolLaws.{false_true}
 use Rattle.alphabet.specs.Filling.{over, pasted, put_at, behind}
 use Rattle.alphabet.proofs.FillingLaws.{fill_more, fill_end, fill_from, fill_from_end, fill_length, put_fits, put_none}
 use Rattle.formatting.specs.declared.page.Page.{Page}
 use Rattle.formatting.specs.Sheet.{blanks}
-use Rattle.formatting.specs.Pages.{out_with, new_line, spent, indent_of, shown_of, Output, Wrote}
+use Rattle.formatting.specs.Pages.{out_with, new_line, spent_of, indent_of, shown_of, Output, Wrote}
 
 -- ---- into a buffer
 
@@ -69,93 +69,99 @@ line_length i n l =
 
 -- ---- bytes behind bytes
 
-spent_short : (n room place : ℕ) → ltb (room - place) n ≡ true → spent n room place ≡ None
-unfolding spent
-spent_short n room place e = rw e
+spent_short : (n room : ℕ) (c : Page) → ltb (room - c.place) n ≡ true → spent_of n room c ≡ out_with c.place true c
+unfolding spent_of
+spent_short n room c e = rw e
 
-spent_fits : (n room place : ℕ) → ltb (room - place) n ≡ false → spent n room place ≡ Some (place + n)
-unfolding spent
-spent_fits n room place e = rw e
-
--- two places that are the same, and a place that is none
-place_or : ℕ → Option ℕ → ℕ
-place_or other None = other
-place_or other (Some n) = n
-
-pub same_place : {n k : ℕ} → Some n ≡ Some k → n ≡ k
-unfolding place_or
-same_place {n} q = ap (place_or n) q
-
-pub no_place : {n : ℕ} → ◌≡◌ {A = Option ℕ} None (Some n) → ⊥
-no_place q = absurd (let z : ◌≡◌ {A = ℕ} 0 1 = cc in omega arith)
+spent_fits : (n room : ℕ) (c : Page) → ltb (room - c.place) n ≡ false → spent_of n room c ≡ out_with (c.place + n) c.short c
+unfolding spent_of
+spent_fits n room c e = rw e
 
 either : (t : Bool) (x : List ℕ) → cond t x x ≡ x
 either true x = refl
 either false x = refl
 
-module _ (xs d : List ℕ) (c : Page) (at : ℕ) (here : c.place ≡ Some at) (h : at ≤ length d) where
-  short_wrote : (d' : List ℕ) → ltb (length d - at) (length xs) ≡ true → d' ≡ cond c.writes (put_at d at xs) d → Wrote xs c d (out_with None c) d'
+module _ (xs d : List ℕ) (c : Page) (h : c.place ≤ length d) where
+  short_wrote : (d' : List ℕ) → ltb (length d - c.place) (length xs) ≡ true → d' ≡ cond c.writes (put_at d c.place xs) d → Wrote xs c d (out_with c.place true c) d'
   short_wrote d' e f =
-      let l = ltb-true (length d - at) (length xs) e in
-      let same : d' ≡ d = f ∙ ap (λ (v : List ℕ). cond c.writes v d) (put_none d xs at (omega arith)).1 ∙ either c.writes d in
-      record {
-        within = tt;
-        size = ap length same;
-        still = λ (w : c.writes ≡ false). same;
-        output = λ (d₀ out : List ℕ) (n : length d ≡ length d₀) (o : Output d₀ out c.writes c.place d).
-            record {
-              done = λ (k : ℕ) (q : None ≡ Some k). absurd (no_place q);
-              holds = λ (k : ℕ) (q : None ≡ Some k) (w : c.writes ≡ true). absurd (no_place q);
-              beyond = λ (q : ◌≡◌ {A = Option ℕ} None None). let a = length-append out xs in let b = o.done at here in omega arith;
-            };
-      }
-
-  fits_wrote : (d' : List ℕ) → ltb (length d - at) (length xs) ≡ false → d' ≡ cond c.writes (put_at d at xs) d → Wrote xs c d (out_with (Some (at + length xs)) c) d'
-  fits_wrote d' e f =
-      let l = ltb-false (length d - at) (length xs) e in
-      let z = ap length f ∙ kept_length c.writes d xs at in
+      let l = ltb-true (length d - c.place) (length xs) e in
+      let same : d' ≡ d = f ∙ ap (λ (v : List ℕ). cond c.writes v d) (put_none d xs c.place (omega arith)).1 ∙ either c.writes d in
+      let z = ap length same in
       record {
         within = omega arith;
         size = z;
-        still = λ (w : c.writes ≡ false). f ∙ ap (λ (t : Bool). cond t (put_at d at xs) d) w;
-        output = λ (d₀ out : List ℕ) (n : length d ≡ length d₀) (o : Output d₀ out c.writes c.place d).
+        still = λ (w : c.writes ≡ false). same;
+        output = λ (d₀ out : List ℕ) (n : length d ≡ length d₀) (o : Output d₀ out c.writes c.place c.short d).
+            let a = length-append out xs in
             record {
-              done = λ (k : ℕ) (q : Some (at + length xs) ≡ Some k). let a = length-append out xs in let b = o.done at here in let s = same_place q in omega arith;
-              holds = λ (k : ℕ) (q : Some (at + length xs) ≡ Some k) (w : c.writes ≡ true).
-                  f ∙ ap (λ (t : Bool). cond t (put_at d at xs) d) w ∙ fitted ∙ over_more d₀ out xs d at (o.done at here) (o.holds at here w);
-              beyond = λ (q : Some (at + length xs) ≡ None). absurd (no_place (sym q));
+              done = λ (q : true ≡ false). absurd (false_true (sym q));
+              holds = λ (q : true ≡ false). absurd (false_true (sym q));
+              beyond = λ (q : true ≡ true). by d₀ out n o c.short refl;
             };
       }
     where
-      fitted : put_at d at xs ≡ pasted d at xs
-      fitted = let l = ltb-false (length d - at) (length xs) e in (put_fits d xs at (omega arith)).1
+      by : (d₀ out : List ℕ) → length d ≡ length d₀ → Output d₀ out c.writes c.place c.short d → (t : Bool) → c.short ≡ t → length d₀ < length (out ++ xs)
+      by d₀ out n o true q = let a = length-append out xs in let b = o.beyond q in omega arith
+      by d₀ out n o false q =
+          let a = length-append out xs in
+          let b = o.done q in
+          let l = ltb-true (length d - c.place) (length xs) e in
+          omega arith
 
-  pub wrote : (d' : List ℕ) → d' ≡ cond c.writes (put_at d at xs) d → Wrote xs c d (out_with (spent (length xs) (length d) at) c) d'
-  wrote d' f = by (ltb (length d - at) (length xs)) refl
+  fits_wrote : (d' : List ℕ) → ltb (length d - c.place) (length xs) ≡ false → d' ≡ cond c.writes (put_at d c.place xs) d → Wrote xs c d (out_with (c.place + length xs) c.short c) d'
+  fits_wrote d' e f =
+      let l = ltb-false (length d - c.place) (length xs) e in
+      let z = ap length f ∙ kept_length c.writes d xs c.place in
+      record {
+        within = omega arith;
+        size = z;
+        still = λ (w : c.writes ≡ false). f ∙ ap (λ (t : Bool). cond t (put_at d c.place xs) d) w;
+        output = λ (d₀ out : List ℕ) (n : length d ≡ length d₀) (o : Output d₀ out c.writes c.place c.short d).
+            let a = length-append out xs in
+            record {
+              done = λ (q : c.short ≡ false). let b = o.done q in omega arith;
+              holds = λ (q : c.short ≡ false) (w : c.writes ≡ true). f ∙ ap (λ (t : Bool). cond t (put_at d c.place xs) d) w ∙ fitted ∙ over_more d₀ out xs d c.place (o.done q) (o.holds q w);
+              beyond = λ (q : c.short ≡ true). let b = o.beyond q in omega arith;
+            };
+      }
     where
-      by : (t : Bool) → ltb (length d - at) (length xs) ≡ t → Wrote xs c d (out_with (spent (length xs) (length d) at) c) d'
-      by true q = subst (λ (p : Option ℕ). Wrote xs c d (out_with p c) d') (sym (spent_short (length xs) (length d) at q)) (short_wrote d' q f)
-      by false q = subst (λ (p : Option ℕ). Wrote xs c d (out_with p c) d') (sym (spent_fits (length xs) (length d) at q)) (fits_wrote d' q f)
+      fitted : put_at d c.place xs ≡ pasted d c.place xs
+      fitted = let l = ltb-false (length d - c.place) (length xs) e in (put_fits d xs c.place (omega arith)).1
+
+  pub wrote : (c' : Page) (d' : List ℕ) → c' ≡ spent_of (length xs) (length d) c → d' ≡ cond c.writes (put_at d c.place xs) d → Wrote xs c d c' d'
+  wrote c' d' e f = by (ltb (length d - c.place) (length xs)) refl
+    where
+      by : (t : Bool) → ltb (length d - c.place) (length xs) ≡ t → Wrote xs c d c' d'
+      by true q = subst (λ (k : Page). Wrote xs c d k d') (sym (e ∙ spent_short (length xs) (length d) c q)) (short_wrote d' q f)
+      by false q = subst (λ (k : Page). Wrote xs c d k d') (sym (e ∙ spent_fits (length xs) (length d) c q)) (fits_wrote d' q f)
+
+  -- nothing but the count changes
+  pub spent_layout : (c' : Page) (n : ℕ) → c' ≡ spent_of n (length d) c → c' ≡ out_with c'.place c'.short c
+  spent_layout c' n e = by (ltb (length d - c.place) n) refl
+    where
+      by : (t : Bool) → ltb (length d - c.place) n ≡ t → c' ≡ out_with c'.place c'.short c
+      by true q = let z = e ∙ spent_short n (length d) c q in z ∙ ap (λ (k : Page). out_with k.place k.short c) (sym z)
+      by false q = let z = e ∙ spent_fits n (length d) c q in z ∙ ap (λ (k : Page). out_with k.place k.short c) (sym z)
 
 -- ---- a line, as it is shown
 
 -- the line and LFs behind it are written, and counted
-pub shown_wrote : (c : Page) (at : ℕ) (p : Option ℕ) (t d d' : List ℕ) (i n : ℕ) → c.place ≡ Some at → at ≤ length d → length (take c.line t) ≡ c.line → i ≡ indent_of c
-    → d' ≡ cond c.writes (put_at d at (blanks i ++ (take c.line t ++ replicate n 10))) d → p ≡ spent (i + c.line + n) (length d') at
-    → Wrote (shown_of c t ++ replicate n 10) c d (out_with p c) d'
-shown_wrote c at p t d d' i n q h b e f g =
+pub shown_wrote : (c c' : Page) (t d d' : List ℕ) (i n : ℕ) → c.place ≤ length d → length (take c.line t) ≡ c.line → i ≡ indent_of c
+    → d' ≡ cond c.writes (put_at d c.place (blanks i ++ (take c.line t ++ replicate n 10))) d → c' ≡ spent_of (i + c.line + n) (length d') c
+    → (c' ≡ out_with c'.place c'.short c) × Wrote (shown_of c t ++ replicate n 10) c d c' d'
+shown_wrote c c' t d d' i n h b e f g =
     let xs = shown_of c t ++ replicate n 10 in
     let same : blanks i ++ (take c.line t ++ replicate n 10) ≡ xs = ap (λ (k : ℕ). blanks k ++ (take c.line t ++ replicate n 10)) e ∙ sym (append_assoc (blanks (indent_of c)) (take c.line t) (replicate n 10)) in
     let l = line_length i n (take c.line t) in
     let m = ap length same in
     let z : i + c.line + n ≡ length xs = omega arith in
-    let counted : p ≡ spent (length xs) (length d) at = g ∙ ap₂ (λ (k r : ℕ). spent k r at) z (ap length f ∙ kept_length c.writes d _ at) in
-    subst (λ (k : Option ℕ). Wrote xs c d (out_with k c) d') (sym counted) (wrote xs d c at q h d' (f ∙ ap (λ (v : List ℕ). cond c.writes (put_at d at v) d) same))
+    let counted : c' ≡ spent_of (length xs) (length d) c = g ∙ ap₂ (λ (k r : ℕ). spent_of k r c) z (ap length f ∙ kept_length c.writes d _ c.place) in
+    (spent_layout xs d c h c' (length xs) counted, wrote xs d c h c' d' counted (f ∙ ap (λ (v : List ℕ). cond c.writes (put_at d c.place v) d) same))
 
 -- the start of a line writes nothing
 pub wrote_new : (xs : List ℕ) (c k c' : Page) (d d' : List ℕ) → Wrote xs c d k d' → c' ≡ new_line k → Wrote xs c d c' d'
 wrote_new xs c k c' d d' f e =
     subst (λ (q : Page). Wrote xs c d q d') (sym e) (record { within = f.within; size = f.size; still = f.still; output = f.output })
 
-pub layout_new : (c k c' : Page) → k ≡ out_with k.place c → c' ≡ new_line k → c' ≡ new_line (out_with c'.place c)
-layout_new c k c' f e = e ∙ ap new_line f ∙ ap (λ (q : Page). new_line (out_with q.place c)) (sym e)
+pub layout_new : (c k c' : Page) → k ≡ out_with k.place k.short c → c' ≡ new_line k → c' ≡ new_line (out_with c'.place c'.short c)
+layout_new c k c' f e = e ∙ ap new_line f ∙ ap (λ (q : Page). new_line (out_with q.place q.short c)) (sym e)

@@ -1,6 +1,5 @@
 -- What the walk along a text gives, for the contracts of private functions.
-use Rattle.std.specs.Prelude.{ℕ, ◌≡◌, List, [], Bool, true, false, Ok, Err, cond, length}
-use Rattle.std.specs.Option.{ok_or}
+use Rattle.std.specs.Prelude.{ℕ, ◌≤◌, ◌≡◌, List, [], Bool, true, false, Ok, Err, cond, length}
 use Rattle.alphabet.specs.Answers.{Check, Refusable, fails}
 use Rattle.alphabet.specs.Bytes.{printable}
 use Rattle.alphabet.specs.Filling.{over}
@@ -12,7 +11,7 @@ use Rattle.format_commands.specs.Items.{Item, items_of}
 use Rattle.formatting.specs.declared.page.Page.{Page}
 use Rattle.formatting.specs.Sheet.{Sheet, lines, lines_from}
 use Rattle.formatting.specs.Formatting.{laid_out}
-use Rattle.formatting.specs.Pages.{Within, Output, Matches, Follows}
+use Rattle.formatting.specs.Pages.{Output, Matches, Follows}
 
 -- "raw separator other than the escape in text", "first byte not allowed"
 unfoldable pub wrong_plain : ℕ → Refusal
@@ -39,15 +38,15 @@ pub record Lays (ds s : List ℕ) (c : Page) (t d : List ℕ) (r : Refusable Pag
 
 -- the last line was written: the page, and what stands in the buffer then
 pub record Finishes (c : Page) (t d : List ℕ) (c' : Page) (d' : List ℕ) : Type 0 where
-  pub within : Within c'.place (length d')
+  pub within : c'.place ≤ length d'
   pub size : length d' ≡ length d
   pub still : c.writes ≡ false → d' ≡ d
   pub unfit : c'.unfit ≡ c.unfit
-  pub goes : (d₀ : List ℕ) (s : Sheet) → Matches d₀ s c t d → (u : List ℕ) × (lines_from s [] ≡ lines u) × Output d₀ u c.writes c'.place d'
+  pub goes : (d₀ : List ℕ) (s : Sheet) → Matches d₀ s c t d → (u : List ℕ) × (lines_from s [] ≡ lines u) × Output d₀ u c.writes c'.place c'.short d'
 
 -- what a page says at the end: "42 comes just before 14"
 unfoldable pub concluded : Page → Refusable ℕ
-concluded c = cond c.unfit (fails Layout 0) (ok_or c.place (record { kind = NoRoom; place = 0 }))
+concluded c = cond c.unfit (fails Layout 0) (cond c.short (fails NoRoom 0) (Ok c.place))
 
 -- a text that was laid, in a room: what becomes of it
 abbrev pub laid_in : List ℕ → List ℕ → ℕ → Outcome ℕ

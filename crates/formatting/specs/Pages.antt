@@ -1,7 +1,7 @@
 -- The page in numbers, for the contracts of private functions: each definition is that of `Sheet`, of lengths in the
 -- place of lists, and with what is owed and where a line begins held at 201. `Follows` says of a function that it does
 -- what items do, whatever follows them.
-use Rattle.std.specs.Prelude.{ℕ, suc, ◌+◌, ◌-◌, ◌/◌, ◌≤◌, ◌<◌, ◌≡◌, List, [], ◌∷◌, ◌++◌, Bool, true, false, Option, Some, None, cond, not, ◌&&◌, length, take, ltb, eqb}
+use Rattle.std.specs.Prelude.{ℕ, suc, ◌+◌, ◌-◌, ◌/◌, ◌≤◌, ◌<◌, ◌≡◌, List, [], ◌∷◌, ◌++◌, Bool, true, false, Some, cond, not, ◌&&◌, length, take, ltb, eqb}
 use Rattle.alphabet.specs.Filling.{over}
 use Rattle.format_commands.specs.declared.orders.Order.{Order}
 use Rattle.format_commands.specs.Commands.{order_of, held_size, held_order}
@@ -16,7 +16,7 @@ use Rattle.formatting.specs.Runs.{firm, inked}
 -- the page before the first item
 abbrev pub first_page : Bool → Page
 first_page writes =
-    record { writes = writes; place = Some 0; unfit = false; line = 0; owed = 0; word = 0; margin = 0; left = 0; fill = true; centre = false; after = false }
+    record { writes = writes; place = 0; short = false; unfit = false; line = 0; owed = 0; word = 0; margin = 0; left = 0; fill = true; centre = false; after = false }
 
 unfoldable pub lead_of : Page → ℕ
 lead_of c = c.owed + cond (eqb c.line 0 && not c.centre) c.left 0
@@ -35,14 +35,14 @@ pub record Slight (c : Page) : Type 0 where
 
 abbrev pub line_with : ℕ → ℕ → ℕ → Page → Page
 line_with line owed word c =
-    record { writes = c.writes; place = c.place; unfit = c.unfit; line = line; owed = owed; word = word; margin = c.margin; left = c.left; fill = c.fill; centre = c.centre; after = c.after }
+    record { writes = c.writes; place = c.place; short = c.short; unfit = c.unfit; line = line; owed = owed; word = word; margin = c.margin; left = c.left; fill = c.fill; centre = c.centre; after = c.after }
 
 unfoldable pub word_ended : Page → Page
 word_ended c = cond (eqb c.word 0) c (line_with (reach_of c) 0 0 c)
 
 abbrev pub new_line : Page → Page
 new_line c =
-    record { writes = c.writes; place = c.place; unfit = c.unfit; line = 0; owed = 0; word = c.word; margin = c.margin; left = c.margin; fill = c.fill; centre = false; after = c.after }
+    record { writes = c.writes; place = c.place; short = c.short; unfit = c.unfit; line = 0; owed = 0; word = c.word; margin = c.margin; left = c.margin; fill = c.fill; centre = false; after = c.after }
 
 abbrev pub owing : ℕ → Page → Page
 owing n c = line_with c.line (held_size (c.owed + n)) c.word c
@@ -55,21 +55,16 @@ position_of c = held_size (cond (eqb c.line 0) c.left (indent_of c + c.line) + c
 
 abbrev pub noted : Bool → Page → Page
 noted after c =
-    record { writes = c.writes; place = c.place; unfit = c.unfit; line = c.line; owed = c.owed; word = c.word; margin = c.margin; left = c.left; fill = c.fill; centre = c.centre; after = after }
+    record { writes = c.writes; place = c.place; short = c.short; unfit = c.unfit; line = c.line; owed = c.owed; word = c.word; margin = c.margin; left = c.left; fill = c.fill; centre = c.centre; after = after }
 
 -- with another count of what was written
-abbrev pub out_with : Option ℕ → Page → Page
-out_with place c =
-    record { writes = c.writes; place = place; unfit = c.unfit; line = c.line; owed = c.owed; word = c.word; margin = c.margin; left = c.left; fill = c.fill; centre = c.centre; after = c.after }
+abbrev pub out_with : ℕ → Bool → Page → Page
+out_with place short c =
+    record { writes = c.writes; place = place; short = short; unfit = c.unfit; line = c.line; owed = c.owed; word = c.word; margin = c.margin; left = c.left; fill = c.fill; centre = c.centre; after = c.after }
 
--- the place behind n bytes more, where they go into the room
-unfoldable pub spent : (n room place : ℕ) → Option ℕ
-spent n room place = cond (ltb (room - place) n) None (Some (place + n))
-
--- where the bytes go that come next, within a buffer of m bytes
-abbrev pub Within : Option ℕ → ℕ → Type 0
-Within None m = Unit {0}
-Within (Some place) m = place ≤ m
+-- n bytes more, in a room: they are counted where they go into it
+unfoldable pub spent_of : ℕ → ℕ → Page → Page
+spent_of n room c = cond (ltb (room - c.place) n) (out_with c.place true c) (out_with (c.place + n) c.short c)
 
 -- the line as it is shown: t holds it at its front
 abbrev pub shown_of : Page → List ℕ → List ℕ
@@ -85,18 +80,18 @@ pub data Settled (c : Page) (u : List ℕ) : Page → Type 0 where
 
 -- ---- what was written
 
--- `out` was written to the front of d₀, where there was room for it; where there was none, no place is left
-pub record Output (d₀ out : List ℕ) (writes : Bool) (place : Option ℕ) (d : List ℕ) : Type 0 where
-  pub done : (n : ℕ) → place ≡ Some n → n ≡ length out
-  pub holds : (n : ℕ) → place ≡ Some n → writes ≡ true → d ≡ over out d₀
-  pub beyond : place ≡ None → length d₀ < length out
+-- `out` was written to the front of d₀, where there was room for it
+pub record Output (d₀ out : List ℕ) (writes : Bool) (place : ℕ) (short : Bool) (d : List ℕ) : Type 0 where
+  pub done : short ≡ false → place ≡ length out
+  pub holds : short ≡ false → writes ≡ true → d ≡ over out d₀
+  pub beyond : short ≡ true → length d₀ < length out
 
 -- the bytes xs were written behind the rest, where there was room, and nothing else was touched
 pub record Wrote (xs : List ℕ) (c : Page) (d : List ℕ) (c' : Page) (d' : List ℕ) : Type 0 where
-  pub within : Within c'.place (length d')
+  pub within : c'.place ≤ length d'
   pub size : length d' ≡ length d
   pub still : c.writes ≡ false → d' ≡ d
-  pub output : (d₀ out : List ℕ) → length d ≡ length d₀ → Output d₀ out c.writes c.place d → Output d₀ (out ++ xs) c.writes c'.place d'
+  pub output : (d₀ out : List ℕ) → length d ≡ length d₀ → Output d₀ out c.writes c.place c.short d → Output d₀ (out ++ xs) c.writes c'.place c'.short d'
 
 -- ---- the page beside the sheet
 
@@ -106,7 +101,7 @@ ahead s = s.line ++ blanks (lead s) ++ s.word
 
 -- the page c has the numbers of the sheet s, t the bytes of its line and its word, and d what was written of it over d₀
 pub record Matches (d₀ : List ℕ) (s : Sheet) (c : Page) (t d : List ℕ) : Type 0 where
-  pub output : Output d₀ s.out c.writes c.place d
+  pub output : Output d₀ s.out c.writes c.place c.short d
   pub size : length d ≡ length d₀
   pub fit : c.unfit ≡ false
   pub line : c.line ≡ length s.line
@@ -124,7 +119,7 @@ pub record Matches (d₀ : List ℕ) (s : Sheet) (c : Page) (t d : List ℕ) : T
 -- what a function may rest on
 pub record Sound (c : Page) (t d : List ℕ) : Type 0 where
   pub slight : Slight c
-  pub place : Within c.place (length d)
+  pub place : c.place ≤ length d
   pub broad : length t ≡ 200
 
 -- where items lead: to a sheet that the page matches, or to none
@@ -172,23 +167,23 @@ pub record Acts (act : Sheet → Laid) (c : Page) (t d : List ℕ) (c' : Page) (
 -- with a line that begins elsewhere, with another margin, filled or not, centred, or spoilt
 abbrev pub left_at : ℕ → Page → Page
 left_at n c =
-    record { writes = c.writes; place = c.place; unfit = c.unfit; line = c.line; owed = c.owed; word = c.word; margin = c.margin; left = n; fill = c.fill; centre = c.centre; after = c.after }
+    record { writes = c.writes; place = c.place; short = c.short; unfit = c.unfit; line = c.line; owed = c.owed; word = c.word; margin = c.margin; left = n; fill = c.fill; centre = c.centre; after = c.after }
 
 abbrev pub margin_at : ℕ → Page → Page
 margin_at n c =
-    record { writes = c.writes; place = c.place; unfit = c.unfit; line = c.line; owed = c.owed; word = c.word; margin = n; left = n; fill = c.fill; centre = c.centre; after = c.after }
+    record { writes = c.writes; place = c.place; short = c.short; unfit = c.unfit; line = c.line; owed = c.owed; word = c.word; margin = n; left = n; fill = c.fill; centre = c.centre; after = c.after }
 
 abbrev pub filling : Bool → Page → Page
 filling b c =
-    record { writes = c.writes; place = c.place; unfit = c.unfit; line = c.line; owed = c.owed; word = c.word; margin = c.margin; left = c.left; fill = b; centre = c.centre; after = c.after }
+    record { writes = c.writes; place = c.place; short = c.short; unfit = c.unfit; line = c.line; owed = c.owed; word = c.word; margin = c.margin; left = c.left; fill = b; centre = c.centre; after = c.after }
 
 abbrev pub centring : Page → Page
 centring c =
-    record { writes = c.writes; place = c.place; unfit = c.unfit; line = c.line; owed = c.owed; word = c.word; margin = c.margin; left = c.left; fill = c.fill; centre = true; after = c.after }
+    record { writes = c.writes; place = c.place; short = c.short; unfit = c.unfit; line = c.line; owed = c.owed; word = c.word; margin = c.margin; left = c.left; fill = c.fill; centre = true; after = c.after }
 
 abbrev pub spoiling : Page → Page
 spoiling c =
-    record { writes = c.writes; place = c.place; unfit = true; line = c.line; owed = c.owed; word = c.word; margin = c.margin; left = c.left; fill = c.fill; centre = c.centre; after = c.after }
+    record { writes = c.writes; place = c.place; short = c.short; unfit = true; line = c.line; owed = c.owed; word = c.word; margin = c.margin; left = c.left; fill = c.fill; centre = c.centre; after = c.after }
 
 -- as the command goes of which `asked` is what its bytes ask for, held
 abbrev pub Obeys : Order → Page → List ℕ → List ℕ → Page → List ℕ → List ℕ → Type 0

@@ -35,10 +35,8 @@ fn conclude(page: Page) -> Result<usize, Fault>
     ensures { result ≡ concluded page }
 {
     fails_if(page.unfit, Refusal::Layout, 0)?;
-    page.place.ok_or(Fault {
-        kind: Refusal::NoRoom,
-        place: 0,
-    })
+    fails_if(page.short, Refusal::NoRoom, 0)?;
+    Ok(page.place)
 }
 
 // Measures the lines of a text, or writes them.

@@ -15,8 +15,8 @@ pub const WIDTH: usize = 200;
 // between them to copy.
 #[derive(Clone, Copy)]
 pub struct Page {
-    // how many bytes were written, as long as the room is not too short
-    pub place: Option<usize>,
+    // how many bytes were written
+    pub place: usize,
     pub line: usize,
     pub owed: usize,
     pub word: usize,
@@ -24,6 +24,9 @@ pub struct Page {
     pub left: usize,
     // whether the lines are written, or measured alone
     pub writes: bool,
+    // whether the room was too short for more: with an Option in the place of this and `place` the compiler no longer
+    // keeps the page in registers, and the layout of a text took two fifths more instructions
+    pub short: bool,
     // whether something could not be laid: a bit, and no Result around the page, since the walk goes on behind it to
     // find the faults that come first, and each step would have to take the Result apart and put it together again
     pub unfit: bool,
@@ -38,13 +41,14 @@ pub fn first_page(writes: bool) -> Page
     ensures { result ≡ first_page writes }
 {
     Page {
-        place: Some(0),
+        place: 0,
         line: 0,
         owed: 0,
         word: 0,
         margin: 0,
         left: 0,
         writes: writes,
+        short: false,
         unfit: false,
         fill: true,
         centre: false,

@@ -3,20 +3,21 @@
 ghost use Rattle.std.specs.Prelude.{◌≡◌, ◌++◌, cond, ◌≤◌, length, replicate};
 ghost use Rattle.alphabet.specs.Filling.{put_at};
 ghost use Rattle.formatting.specs.Sheet.{blanks};
-ghost use Rattle.formatting.specs.Pages.{Sound, spent, out_with, new_line, shown_of, Wrote};
+ghost use Rattle.formatting.specs.Pages.{Sound, spent_of, out_with, new_line, shown_of, Wrote};
 
 use crate::page::Page;
 
-// The place behind n bytes more, where they go into the room.
-#[tactic(auto, unfolding(crate::specs::Pages::spent))]
-fn spend(place: usize, n: usize, room: usize) -> Option<usize>
-    requires { place ≤ room }
-    ensures { result ≡ spent n room place }
+// The page with n bytes more written, where they go into the room.
+fn spend(mut page: Page, n: usize, room: usize) -> Page
+    requires { page.place ≤ room }
+    ensures { result ≡ spent_of n room page }
 {
-    if room - place < n {
-        return None;
+    if room - page.place < n {
+        page.short = true;
+        return page;
     }
-    Some(place + n)
+    page.place = page.place + n;
+    page
 }
 
 // Writes a byte n times into the buffer from `at` on, where there is room for it.
@@ -29,8 +30,11 @@ pub fn fill(buffer: &mut [u8], at: usize, n: usize, b: u8)
     if buffer.len() - at < n {
         return;
     }
-    let end = at + n;
-    buffer[at..end].fill(b);
+    let mut i = 0;
+    while i < n {
+        buffer[at + i] = b;
+        i += 1;
+    }
 }
 
 // Writes blanks, bytes and LFs, one behind another, into the buffer from `at` on: all of them, where lines are written
@@ -51,27 +55,23 @@ fn put_line(writes: bool, buffer: &mut [u8], at: usize, indent: usize, line: &[u
     fill(buffer, behind, n, 10);
 }
 
-// Writes the line as it is shown, and n LF; nothing more where the room was too short before.
-pub fn show_line(mut page: Page, n: usize, line: &[u8], buffer: &mut [u8]) -> Page
+// Writes the line as it is shown, and n LF.
+pub fn show_line(page: Page, n: usize, line: &[u8], buffer: &mut [u8]) -> Page
     requires { (Sound page line.now buffer.old) × (n ≤ 200) }
-    ensures value { result ≡ out_with result.place page }
+    ensures value { result ≡ out_with result.place result.short page }
     ensures wrote { Wrote (shown_of page line.now ++ replicate n 10) page buffer.old result
         buffer.new }
 {
-    let Some(place) = page.place else {
-        return page;
-    };
     let indent = page.indent();
     let length = page.line;
-    put_line(page.writes, buffer, place, indent, &line[..length], n);
-    page.place = spend(place, indent + length + n, buffer.len());
-    page
+    put_line(page.writes, buffer, page.place, indent, &line[..length], n);
+    spend(page, indent + length + n, buffer.len())
 }
 
 // Writes the line and n LF, and begins another line.
 pub fn end_lines(page: Page, n: usize, line: &[u8], buffer: &mut [u8]) -> Page
     requires { (Sound page line.now buffer.old) × (n ≤ 200) }
-    ensures value { result ≡ new_line (out_with result.place page) }
+    ensures value { result ≡ new_line (out_with result.place result.short page) }
     ensures wrote { Wrote (shown_of page line.now ++ replicate n 10) page buffer.old result
         buffer.new }
 {
