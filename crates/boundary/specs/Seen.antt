@@ -19,7 +19,12 @@ seen r = record { number = number_given r; place = place_given r; length = lengt
 -- what is accepted has number 0, place 0 and no names
 abbrev pub structure_seen : Judgement → CStructure
 structure_seen (Ok _) = record { number = 0; could_end = false; place = 0; names = 0 }
-structure_seen (Err j) = record { number = number_of j.kind; could_end = j.could_end; place = j.place; names = j.names.count }
+structure_seen (Err j) = record {
+  number = number_of j.kind;
+  could_end = j.could_end;
+  place = j.place;
+  names = j.names.count;
+}
 
 abbrev pub verdict_seen : Judgement → CVerdict
 verdict_seen (Ok _) = record { number = 0; could_end = false; place = 0; field = 0; repetition = 0; names = 0 }

@@ -1,5 +1,5 @@
-// What every answer has in common: the number of the refusal, and its place. The C interface has a struct of numbers for
-// what is a Result in the library.
+// What every answer has in common: the number of the refusal, and its place. The C interface has a struct of numbers
+// for what is a Result in the library.
 ghost use Rattle.std.specs.Prelude.{◌≡◌};
 ghost use Rattle.alphabet.specs.Answers.{given};
 ghost use Rattle.reading.specs.Reading.{reading};

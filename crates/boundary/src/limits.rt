@@ -1,4 +1,5 @@
-// What a program can ask of the library itself: which version it is, and its limits. The header says the same in macros.
+// What a program can ask of the library itself: which version it is, and its limits. The header says the same in
+// macros.
 ghost use Rattle.std.specs.Prelude.{◌≡◌};
 ghost use Rattle.alphabet.specs.Limits.{message_limit, segment_limit, id_limit};
 ghost use Rattle.boundary.specs.Version.{version};

@@ -7,25 +7,24 @@ use mathlib.Core.Path.{◌≡◌, refl}
 use mathlib.Core.List.{List}
 use Prim.Native.Nat.{ℕ}
 use lib.ListN.{length, get_or, take}
-use Rattle.std.specs.Prelude.{Err}
-use Rattle.alphabet.specs.Answers.{number_of, answered}
-use Rattle.alphabet.specs.declared.answers.Answer.{Answer}
-use Rattle.alphabet.specs.declared.answers.Refusal.TheVariants.{None, NoRoom}
+use Rattle.std.specs.Prelude.{Ok, Err, IsOk}
+use Rattle.alphabet.specs.Answers.{Refusable, number_given, place_given, length_given}
+use Rattle.alphabet.specs.declared.answers.Refusal.TheVariants.{NoRoom}
 use Rattle.reading.specs.Reading.{reading}
 use Rattle.element.specs.Finding.{found}
 use Rattle.element.specs.declared.address.Address.{Address}
-use Rattle.value.specs.Asked.{nm_found, si_found, dt_found, tm_found, ts_found}
+use Rattle.value.specs.Asked.{number_told, nm_found, si_found, dt_found, tm_found, ts_found}
 use Rattle.frames.specs.declared.state.FrameState.{FrameState}
 use Rattle.frames.specs.Wire.{frame_limit}
 use Rattle.frames.specs.Feeding.{fed}
 use Rattle.frames.specs.Gathered.{gathered, last_at}
-use Rattle.escaping.specs.Outcomes.{Outcome, text, fault}
+use Rattle.escaping.specs.Outcomes.{Outcome}
 use Rattle.escaping.specs.Outcomes.{escaping, answer, filled}
 use Rattle.text.specs.Unescape.{unescaping}
 use Rattle.formatting.specs.Formatting.{formatting}
 use Rattle.structure.specs.Listed.{In}
 use Rattle.structure.specs.Judged.{Answers}
-use Rattle.fault.specs.declared.FaultRecord.{FaultRecord}
+use Rattle.fault.specs.Faults.{Judgement, number_judged}
 use Rattle.verdict.specs.Verdicts.{Verdicts}
 use Rattle.acknowledgement.specs.Acknowledgement.{Acknowledges}
 use Rattle.acknowledgement.proofs.AnswerLaws.{refusal_leaves}
@@ -39,43 +38,43 @@ use Rattle.laws.proofs.FrameStates.{refused_leaves}
 -- ---- "answers or refuses by the number in the table"
 
 module _ (m : List ℕ) where
-  pub read_numbers : In (number_of (answered (reading m)).kind) of_reading
+  pub read_numbers : In (number_given (reading m)) of_reading
   read_numbers = Entries.read_numbers m
 
-  pub find_numbers : (a : Address) → In (number_of (found m a).answer.kind) of_finding
+  pub find_numbers : (a : Address) → In (number_given (found m a)) of_finding
   find_numbers = Entries.find_numbers m
 
-  pub nm_numbers : (a : Address) → In (number_of (nm_found m a).answer.kind) of_nm
+  pub nm_numbers : (a : Address) → In (number_told (nm_found m a)) of_nm
   nm_numbers = Entries.nm_numbers m
 
-  pub si_numbers : (a : Address) → In (number_of (si_found m a).answer.kind) of_form
+  pub si_numbers : (a : Address) → In (number_told (si_found m a)) of_form
   si_numbers = Entries.si_numbers m
 
-  pub dt_numbers : (a : Address) → In (number_of (dt_found m a).answer.kind) of_form
+  pub dt_numbers : (a : Address) → In (number_told (dt_found m a)) of_form
   dt_numbers = Entries.dt_numbers m
 
-  pub tm_numbers : (a : Address) → In (number_of (tm_found m a).answer.kind) of_form
+  pub tm_numbers : (a : Address) → In (number_told (tm_found m a)) of_form
   tm_numbers = Entries.tm_numbers m
 
-  pub ts_numbers : (a : Address) → In (number_of (ts_found m a).answer.kind) of_form
+  pub ts_numbers : (a : Address) → In (number_told (ts_found m a)) of_form
   ts_numbers = Entries.ts_numbers m
 
-  pub structure_numbers : {j : FaultRecord} → Answers m j → In (number_of j.kind) of_structure
+  pub structure_numbers : {j : Judgement} → Answers m j → In (number_judged j) of_structure
   structure_numbers = Entries.structure_numbers m
 
-  pub verdict_numbers : {r : FaultRecord} → Verdicts m r → In (number_of r.kind) of_verdict
+  pub verdict_numbers : {r : Judgement} → Verdicts m r → In (number_judged r) of_verdict
   verdict_numbers = Entries.verdict_numbers m
 
-  pub acknowledge_numbers : (time id lent : List ℕ) {r : Answer} {x : List ℕ} → Acknowledges m time id lent r x → In (number_of r.kind) of_acknowledging
+  pub acknowledge_numbers : (time id lent : List ℕ) {r : Refusable ℕ} {x : List ℕ} → Acknowledges m time id lent r x → In (number_given r) of_acknowledging
   acknowledge_numbers time id lent a = Entries.acknowledge_numbers m time id lent a
 
-pub escape_numbers : (ds t : List ℕ) (room : ℕ) → In (number_of (answer (escaping ds t room)).kind) of_escaping
+pub escape_numbers : (ds t : List ℕ) (room : ℕ) → In (number_given (answer (escaping ds t room))) of_escaping
 escape_numbers = Entries.escape_numbers
 
-pub unescape_numbers : (ds s : List ℕ) (room : ℕ) → In (number_of (answer (unescaping ds s room)).kind) of_unescaping
+pub unescape_numbers : (ds s : List ℕ) (room : ℕ) → In (number_given (answer (unescaping ds s room))) of_unescaping
 unescape_numbers = Entries.unescape_numbers
 
-pub format_numbers : (ds s : List ℕ) (room : ℕ) → In (number_of (answer (formatting ds s room)).kind) of_formatting
+pub format_numbers : (ds s : List ℕ) (room : ℕ) → In (number_given (answer (formatting ds s room))) of_formatting
 format_numbers = Entries.format_numbers
 
 pub feed_numbers : (s : FrameState) (piece lent : List ℕ) → In (number_in (fed s piece lent).said) of_framing
@@ -83,23 +82,24 @@ feed_numbers = Frames.feed_numbers
 
 -- ---- "After a refusal every buffer lent holds the bytes it held before."
 
-pub escape_leaves : (ds t lent : List ℕ) → ((answer (escaping ds t (length lent))).kind ≡ None → ⊥) → filled (escaping ds t (length lent)) lent ≡ lent
+pub escape_leaves : (ds t lent : List ℕ) → (IsOk (answer (escaping ds t (length lent))) → ⊥) → filled (escaping ds t (length lent)) lent ≡ lent
 escape_leaves = Entries.escape_leaves
 
-pub unescape_leaves : (ds s lent : List ℕ) → ((answer (unescaping ds s (length lent))).kind ≡ None → ⊥) → filled (unescaping ds s (length lent)) lent ≡ lent
+pub unescape_leaves : (ds s lent : List ℕ) → (IsOk (answer (unescaping ds s (length lent))) → ⊥) → filled (unescaping ds s (length lent)) lent ≡ lent
 unescape_leaves = Entries.unescape_leaves
 
-pub format_leaves : (ds s lent : List ℕ) → ((answer (formatting ds s (length lent))).kind ≡ None → ⊥) → filled (formatting ds s (length lent)) lent ≡ lent
+pub format_leaves : (ds s lent : List ℕ) → (IsOk (answer (formatting ds s (length lent))) → ⊥) → filled (formatting ds s (length lent)) lent ≡ lent
 format_leaves = Entries.format_leaves
 
 -- "A refusal gives number and place, length 0"; the place is 0 here
-pub acknowledge_leaves : (m time id lent : List ℕ) {r : Answer} {x : List ℕ} → Acknowledges m time id lent r x → (r.kind ≡ None → ⊥) → (x ≡ lent) × (r.place ≡ 0) × (r.length ≡ 0)
-acknowledge_leaves m time id lent a = refusal_leaves m time id lent a
+pub acknowledge_leaves : (m time id lent : List ℕ) {r : Refusable ℕ} {x : List ℕ} → Acknowledges m time id lent r x → (IsOk r → ⊥) → (x ≡ lent) × (place_given r ≡ 0) × (length_given r ≡ 0)
+acknowledge_leaves m time id lent {r = Ok n} a some = absurd (some refl)
+acknowledge_leaves m time id lent {r = Err f} a some = let l = refusal_leaves m time id lent a f refl in (l.0, l.1, refl)
 
-pub refused_length : (o : Outcome ℕ) → ((answer o).kind ≡ None → ⊥) → (answer o).length ≡ 0
+pub refused_length : (o : Outcome ℕ) → (IsOk (answer o) → ⊥) → length_given (answer o) ≡ 0
 unfolding answer
-refused_length (text t) some = absurd (some refl)
-refused_length (fault kind place) some = refl
+refused_length (Ok t) some = absurd (some refl)
+refused_length (Err f) some = refl
 
 -- ---- of the frame reader: "each place of the lent buffer holds the byte last gathered there, or what it held at first"
 

@@ -5,8 +5,7 @@ use mathlib.Core.Logic.{◌⊎◌, ◌↔◌}
 use Prim.Native.Nat.{ℕ, ◌+◌, ◌≤◌, ◌<◌}
 use lib.ListN.{length, get_or}
 use Rattle.std.specs.Prelude.{None, Some, Option}
-use Rattle.alphabet.specs.Parts.{from_to}
-use Rattle.alphabet.specs.Answers.{number_of, passes, checked, number_given}
+use Rattle.alphabet.specs.Answers.{passes, checked, number_given}
 use Rattle.alphabet.specs.declared.parts.Part.{Part}
 use Rattle.reading.specs.Reading.{reading}
 use Rattle.reading.specs.Segments.{delimiters_of, segments}

@@ -4,8 +4,9 @@
 use mathlib.Core.Path.{◌≡◌, sym, ◌∙◌}
 use mathlib.Core.List.{List}
 use Prim.Native.Nat.{ℕ}
-use Rattle.alphabet.specs.declared.answers.Answer.{Answer}
+use Rattle.alphabet.specs.Answers.{Refusable}
 use Rattle.structure.specs.Judged.{Answers}
+use Rattle.fault.specs.Faults.{Judgement}
 use Rattle.fault.specs.declared.FaultRecord.{FaultRecord}
 use Rattle.structure.proofs.OnlyOne.{only_one}
 use Rattle.verdict.specs.Verdicts.{Verdicts}
@@ -19,14 +20,14 @@ use Rattle.laws.proofs.ErrorTold.{one_code, one_place}
 pub by_definition : {A : Type 0} {r s answer : A} → r ≡ answer → s ≡ answer → r ≡ s
 by_definition e f = e ∙ sym f
 
-pub structure_once : (m : List ℕ) {r s : FaultRecord} → Answers m r → Answers m s → r ≡ s
+pub structure_once : (m : List ℕ) {r s : Judgement} → Answers m r → Answers m s → r ≡ s
 structure_once m a b = only_one m a b
 
-pub verdict_once : (m : List ℕ) {r s : FaultRecord} → Verdicts m r → Verdicts m s → r ≡ s
+pub verdict_once : (m : List ℕ) {r s : Judgement} → Verdicts m r → Verdicts m s → r ≡ s
 verdict_once m a b = one_verdict m a b
 
 -- the answer, and every byte of the buffer
-pub acknowledge_once : (m time id lent : List ℕ) {r s : Answer} {x y : List ℕ} → Acknowledges m time id lent r x → Acknowledges m time id lent s y → (r ≡ s) × (x ≡ y)
+pub acknowledge_once : (m time id lent : List ℕ) {r s : Refusable ℕ} {x y : List ℕ} → Acknowledges m time id lent r x → Acknowledges m time id lent s y → (r ≡ s) × (x ≡ y)
 acknowledge_once m time id lent a b = one_answer m time id lent a b
 
 -- what an ERR segment tells: one place and one code

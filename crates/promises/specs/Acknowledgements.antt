@@ -1,12 +1,13 @@
 -- What demand 2 says of an acknowledgement: looked up in the bytes w that were written, and in the message m that was
 -- sent. And when demand 1 has one refused.
-use Rattle.std.specs.Prelude.{ℕ, ◌≤◌, ◌<◌, ◌≡◌, ◌↔◌, List, [], ◌∷◌, ◌++◌, length, get_or}
+use Rattle.std.specs.Prelude.{ℕ, ◌≤◌, ◌<◌, ◌≡◌, ◌↔◌, List, [], ◌∷◌, ◌++◌, length, get_or, Ok, Err, IsErrAnd}
 use Rattle.alphabet.specs.Bytes.{carriage_return, ascii}
 use Rattle.alphabet.specs.Limits.{id_limit}
 use Rattle.alphabet.specs.Parts.{split}
-use Rattle.alphabet.specs.declared.answers.Check.TheVariants.{Passes}
+use Rattle.alphabet.specs.Answers.{Refusable, passes}
+use Rattle.alphabet.specs.declared.answers.Fault.{Fault}
 use Rattle.alphabet.specs.declared.answers.Refusal.{Refusal}
-use Rattle.alphabet.specs.declared.answers.Refusal.TheVariants.{None, NotAcknowledgeable, CallersTime, CallersId}
+use Rattle.alphabet.specs.declared.answers.Refusal.TheVariants.{NotAcknowledgeable, CallersTime, CallersId}
 use Rattle.calendar.specs.declared.figures.Time.{Time}
 use Rattle.reading.specs.Message.{Opened}
 use Rattle.reading.specs.Reading.{reading}
@@ -21,7 +22,6 @@ use Rattle.text.specs.Unescape.{unescaping}
 use Rattle.structure.specs.SegmentNames.{segment_names}
 use Rattle.element.specs.Addresses.{type_address}
 use Rattle.structure.specs.Structures.{ack, chosen, structure_for, built_in, acknowledgement as ackListed}
-use Rattle.fault.specs.Faults.{plain}
 use Rattle.structure.specs.Judged.{Judged, Answers}
 use Rattle.fault.specs.declared.FaultRecord.{FaultRecord}
 use Rattle.verdict.specs.Verdicts.{Accepts, Verdicts}
@@ -57,16 +57,16 @@ pub record TellsError (m w : List ℕ) (r : FaultRecord) : Type 0 where
 -- the first fault of the message, which its verdict tells, and what ERR says of it
 pub record ErrorOf (m w : List ℕ) : Type 0 where
   pub fault : FaultRecord
-  pub first : Verdicts m fault
+  pub first : Verdicts m (Err fault)
   pub tells : TellsError m w fault
 
 pub record Carries (m time id w : List ℕ) : Type 0 where
   -- "reads back through our reader"
-  pub reads_back : reading w ≡ Passes
+  pub reads_back : reading w ≡ passes
   -- "fits the ACK structure": its type is ACK's, that structure yields its names, and the structure judge accepts it
   pub is_ack : structure_for built_in w ≡ chosen ackListed
-  pub yields_ack : Judged ack (segment_names w) (plain None 0)
-  pub fits_ack : Answers w (plain None 0)
+  pub yields_ack : Judged ack (segment_names w) (Ok tt)
+  pub fits_ack : Answers w (Ok tt)
   -- "MSH", "Then MSA", and by W4 "an ERR segment after MSA when we answer AE or AR": with AA these two segments, else
   -- these three; MSH of twelve parts, MSA of three
   pub two_segments : raw_bytes w (in_answer 1) ≡ ascii "AA" → segment_names w ≡ name "MSH" ∷ name "MSA" ∷ []
@@ -110,6 +110,10 @@ pub record Carries (m time id w : List ℕ) : Type 0 where
   pub tells_error : (raw_bytes w (in_answer 1) ≡ ascii "AA" → ⊥) → ErrorOf m w
 
 -- ---- refusals
+
+-- an answer that is a refusal of this kind
+abbrev pub Refuses : Refusable ℕ → Refusal → Type 0
+Refuses r kind = IsErrAnd r (λ (fault : Fault). fault.kind ≡ kind)
 
 -- 17: "caller's ID not 1 to 199 bytes"
 abbrev pub GoodId : List ℕ → Type 0

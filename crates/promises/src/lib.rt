@@ -3,11 +3,7 @@
 // bytes by their type and not by a premise: these stand here as the contracts of functions that do what a caller does.
 #![tactic(auto)]
 
-ghost use Rattle.std.specs.Prelude.{◌≡◌, ◌≤◌, length, take};
-ghost use Rattle.alphabet.specs.Delimiters.{first_wrong_delimiter};
-ghost use Rattle.alphabet.specs.Filling.{over};
-ghost use Rattle.alphabet.specs.declared.answers.Refusal.TheVariants.{None};
-ghost use Rattle.escaping.specs.Escape.{escape as Escape·escape};
+ghost use Rattle.std.specs.Prelude.{◌≡◌, ℕ, length, take, Ok};
 ghost use Rattle.escaping.specs.Outcomes.{escaping, answer, filled};
 ghost use Rattle.text.specs.Unescape.{unescaping};
 ghost use Rattle.acknowledgement.specs.Acknowledgement.{Acknowledges};
@@ -15,7 +11,7 @@ ghost use Rattle.boundary.specs.Seen.{AcknowledgeSeen};
 ghost use Rattle.promises.specs.Texts.{left, ComesBack};
 ghost use Rattle.promises.specs.Acknowledgements.{Carries};
 
-use alphabet::{Answer, Delimiters};
+use alphabet::{Delimiters, Fault};
 use boundary::CAnswer;
 
 // "Text of any bytes, escaped and then unescaped under the same permitted delimiters, comes back the same where both
@@ -25,7 +21,7 @@ pub fn write_and_read(
     text: &[u8],
     written: &mut [u8],
     back: &mut [u8],
-) -> Answer
+) -> Result<usize, Fault>
     ensures value { result ≡ answer
         (unescaping delimiters.bytes (left delimiters.bytes text.now written.old)
         (length back.old)) }
@@ -38,19 +34,23 @@ pub fn write_and_read(
     ensures comes_back { ComesBack delimiters.bytes text.now (length written.old)
         back.old result back.new }
 {
-    let there = escaping::escape(delimiters, text, written);
-    let length = there.length;
+    let length = escaping::escape(delimiters, text, written).unwrap_or(0);
     text::unescape(delimiters, &written[..length], back)
 }
 
 // "Every acknowledgement written reads back through our reader, fits the ACK structure and carries the sender's own
 // control ID."
-pub fn acknowledge<'a>(message: &'a [u8], time: &'a [u8], id: &[u8], buffer: &mut [u8]) -> Answer
+pub fn acknowledge<'a>(
+    message: &'a [u8],
+    time: &'a [u8],
+    id: &[u8],
+    buffer: &mut [u8],
+) -> Result<usize, Fault>
     ensures acknowledges { Acknowledges message.now time.now id.now buffer.old result
         buffer.new }
-    ensures carries { result.kind ≡ None
+    ensures carries { (n : ℕ) → result ≡ Ok n
         → Carries message.now time.now id.now
-        (take result.length buffer.new) }
+        (take n buffer.new) }
 {
     acknowledgement::acknowledge(message, time, id, buffer)
 }
