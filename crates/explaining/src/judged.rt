@@ -1,16 +1,12 @@
 // What a field of a message is judged by: its row of the table of fields, or what another field of its segment says.
 use element::Address;
-use field_table::{COUNT, Kind};
+use field_table::{Kind, ROWS};
 
 // What the row of a field says, and any where the table has no such row.
 fn kind_in(name: u32, field: usize) -> Kind {
-    for index in 0..COUNT {
-        let row = field_table::row_at(index);
-        if (row.segment == name) & (row.field == field) {
-            return row.kind;
-        }
-    }
-    Kind::Any
+    ROWS.iter()
+        .find(|row| (row.segment == name) & (row.field == field))
+        .map_or(Kind::Any, |row| row.kind)
 }
 
 // The bytes of one repetition of a field.

@@ -5,10 +5,10 @@
 
 mod status;
 
-ghost use Rattle.std.specs.Prelude.{◌≤◌, ◌<◌};
-
-use arguments::{CHECK, HELP, NOTHING, VERSION, question_at};
-use commands::answer_file;
+use arguments::{Asked, Command, Question, question_at};
+use command_line::{word_at, word_count};
+use commands::{Status, answer_file};
+use status::Tally;
 use std::rt::{Env, Files};
 
 // One byte more than the command takes of a message (`wording::LONGEST_MESSAGE`): a file that fills it is longer.
@@ -19,77 +19,63 @@ const ROOM: usize = 65_537;
 // many blanks or lines: eight times the longest message is more than any text needs that is written to be read.
 const LARGE_ROOM: usize = 524_288;
 
-// Does what a command asks of each file that the arguments from `file` up to and without `until` name: that is one
-// where words stand behind it. Returns the worst status.
+// Does what a command asks of each file that the arguments name: that is one where words stand behind it. Returns the
+// worst status.
 fn answer_files(
     rt: &(impl Env + Files + Input),
-    command: u8,
-    json: bool,
-    file: usize,
-    until: usize,
+    asked: Asked,
     name: &mut [u8],
     message: &mut [u8],
     room: &mut [u8],
-) -> u8
-    requires { file ≤ 8 }
-{
+) -> Status {
+    let until = if asked.command.takes_files() {
+        word_count(rt)
+    } else {
+        asked.file + 1
+    };
     let mut out = terminal::standard_output();
-    let mut tally = status::none();
-    let mut index = file;
-    while index < until {
-        let answered = answer_file(rt, command, json, out, index, name, message, file + 1, room);
-        out = answered.out;
-        tally = status::with(tally, answered.status);
-        index += 1;
+    let mut tally = Tally::none();
+    for index in asked.file..until {
+        tally.count(answer_file(rt, asked, &mut out, index, name, message, room));
     }
-    let is_checked = (command == CHECK) & !json;
-    let ended = status::print_summary(out, is_checked, tally);
-    status::at_end(ended, status::worst(tally))
+    if (asked.command == Command::Check) & !asked.json {
+        tally.print_summary(&mut out);
+    }
+    status::at_end(&out, tally.worst)
 }
 
-// Tells of the command itself: its version or its usage where that was asked for, and the usage on standard error where
-// nothing was. What is wrong with other words was said.
-fn tell_itself(command: u8) -> u8 {
-    if command == VERSION {
-        let told = wording::print_version(terminal::standard_output());
-        return status::at_end(told, commands::DONE);
-    }
-    if command == HELP {
-        let told = wording::print_usage(terminal::standard_output());
-        return status::at_end(told, commands::DONE);
-    }
-    if command == NOTHING {
-        wording::print_usage(terminal::standard_error());
-    }
-    commands::TROUBLE
+// Tells of the command itself where nothing was asked: its usage, on standard error.
+fn tell_unasked() -> Status {
+    wording::print_usage(&mut terminal::standard_error());
+    Status::Trouble
 }
 
-// Does what the arguments from an index on ask.
+// Does what the arguments from an index on ask: of the command itself, its usage or its version, or of files. What is
+// wrong with words that ask neither was said.
 fn run(
     rt: &(impl Env + Files + Input),
     index: usize,
     name: &mut [u8],
     message: &mut [u8],
     room: &mut [u8],
-) -> u8 {
-    let question = question_at(rt, index, name);
-    let command = question.command;
-    let file = question.file;
-    if (command == NOTHING) | (HELP <= command) {
-        return tell_itself(command);
-    }
-    let until = if arguments::takes_files(command) {
-        command_line::word_count(rt)
-    } else {
-        file + 1
+) -> Status {
+    let asked = match question_at(rt, index, name) {
+        Question::Nothing => return tell_unasked(),
+        Question::Wrong => return Status::Trouble,
+        Question::Asked(asked) => asked,
     };
-    answer_files(rt, command, question.json, file, until, name, message, room)
+    let mut out = terminal::standard_output();
+    match asked.command {
+        Command::Help => wording::print_usage(&mut out),
+        Command::Version => wording::print_version(&mut out),
+        _ => return answer_files(rt, asked, name, message, room),
+    }
+    status::at_end(&out, Status::Done)
 }
 
 // Whether the script asks to be told the status: that is the first argument, and all others stand behind it.
 fn is_script(rt: &impl Env, word: &mut [u8]) -> bool {
-    let length = command_line::word(rt, 1, word);
-    alphabet::same(&word[..length], b"--status-on-3")
+    matches!(word_at(rt, 1, word), b"--status-on-3")
 }
 
 // Bytes for a message. By a call of its own it is no list of so many bytes in the caller's proof, nor is the next.
