@@ -58,6 +58,7 @@ pub fn judge_segments(message: &[u8], rows: Rows<'_>) -> Result<(), FaultRecord>
         start = end + 1;
         end = reading::segment_end(message, start);
     }
-    structure::tell(structure::finish(course, number), rows.names)?;
+    let walked = structure::finish(course, number);
+    structure::tell(walked, rows.names)?;
     Ok(found?)
 }

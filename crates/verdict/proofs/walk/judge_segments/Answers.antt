@@ -150,16 +150,16 @@ over : (c : After-tell) → length (message (goal.at.After-tell c).At-loop-end) 
 over c = let e = c.loop-end.invariant.2 in omega (arith, c.loop-end-test.false)
 
 -- what the structure's walk comes to
-came_to : (c : After-tell) → c.finish.result ≡ whole (message (goal.at.After-tell c).At-loop-end) (names (goal.at.After-tell c).At-loop-end) (follow (goal.at.After-tell c).At-loop-end) (last (goal.at.After-tell c).At-loop-end)
+came_to : (c : After-tell) → c.finish-walked.result ≡ whole (message (goal.at.After-tell c).At-loop-end) (names (goal.at.After-tell c).At-loop-end) (follow (goal.at.After-tell c).At-loop-end) (last (goal.at.After-tell c).At-loop-end)
 came_to c =
-    c.finish.ensures (names (goal.at.After-tell c).At-loop-end) (follow (goal.at.After-tell c).At-loop-end) (last (goal.at.After-tell c).At-loop-end)
+    c.finish-walked.ensures (names (goal.at.After-tell c).At-loop-end) (follow (goal.at.After-tell c).At-loop-end) (last (goal.at.After-tell c).At-loop-end)
     ∙ sym (c.loop-end.invariant.4 ∙ ap (resumed (names (goal.at.After-tell c).At-loop-end) (follow (goal.at.After-tell c).At-loop-end) (last (goal.at.After-tell c).At-loop-end) c.loop-end.course c.loop-end.number) (names_over (message (goal.at.After-tell c).At-loop-end) c.loop-end.start (over c)))
 
 passed : (c : After-tell) → segments_check (message (goal.at.After-tell c).At-loop-end) ≡ passes
 passed c = c.loop-end.invariant.3 ∙ ap in_order (checks_over (message (goal.at.After-tell c).At-loop-end) c.loop-end.start (separator (goal.at.After-tell c).At-loop-end) c.loop-end.number (over c))
 
 -- where the structure accepts, what was found in the fields is their first fault
-found : (c : After-tell) → c.finish.result ≡ Ok tt → c.loop-end.found ≡ judging rows (message (goal.at.After-tell c).At-loop-end)
+found : (c : After-tell) → c.finish-walked.result ≡ Ok tt → c.loop-end.found ≡ judging rows (message (goal.at.After-tell c).At-loop-end)
 found c a = sym (c.loop-end.invariant.5 (sym (came_to c) ∙ a) ∙ ap (or_fault c.loop-end.found) (segments_none rows (message (goal.at.After-tell c).At-loop-end) c.loop-end.number c.loop-end.start (over c)) ∙ or_sound c.loop-end.found)
 
 -- what the fields come to, where the structure accepts
@@ -167,14 +167,14 @@ by_fields : (c : In_ok-tell) (s : Shape) → Tables s (names (goal.at.In_ok-tell
     → Decides s (message (goal.at.In_ok-tell c).At-loop-end) (fault_answer c.loop-end.found)
 by_fields c s t =
     decides_fields s (message (goal.at.In_ok-tell c).At-loop-end) (names (goal.at.In_ok-tell c).At-loop-end) (follow (goal.at.In_ok-tell c).At-loop-end) (last (goal.at.In_ok-tell c).At-loop-end) t
-    (passed (goal.at.In_ok-tell c).After-tell) c.finish.result (came_to (goal.at.In_ok-tell c).After-tell) c.tell.ensures c.in_ok-tell.was (found (goal.at.In_ok-tell c).After-tell)
+    (passed (goal.at.In_ok-tell c).After-tell) c.finish-walked.result (came_to (goal.at.In_ok-tell c).After-tell) c.tell.ensures c.in_ok-tell.was (found (goal.at.In_ok-tell c).After-tell)
 
 pub returns-in_err-tell : goal.returns-in_err-tell
 returns-in_err-tell c = λ s t.
     let l = (goal.at.returns-in_err-tell c).At-loop-end in
     let k = (goal.at.returns-in_err-tell c).After-tell in
     let p = err_from_is_err_and c.from_residual-in_err-tell.result c.from_residual-in_err-tell.ensures.1 in
-    rw (p.1, p.2) (decides_structure s (message l) (names l) (follow l) (last l) t (passed k) c.finish.result (came_to k) c.tell.ensures c.in_err-tell.was)
+    rw (p.1, p.2) (decides_structure s (message l) (names l) (follow l) (last l) t (passed k) c.finish-walked.result (came_to k) c.tell.ensures c.in_err-tell.was)
 
 pub returns-in_err-found : goal.returns-in_err-found
 returns-in_err-found c = λ s t.
