@@ -1,6 +1,6 @@
 -- Rests on the laws of feeding, and on a run being fed as single bytes are: what is left of the piece decides, at each turn.
 use Prim.Native.Nat.{ℕ, ◌<◌, ◌+◌, ◌-◌}
-use mathlib.Core.Path.{◌≡◌, refl, sym, ap, subst, ◌∙◌}
+use mathlib.Core.Path.{◌≡◌, sym, ap, subst, ◌∙◌}
 use mathlib.Core.Bool.{true, false}
 use mathlib.Core.List.{List, ◌∷◌}
 use lib.ListN.{length, drop, length-drop}
@@ -11,7 +11,6 @@ use Rattle.std.proofs.lemmas.List.{nil_from_length}
 use Rattle.alphabet.proofs.ListLaws.{rest_of}
 use Rattle.frames.specs.declared.steps.Step.{Step}
 use Rattle.frames.specs.declared.feeding.Fed.{Fed}
-use Rattle.frames.specs.Wire.{frame_limit}
 use Rattle.frames.specs.Feeding.{Feeding, feeding, told, known, taken, foreign, fed, stored}
 use Rattle.frames.proofs.FeedLaws.{frame_limit_le, gathers_below, length_stored, stored_set, stored_not, feed_stop, feed_on, fed_known, fed_foreign}
 use Rattle.frames.proofs.KnownLaws.{known_after}
@@ -41,13 +40,6 @@ whole c =
     let a = c.args in
     fed_known a.self a.piece.now a.buffer.now (sym c.is_known.ensures ∙ c.if-not-is_known.false)
     ∙ ap (λ (n : ℕ). taken (feeding n a.self a.buffer.now 0 a.piece.now)) (sym c.limit_of-limit.ensures)
-
-pub loop-b-init : goal.loop-b-init
-loop-b-init c = (omega arith, refl, sym c.is_known.ensures ∙ c.if-not-is_known.false, let e : 0 ≡ length c.args.piece.now - length c.args.piece.now = omega arith in ap (λ (n : ℕ). feeding c.limit_of-limit.result c.args.self c.args.buffer.now n c.args.piece.now) e)
-
-pub pass-run-requires : goal.pass-run-requires
-pass-run-requires c =
-    (c.limit_of-limit.ensures ∙ ap frame_limit (sym c.loop-b.invariant.1), subst (λ (n : ℕ). known n c.loop-b.self ≡ true) (sym c.loop-b.invariant.1) c.loop-b.invariant.2)
 
 -- behind a run: the buffer, what is left of the piece, and the bytes before it
 abbrev X : After-pass-run → List ℕ
