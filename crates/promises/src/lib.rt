@@ -34,6 +34,7 @@ pub fn write_and_read(
     ensures comes_back { ComesBack delimiters.bytes text.now (length written.old)
         back.old result back.new }
 {
+    // A refusal wrote nothing.
     let length = escaping::escape(delimiters, text, written).unwrap_or(0);
     text::unescape(delimiters, &written[..length], back)
 }
