@@ -87,16 +87,22 @@ fn room_for_rows() -> [u64; ROWS_ROOM] {
     [0; ROWS_ROOM]
 }
 
-// `show`: every segment of a message, in words or in JSON. `room` is lent for the text of each part.
+// Shows a message that was read, in words or in JSON. `room` is lent for the text of each part, and `rows` for its
+// leaves: so they stand on the stack once, where there is no room for them twice.
+fn show_leaves(json: bool, out: &mut Output, file: File, room: &mut [u8], rows: &mut [u64]) {
+    if json {
+        element_objects::print_show(out, file.name, file.bytes, room, rows);
+    } else {
+        showing::show(out, file.bytes, room, rows);
+    }
+}
+
+// `show`: every segment of a message.
 fn show(json: bool, out: &mut Output, file: File, room: &mut [u8]) -> Status {
     if reading::read(file.bytes).is_err() {
         return refuse_message(file);
     }
-    if json {
-        element_objects::print_show(out, file.name, file.bytes, room, &mut room_for_rows());
-    } else {
-        showing::show(out, file.bytes, room, &mut room_for_rows());
-    }
+    show_leaves(json, out, file, room, &mut room_for_rows());
     Status::Done
 }
 
