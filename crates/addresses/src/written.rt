@@ -11,6 +11,7 @@ pub enum Said {
 }
 
 // What was written: the segment, and the numbers behind it.
+// No Address yet: which segment is meant is known only with a message.
 #[derive(Clone, Copy)]
 pub struct Written {
     pub segment: Said,

@@ -6,6 +6,7 @@ use crate::Answer;
 use fault::Names;
 
 // Puts a name of three letters, which a number holds at eight bits a letter.
+// As wording's letters of a name; that crate belongs to the command, and is none of this program's.
 fn put_name(answer: &mut Answer, name: u32, end: u8)
     requires { Fits answer.old 4 }
     ensures { length answer.new ≡ length answer.old + 4 }

@@ -22,6 +22,7 @@ pub struct Asked {
 }
 
 // What a command line asks. No word at all asks nothing; and of words that are wrong, what is wrong with them was said.
+// Three cases by name: an Option in a Result would not tell what each stands for.
 #[derive(Clone, Copy)]
 pub enum Question {
     Nothing,

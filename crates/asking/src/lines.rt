@@ -7,6 +7,7 @@ use crate::bytes;
 use std::marker::Model;
 
 // What is gathered of a line, in room for so many bytes: how many of them it has, or none where it is too long.
+// An array with how many it holds, for no heap is used.
 #[derive(Drop)]
 pub struct Line<const ROOM: usize> {
     bytes: [u8; ROOM],

@@ -5,6 +5,7 @@ ghost use Rattle.element.specs.Addresses.{address_check, type_address};
 use alphabet::{Fault, Refusal};
 
 // Segments count from 0, all else from 1; 0 for the last three means the whole.
+// 0 and no Option: document 01, the command and C number the parts so, and `address_check` speaks of it.
 #[derive(Clone, Copy, PartialEq, Eq)]
 pub struct Address {
     pub segment: usize,

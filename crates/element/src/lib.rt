@@ -23,6 +23,7 @@ pub use states::{State, is_present, state_of};
 
 // An element: its state, and the bytes of the message that it is, from `start` up to and without `end`.
 // An absent element stands nowhere: 0 and 0.
+// It holds no Option: `found` promises 0 and 0 of an absent element, as C gets it.
 #[derive(Clone, Copy, PartialEq, Eq)]
 pub struct Element {
     pub state: State,

@@ -5,6 +5,7 @@ ghost use Rattle.error_segment.specs.Numerals.{numeral};
 ghost use Rattle.error_segment.specs.Pieces.{said};
 
 // A numeral: the digits from `start` on.
+// An array and where it begins, for no heap is used; and no Display, since `numeral` promises these very digits.
 #[derive(Clone, Copy)]
 pub struct Numeral {
     pub digits: [u8; 20],

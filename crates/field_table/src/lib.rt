@@ -34,6 +34,7 @@ pub enum Kind {
 
 // The segment's name is its three bytes as one number, the first highest. Of each repetition a row judges a component,
 // counted from 1, or the whole, which is 0.
+// 0 and no Option, as an address has it: specs/Table.antt says `whole` of it.
 #[derive(Clone, Copy)]
 pub struct Row {
     pub segment: u32,

@@ -296,6 +296,7 @@ fn next_repetition(delimiters: Delimiters, segment: &[u8], turn: Turn) -> Result
 }
 
 // Judges a row of a segment: its opening, and then its repetitions in turn. Gives the cursor from which to seek the next.
+// The turn says itself where it ends and which repetition it is, since a fault is told with that number.
 pub fn judge_row(
     delimiters: Delimiters,
     segment: &[u8],

@@ -49,6 +49,7 @@ fn read_behind(file: &mut impl Read, buffer: &mut [u8], held: usize) -> Result<u
 }
 
 // Reads until the file ends or the buffer is full.
+// By how many are held: each read says how far it came, and that number is the answer.
 fn fill(file: &mut impl Read, buffer: &mut [u8]) -> Result<usize, Error>
     ensures { IfOk result (λ count. IsPrefixLen count buffer.new) }
 {

@@ -22,7 +22,7 @@ pub struct Page {
     pub word: usize,
     pub margin: usize,
     pub left: usize,
-    // whether the lines are written, or measured alone
+    // whether the lines are written, or measured alone: a bit and no closure, since one proof holds of both
     pub writes: bool,
     // whether the room was too short for more: with an Option in the place of this and `place` the compiler no longer
     // keeps the page in registers, and the layout of a text took two fifths more instructions

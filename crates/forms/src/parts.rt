@@ -18,6 +18,7 @@ pub struct Parts<'a> {
 }
 
 // The place of the sign before a zone, or the length where there is none.
+// The length and no Option: the bytes are split there, and all stand in front where there is none.
 fn sign_place(bytes: &[u8]) -> usize
     ensures { result ≡ sign_place bytes.now }
 {
@@ -32,6 +33,7 @@ fn sign_place(bytes: &[u8]) -> usize
 }
 
 // The place of the point behind the seconds, or the length where there is none.
+// The length and no Option, for the same reason.
 fn point_place(seconds: usize, body: &[u8]) -> usize
     ensures { result ≡ point_place seconds body.now }
 {

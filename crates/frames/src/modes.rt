@@ -5,6 +5,7 @@ ghost use Rattle.frames.specs.Modes.{mode_of, number_of};
 
 // Where the reader is: outside a frame, inside, inside behind 0x1C, skipping a frame that is too long, skipping behind
 // 0x1C; or nowhere, where a number came back that is no mode.
+// That is a mode, and From no TryFrom: any number may come back, and `feed` promises 14 of such a state.
 #[derive(Clone, Copy, PartialEq, Eq)]
 pub enum Mode {
     Outside,

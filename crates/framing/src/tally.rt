@@ -3,6 +3,7 @@ use frames::FrameState;
 
 // Whether it is told in JSON, and by which name of the file; the reader's state, how many whole frames there were, how
 // many messages of these were refused, how many frames were dropped, and how many bytes were read.
+// `json` is a flag, and no trait or closure: the two ways print other things at other places.
 #[derive(Drop)]
 pub struct Tally<'a> {
     pub json: bool,

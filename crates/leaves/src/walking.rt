@@ -25,6 +25,7 @@ struct Walk {
 
 // The state of a leaf, as its number, and 0 for a name. A leaf has no separators, so it is empty where it has no bytes.
 // Most others are told by their first byte alone.
+// It is a number, since the row has it so for C.
 fn state_number(message: &[u8], start: usize, end: usize) -> u64
     requires { end ≤ length message.now }
     ensures { result ≡ state_at message.now start end }

@@ -10,6 +10,7 @@ use terminal::Output;
 const LONGEST: usize = 112;
 
 // An address that is being written: so many bytes at the front of a text.
+// An array with a length, for no heap is used.
 #[derive(Drop)]
 struct Line {
     text: [u8; LONGEST],

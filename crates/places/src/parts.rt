@@ -125,6 +125,7 @@ pub fn which_of(message: &[u8], segment: Segment) -> usize {
 
 // The number of the segment of a name that is the first, the second or another of it; that of none, the count of the
 // segments, where there are not so many.
+// The count is no segment's number, so that an address with it is refused as any other that is not there.
 pub fn segment_named(message: &[u8], name: &[u8], which: usize) -> usize {
     segments(message)
         .filter(|segment| segment.name() == name)

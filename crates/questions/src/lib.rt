@@ -19,6 +19,7 @@ use judge_questions::Judge;
 use text_questions::Writing;
 
 // What is asked: the families of verbs, each with what tells its verbs apart.
+// An enum names each once, and no trait of a family: it would have this one caller.
 #[derive(Clone, Copy)]
 enum Question {
     Read,

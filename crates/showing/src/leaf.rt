@@ -7,6 +7,7 @@ use places::{Segment, Walk};
 
 // A row: the number of the segment, those of the field, the repetition, the component and the subcomponent, the state,
 // and where the leaf begins and ends.
+// They are numbers, since `leaves::list` writes them into the caller's buffer, and C has the same rows.
 pub type Row = [u64; 8];
 
 // A leaf: its address, and what stands there.

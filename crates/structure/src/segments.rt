@@ -1,5 +1,7 @@
 // The names of the segments that the structures have, as numbers: three letters in base 256.
 
+// MSH, MSA, OBR, OBX and PID stand in field_table too: neither judge asks the other for its table.
+
 pub const AL1: u32 = 0x414c31;
 
 pub const CTI: u32 = 0x435449;

@@ -20,6 +20,7 @@ enum Stream {
 }
 
 // Where is printed to, and whether all so far was written.
+// A flag, and no Result of each print: whoever prints goes on all the same, and asks once at the end.
 #[derive(Drop)]
 pub struct Output {
     stream: Stream,

@@ -6,6 +6,7 @@ ghost use Rattle.terminal.specs.Terminal.{plain, in_braces, Visible, AllVisible}
 ghost use Rattle.terminal.specs.Visible.{plain_visible, all_braces_visible};
 
 // What stands for a byte that does not stand as it is: so many bytes from the front.
+// An array with a length, for no heap is used.
 #[derive(Clone, Copy)]
 pub struct Spelt {
     pub text: [u8; 6],
