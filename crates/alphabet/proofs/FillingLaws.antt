@@ -2,11 +2,11 @@
 -- of the next byte. Assumes nothing.
 use mathlib.Core.Path.{◌≡◌, refl, sym, ap, ◌∙◌}
 use mathlib.Core.List.{List, [], ◌∷◌, ◌++◌, append_assoc, append-nil}
-use Prim.Native.Nat.{ℕ, suc, ◌+◌, ◌≤◌, ◌<◌}
+use Prim.Native.Nat.{ℕ, suc, ◌+◌, ◌-◌, ◌≤◌, ◌<◌}
 use native.Mathlib.Omega.{arith}
 use lib.ListN.{length, get_or, take, drop, set, take-append-drop, length-append, length-drop, length-set}
-use lib.Seq.{take_at, drop_at, drop-drop, length-take-le, set_split}
-use lib.Seq.{append_snoc, paste, paste-suc, take-length}
+use lib.Seq.{take_at, drop_at, drop-drop, take-take, take-add, take_all, take-suc, take-suc-set, take-append-add, get_or-drop, length-take-le, set_split}
+use lib.Seq.{append_snoc, paste, paste-suc, take-paste, drop-paste, take-length}
 use native.Mathlib.Numerals.{add-one}
 use borrow.Author.Tests.{le-leb, lt-leb}
 use Rattle.alphabet.specs.Filling.{over, pasted, put_at, behind}
@@ -103,6 +103,61 @@ put_step d₀ s d at j o eo ed hd hs =
 
 pub put_end : (d s : List ℕ) (at j : ℕ) → j ≡ length s → paste d at s j ≡ pasted d at s
 put_end d s at j e = ap (paste d at s) e ∙ ap (λ (l : List ℕ). take at d ++ l ++ drop (at + length s) d) (take-length s)
+
+-- ---- copies of several bytes together: held first, and put over what may have been copied before
+
+pub hold_step : (s h : List ℕ) (from i : ℕ) → take i h ≡ take i (drop from s) → i < length h → from + i < length s
+    → take (i + 1) (set h i (get_or s (from + i) 0)) ≡ take (i + 1) (drop from s)
+hold_step s h from i e k m =
+    let b = get_or s (from + i) 0 in
+    let n = length-drop from s in
+    ap (λ (j : ℕ). take j (set h i b)) (add-one i) ∙ take-suc-set h i b k ∙ ap (λ (l : List ℕ). l ++ (b ∷ [])) e
+    ∙ ap (λ (x : ℕ). take i (drop from s) ++ (x ∷ [])) (sym (get_or-drop from s i 0)) ∙ sym (take-suc (drop from s) i 0 (omega arith))
+    ∙ ap (λ (j : ℕ). take j (drop from s)) (sym (add-one i))
+
+pub hold_end : (h s : List ℕ) (n : ℕ) → take n h ≡ take n s → length h ≡ n → h ≡ take n s
+hold_end h s n e k = sym (take_all n h (omega arith)) ∙ e
+
+module _ (d s : List ℕ) (at i j k : ℕ) (before : j ≤ i) (past : i ≤ j + k) (inside : j + k ≤ length s) (room : at + length s ≤ length d) where
+  abbrev some : List ℕ
+  some = take k (drop j s)
+
+  kept : take (at + j) (paste d at s i) ≡ take at d ++ take j s
+  kept =
+      let n : at ≡ length (take at d) = sym (length-take-le at d (omega arith)) in
+      sym (take-take (at + j) (at + i) (paste d at s i) (omega arith)) ∙ ap (take (at + j)) (take-paste d at s i (omega arith) (omega arith))
+      ∙ ap (λ (n : ℕ). take (n + j) (take at d ++ take i s)) n ∙ take-append-add (take at d) (take i s) j
+      ∙ ap (λ (l : List ℕ). take at d ++ l) (take-take j i s (omega arith))
+
+  stays : drop (at + j + length some) (paste d at s i) ≡ drop (at + (j + k)) d
+  stays =
+      let z = length-drop j s in
+      let n = length-take-le k (drop j s) (omega arith) in
+      let m = j + k - i in
+      let e : at + j + length some ≡ at + i + m = omega arith in
+      let f : at + i + m ≡ at + (j + k) = omega arith in
+      ap (λ (n : ℕ). drop n (paste d at s i)) e ∙ sym (drop-drop m (at + i) (paste d at s i)) ∙ ap (drop m) (drop-paste d at s i (omega arith) (omega arith))
+      ∙ drop-drop m (at + i) d ∙ ap (λ (n : ℕ). drop n d) f
+
+  pub put_over : pasted (paste d at s i) (at + j) some ≡ paste d at s (j + k)
+  put_over =
+      ap (λ (l : List ℕ). l ++ some ++ drop (at + j + length some) (paste d at s i)) kept
+      ∙ ap (λ (l : List ℕ). take at d ++ take j s ++ some ++ l) stays
+      ∙ ap (λ (l : List ℕ). l ++ drop (at + (j + k)) d)
+      (append_assoc (take at d) (take j s) some ∙ ap (λ (l : List ℕ). take at d ++ l) (sym (take-add j k s)))
+
+-- so many bytes more, and the last of them
+module _ (d s b b' : List ℕ) (at i k : ℕ) (copied : b ≡ paste d at s i) (room : at + length s ≤ length d) where
+  pub put_more : i + k ≤ length s → b' ≡ pasted b (at + i) (take k (drop i s)) → b' ≡ paste d at s (i + k)
+  put_more h e = e ∙ ap (λ (l : List ℕ). pasted l (at + i) (take k (drop i s))) copied ∙ put_over d s at i i k (omega arith) (omega arith) h room
+
+  pub put_last : i ≤ length s → k ≤ length s → length s - i < k → b' ≡ pasted b (at + length s - k) (take k (drop (length s - k) s)) → b' ≡ paste d at s (length s)
+  put_last h m w e =
+      let j = length s - k in
+      let o : at + length s - k ≡ at + j = omega arith in
+      let n : j + k ≡ length s = omega arith in
+      e ∙ ap (λ (x : ℕ). pasted b x (take k (drop j s))) o ∙ ap (λ (l : List ℕ). pasted l (at + j) (take k (drop j s))) copied
+      ∙ put_over d s at i j k (omega arith) (omega arith) (omega arith) room ∙ ap (paste d at s) n
 
 -- ---- where there is room, and where there is none
 

@@ -33,7 +33,6 @@ pub mod Acknowledged
 pub mod RejectedLaws
 pub mod PresentLaws
 pub mod TextRoom
-pub mod Pasted
 pub mod NameLists
 pub mod Among
 pub mod TextNumbers
