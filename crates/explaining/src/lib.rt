@@ -17,15 +17,16 @@ pub use type_forms::print_time_form;
 pub use types::print_type;
 
 // Says below a refusal what would have been right: the types that are known, the form of a field, its list or its limit.
+// What the field is judged by is looked up for these alone, since that walks along the message.
 pub fn explain(out: &mut Output, message: &[u8], fault: FaultRecord) {
-    let asked = judged::judged_by(message, fault.place, fault.field);
+    let asked = || judged::judged_by(message, fault.place, fault.field);
     match fault.kind {
         Refusal::NoStructure => types::print_known(out, message),
-        Refusal::BreaksForm => type_forms::print_form(out, asked),
-        Refusal::NotListed => lists::print_list_of(out, asked),
+        Refusal::BreaksForm => type_forms::print_form(out, asked()),
+        Refusal::NotListed => lists::print_list_of(out, asked()),
         Refusal::ValueTooLong => {
             let value = judged::repetition_at(message, fault.place, fault.field, fault.repetition);
-            type_forms::print_limit(out, asked, value.len());
+            type_forms::print_limit(out, asked(), value.len());
         }
         _ => {}
     }

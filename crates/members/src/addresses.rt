@@ -8,7 +8,8 @@ pub fn occurrence_at(message: &[u8], number: usize) -> usize {
     let segment = places::segment_bytes(message, number);
     let name = places::piece(segment, 0, 3);
     places::segments(message)
-        .filter(|segment| (segment.number <= number) & (segment.name() == name))
+        .take_while(|segment| segment.number <= number)
+        .filter(|segment| segment.name() == name)
         .count()
 }
 
