@@ -4,6 +4,8 @@
 // acknowledgement, and why.
 #![tactic(auto)]
 
+ghost use Rattle.std.specs.Prelude.{◌≤◌};
+
 use alphabet::Refusal;
 use arguments::{Asked, Command};
 use element::{Address, Element};
@@ -168,9 +170,10 @@ fn acknowledge(
 }
 
 // How many bytes of a buffer are lent for a frame: no more than the command takes of a message.
-fn frame_room(buffer: &mut [u8]) -> &mut [u8] {
-    let room = buffer.len().min(LONGEST_MESSAGE);
-    &mut buffer[..room]
+fn frame_room(length: usize) -> usize
+    ensures { result ≤ length }
+{
+    length.min(LONGEST_MESSAGE)
 }
 
 // Does what a command asks of the file that the argument at an index names. One that is longer than the command takes is
@@ -186,7 +189,8 @@ pub fn answer_file(
     room: &mut [u8],
 ) -> Status {
     if asked.command == Command::Frames {
-        let frame = frame_room(message);
+        let length = frame_room(message.len());
+        let frame = &mut message[..length];
         return framing::tell_file(rt, asked.json, out, index, name, room, frame).map_or(
             Status::Trouble,
             status_of,
