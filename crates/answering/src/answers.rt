@@ -1,6 +1,6 @@
 // An answer is gathered in memory of a fixed size, and written out whole. Each thing in it is put together with the
 // byte that ends it: a space, or the end of the line.
-ghost use Rattle.std.specs.Prelude.{ℕ, List, [], ◌∷◌, ◌++◌, ◌==◌, ◌+◌, ◌*◌, ◌<◌, ◌≤◌, ◌≡◌, length, take};
+ghost use Rattle.std.specs.Prelude.{ℕ, List, [], ◌∷◌, ◌++◌, ◌==◌, ◌+◌, ◌*◌, ◌<◌, ◌≤◌, ◌≡◌, length, take, OnSome, IfNone};
 ghost use Rattle.answering.specs.Answers.{Fits, NumberPut, TwoPut, fault_number, fault_place, no_question};
 ghost use Rattle.answering.specs.Hex.{hexed};
 
@@ -160,5 +160,15 @@ impl Answer {
     {
         self.clear();
         self.put_word(b"?", b'\n');
+    }
+
+    // Ends what a question began: what was put stays where it is the whole answer, and else the line was no question.
+    pub fn put_unless(&mut self, put: Option<()>)
+        ensures put { OnSome put (self.new ≡ self.old) }
+        ensures not_put { IfNone put (self.new ≡ no_question) }
+    {
+        if put.is_none() {
+            self.put_no_question();
+        }
     }
 }

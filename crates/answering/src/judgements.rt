@@ -1,6 +1,6 @@
 // What a judge said of a message: the number of the refusal and its place, whether the message could have ended there,
 // and the names that could have stood there. Where the message is accepted they are 0, 0, no and none.
-ghost use Rattle.std.specs.Prelude.{◌+◌, ◌≤◌, ◌≡◌, length};
+ghost use Rattle.std.specs.Prelude.{◌+◌, ◌≤◌, length};
 ghost use Rattle.answering.specs.Answers.{Fits};
 
 use crate::{Answer, names};
@@ -35,18 +35,16 @@ fn put_expected(answer: &mut Answer, judged: Result<(), FaultRecord>)
     }
 }
 
-// Puts a judgement.
-pub fn put_judgement(answer: &mut Answer, judged: Result<(), FaultRecord>)
-    requires { length answer.old ≡ 0 }
-{
+// Puts a judgement, in the place of whatever was put before.
+pub fn put_judgement(answer: &mut Answer, judged: Result<(), FaultRecord>) {
+    answer.clear();
     put_begin(answer, judged);
     put_expected(answer, judged);
 }
 
 // Puts a verdict: the same, with field and repetition behind the place.
-pub fn put_verdict(answer: &mut Answer, judged: Result<(), FaultRecord>)
-    requires { length answer.old ≡ 0 }
-{
+pub fn put_verdict(answer: &mut Answer, judged: Result<(), FaultRecord>) {
+    answer.clear();
     let (field, repetition) = match judged {
         Ok(()) => (0, 0),
         Err(found) => (found.field, found.repetition),

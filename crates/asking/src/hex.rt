@@ -1,6 +1,6 @@
 // A word that says bytes: `-` says none, and otherwise each pair of hex digits says one. They are decoded into a buffer
 // that the caller lends, and a word that says more than fits says nothing.
-ghost use Rattle.std.specs.Prelude.{◌/◌, ◌≡◌, true, length, Some, None, IfSome, IfNone, option_map};
+ghost use Rattle.std.specs.Prelude.{◌/◌, ◌≡◌, ◌≤◌, true, length, take, Some, None, IfSome, IfNone, option_map};
 ghost use Rattle.alphabet.specs.Hex.{all_hex, pairs_of};
 ghost use Rattle.asking.specs.Hex.{said, fitting};
 
@@ -35,8 +35,24 @@ fn digits_of(word: &[u8]) -> Option<&[u8]>
     Some(word)
 }
 
-// Decodes a word to the front of a buffer, and lends the bytes that it says and the buffer behind them.
-pub fn decode<'a>(word: &[u8], buffer: &'a mut [u8]) -> Option<(&'a [u8], &'a mut [u8])>
+// Decodes a word to the front of a buffer, where the bytes that it says stand then, and tells how many they are.
+pub fn decode(word: &[u8], buffer: &mut [u8]) -> Option<usize>
+    ensures within { IfSome result (λ count. count ≤ length buffer.new) }
+    ensures some { IfSome result (λ count. fitting (length buffer.old) (said word.now) ≡ Some (take count buffer.new)) }
+    ensures none { IfNone result (fitting (length buffer.old) (said word.now) ≡ None) }
+{
+    let digits = digits_of(word)?;
+    let count = digits.len() / 2;
+    if buffer.len() < count {
+        return None;
+    }
+    put_pairs(digits, &mut buffer[..count]);
+    Some(count)
+}
+
+// Decodes a word to the front of a buffer, and lends the bytes that it says and the buffer behind them. Once they are
+// given back nothing is known of the buffer.
+pub fn lend_decoded<'a>(word: &[u8], buffer: &'a mut [u8]) -> Option<(&'a [u8], &'a mut [u8])>
     ensures some { IfSome result (λ lent. fitting (length buffer.old) (said word.now) ≡ Some lent.0.now) }
     ensures none { IfNone result (fitting (length buffer.old) (said word.now) ≡ None) }
 {

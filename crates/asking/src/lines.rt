@@ -6,16 +6,19 @@ ghost use Rattle.asking.specs.Lines.{Gathered};
 use crate::bytes;
 use std::marker::Model;
 
-// What is gathered of a line, in room for so many bytes: how many of them it has, or none where it is too long.
+// How many bytes are gathered of a line, or none where it is too long.
+pub type Line = Option<usize>;
+
+// A line as it is gathered, in room for so many bytes.
 // An array with how many it holds, for no heap is used.
 #[derive(Drop)]
-pub struct Line<const ROOM: usize> {
+pub struct GatheredLine<const ROOM: usize> {
     bytes: [u8; ROOM],
-    held: Option<usize>,
+    held: Line,
 }
 
 // A line is its bytes, or nothing where it is too long.
-impl<const ROOM: usize> Model for Line<ROOM> {
+impl<const ROOM: usize> Model for GatheredLine<ROOM> {
     ghost Value = { Option (List ℕ) };
 
     ghost view = { λ line. option_map (λ held. take held line.bytes) line.held };
@@ -23,12 +26,12 @@ impl<const ROOM: usize> Model for Line<ROOM> {
     ghost invariant = { λ line. IfSome line.held (λ held. held ≤ ROOM) };
 }
 
-impl<const ROOM: usize> Line<ROOM> {
+impl<const ROOM: usize> GatheredLine<ROOM> {
     // A line of which nothing has come.
-    pub fn new() -> Line<ROOM>
+    pub fn new() -> GatheredLine<ROOM>
         ensures { result ≡ Some [] }
     {
-        Line {
+        GatheredLine {
             bytes: [0; ROOM],
             held: Some(0),
         }

@@ -2,7 +2,7 @@
 #![tactic(auto)]
 
 use answering::Answer;
-use asking::lines::Line;
+use asking::lines::GatheredLine;
 
 // Standard output, by its number.
 const STDOUT_FILENO: i32 = 1;
@@ -16,7 +16,7 @@ const LONGEST_SAID: usize = 150_000;
 // The line that is gathered, room for the bytes that a line says, and the answer to the last line that ended.
 #[derive(Drop)]
 pub struct Conversation {
-    line: Line<LONGEST_LINE>,
+    line: GatheredLine<LONGEST_LINE>,
     said: [u8; LONGEST_SAID],
     answer: Answer,
 }
@@ -25,7 +25,7 @@ impl Conversation {
     // A conversation in which nothing is said.
     pub fn new() -> Conversation {
         Conversation {
-            line: Line::new(),
+            line: GatheredLine::new(),
             said: [0; LONGEST_SAID],
             answer: Answer::new(),
         }

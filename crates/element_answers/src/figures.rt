@@ -1,5 +1,5 @@
 // A time in an answer: a word for each of its parts, `-` where the part was not sent.
-ghost use Rattle.std.specs.Prelude.{◌+◌, ◌≤◌, ◌≡◌, length};
+ghost use Rattle.std.specs.Prelude.{◌+◌, ◌≤◌, length};
 ghost use Rattle.answering.specs.Answers.{Fits};
 
 use crate::states;
@@ -51,6 +51,7 @@ fn last_digit(number: u64) -> u8 {
 // Puts an offset, which may not have been sent: a sign, two digits of hours and two of minutes.
 fn put_offset(answer: &mut Answer, offset: Option<Offset>, end: u8)
     requires { Fits answer.old 6 }
+    ensures { length answer.new ≤ length answer.old + 6 }
 {
     let Some(
         Offset {
@@ -77,9 +78,10 @@ fn put_offset(answer: &mut Answer, offset: Option<Offset>, end: u8)
     answer.put_word(&text, end);
 }
 
-// Puts the answer to `dt`, `tm` and `ts`: behind the state, the nine parts of a time; of none where there is no time.
+// Puts the answer to `dt`, `tm` and `ts`, in the place of whatever was put before: behind the state, the nine parts of
+// a time; of none where there is no time.
 pub fn put_time(answer: &mut Answer, found: Result<Value<Time>, NoValue>)
-    requires { Fits answer.old 224 }
+    ensures { length answer.new ≤ 224 }
 {
     let (date, clock, offset) = match states::put_begin_of(answer, found, b' ') {
         Some(time) => (time.date, time.clock, time.offset),

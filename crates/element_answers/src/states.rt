@@ -1,6 +1,6 @@
 // The three words with which each answer about an element begins: the number of the refusal, its place, and the
 // element's state.
-ghost use Rattle.std.specs.Prelude.{◌+◌, ◌≤◌, ◌≡◌, length};
+ghost use Rattle.std.specs.Prelude.{◌+◌, ◌≤◌, length};
 ghost use Rattle.answering.specs.Answers.{Fits};
 
 use alphabet::Fault;
@@ -21,12 +21,12 @@ fn put_state(answer: &mut Answer, state: State, end: u8)
     }
 }
 
-// Puts the three words with which each answer about an element begins: the number of the refusal, its place, and the
-// state. After a refusal there is no element, and so no state.
+// Puts the three words with which each answer about an element begins, in the place of whatever was put before: the
+// number of the refusal, its place, and the state. After a refusal there is no element, and so no state.
 pub fn put_begin(answer: &mut Answer, found: Result<State, Fault>, end: u8)
-    requires { Fits answer.old 50 }
-    ensures { length answer.new ≤ length answer.old + 50 }
+    ensures { length answer.new ≤ 50 }
 {
+    answer.clear();
     answer.put_fault(found.err(), b' ');
     match found {
         Ok(state) => put_state(answer, state, end),
@@ -40,8 +40,7 @@ pub fn put_begin_of<T: Copy>(
     found: Result<Value<T>, NoValue>,
     end: u8,
 ) -> Option<T>
-    requires { Fits answer.old 50 }
-    ensures { length answer.new ≤ length answer.old + 50 }
+    ensures { length answer.new ≤ 50 }
 {
     let (state, value) = match found {
         Ok(Value::Absent) => (Ok(State::Absent), None),

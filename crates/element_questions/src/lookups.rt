@@ -1,6 +1,6 @@
 // The verbs about an element: which there are, and the answer to each. They differ in the call and in the words that
 // stand behind the element's state.
-ghost use Rattle.std.specs.Prelude.{◌≡◌, length, None};
+ghost use Rattle.std.specs.Prelude.{◌≡◌, None};
 ghost use Rattle.element_questions.specs.Verbs.{Verb};
 
 use crate::signed::put_signed;
@@ -29,9 +29,7 @@ pub enum Lookup {
 }
 
 // Puts the answer to `find`: behind the state, where the element starts and ends.
-fn put_element(answer: &mut Answer, found: Result<Element, Fault>)
-    requires { length answer.old ≡ 0 }
-{
+fn put_element(answer: &mut Answer, found: Result<Element, Fault>) {
     let (start, end) = match found {
         Ok(element) => (element.start, element.end),
         Err(_) => (0, 0),
@@ -42,18 +40,14 @@ fn put_element(answer: &mut Answer, found: Result<Element, Fault>)
 }
 
 // Puts the answer to `nm`: behind the state, the number and how many of its digits are decimals.
-fn put_decimal(answer: &mut Answer, found: Result<Value<Number>, NoValue>)
-    requires { length answer.old ≡ 0 }
-{
+fn put_decimal(answer: &mut Answer, found: Result<Value<Number>, NoValue>) {
     let number = element_answers::put_begin_of(answer, found, b' ').unwrap_or(NO_NUMBER);
     put_signed(answer, number.value, b' ');
     answer.put_number(number.decimals as u64, b'\n');
 }
 
 // Puts the answer to `si`: behind the state, the number.
-fn put_whole(answer: &mut Answer, found: Result<Value<Number>, NoValue>)
-    requires { length answer.old ≡ 0 }
-{
+fn put_whole(answer: &mut Answer, found: Result<Value<Number>, NoValue>) {
     let number = element_answers::put_begin_of(answer, found, b' ').unwrap_or(NO_NUMBER);
     put_signed(answer, number.value, b'\n');
 }
@@ -75,16 +69,13 @@ impl Lookup {
         }
     }
 
-    // Puts the answer to a line with such a verb, unless it is no question. `said` is lent for the bytes that the line
-    // says. A line whose other words are not those of a lookup is no question.
-    pub fn answer(self, line: &[u8], said: &mut [u8], answer: &mut Answer) -> Option<()>
-        requires { length answer.old ≡ 0 }
-    {
+    // Puts the answer to a line with such a verb, unless its other words are not those of a lookup.
+    fn put_asked(self, line: &[u8], said: &mut [u8], answer: &mut Answer) -> Option<()> {
         if words::count(line) != 7 {
             return None;
         }
         let address = addresses::address(line)?;
-        let (message, _) = hex::decode(words::word(line, 1), said)?;
+        let (message, _) = hex::lend_decoded(words::word(line, 1), said)?;
         let message = messages::held(message);
         match self {
             Lookup::Find => put_element(answer, element::find(message, address)),
@@ -95,5 +86,12 @@ impl Lookup {
             Lookup::Ts => element_answers::put_time(answer, value::ts(message, address)),
         }
         Some(())
+    }
+
+    // Puts the answer to a line with such a verb, in the place of whatever was put before: `?` where its other words
+    // are not those of a lookup. `said` is lent for the bytes that the line says.
+    pub fn answer(self, line: &[u8], said: &mut [u8], answer: &mut Answer) {
+        let put = self.put_asked(line, said, answer);
+        answer.put_unless(put);
     }
 }

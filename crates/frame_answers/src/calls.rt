@@ -1,5 +1,5 @@
 // One call of the frame reader, with all that it gives back.
-ghost use Rattle.std.specs.Prelude.{◌+◌, ◌≤◌, ◌≡◌, length};
+ghost use Rattle.std.specs.Prelude.{◌+◌, ◌≤◌, length};
 ghost use Rattle.answering.specs.Answers.{Fits};
 
 use crate::states;
@@ -19,12 +19,12 @@ fn put_fed(answer: &mut Answer, number: u8, used: usize, stopped_at: &[u8], size
     answer.put_number(size as u64, b' ');
 }
 
-// Calls the reader once, and puts what came back, then the state and the buffer. Where it refuses the state it hands
-// nothing back, and the state stays.
+// Calls the reader once, and puts what came back, then the state and the buffer, in the place of whatever was put
+// before. Where it refuses the state it hands nothing back, and the state stays.
 pub fn put_call(answer: &mut Answer, begun: Numbers, piece: &[u8], buffer: &mut [u8])
-    requires buffer_len_bound { length buffer.old ≤ 65536 }
-    requires blank { length answer.old ≡ 0 }
+    requires { length buffer.old ≤ 65536 }
 {
+    answer.clear();
     match FrameState::from(begun).feed(piece, buffer) {
         Ok(fed) => {
             match fed.stop {

@@ -1,5 +1,5 @@
 // The verbs about frames: which there are, and the answer to each.
-ghost use Rattle.std.specs.Prelude.{◌≡◌, length, None};
+ghost use Rattle.std.specs.Prelude.{◌≡◌, None};
 ghost use Rattle.frame_questions.specs.Verbs.{Verb};
 
 use crate::{calls, pieces};
@@ -25,10 +25,9 @@ impl Asked {
         }
     }
 
-    // Puts the answer to a line with such a verb, unless it is no question. `said` is lent for the bytes of a piece.
-    pub fn answer(self, line: &[u8], said: &mut [u8], answer: &mut Answer) -> Option<()>
-        requires { length answer.old ≡ 0 }
-    {
+    // Puts the answer to a line with such a verb, in the place of whatever was put before: `?` where it is no question.
+    // `said` is lent for the bytes of a piece.
+    pub fn answer(self, line: &[u8], said: &mut [u8], answer: &mut Answer) {
         match self {
             Asked::Call => calls::answer_call(line, said, answer),
             Asked::Pieces => pieces::answer_pieces(line, said, answer),

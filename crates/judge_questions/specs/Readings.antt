@@ -1,8 +1,11 @@
 -- The question `read MSG`: what it asks, and what is answered. Assumes nothing.
 use Rattle.std.specs.Prelude.{ℕ, ◌≡◌, List, [], ◌∷◌, ◌++◌, Option, Some, None}
+use Rattle.std.specs.Result.{result_err}
 use Rattle.io.specs.Digits.{last_digits, IsDigitCount}
-use Rattle.answering.specs.Answers.{no_question}
+use Rattle.answering.specs.Answers.{TwoPut, fault_number, fault_place, no_question}
 use Rattle.asking.specs.Hex.{said}
+use Rattle.asking.specs.Messages.{held_of}
+use Rattle.reading.specs.Reading.{reading}
 
 -- the verb `read`
 abbrev pub read_verb : List ℕ
@@ -28,3 +31,10 @@ pub record TwoNumbers (answer : List ℕ) : Type 0 where
 pub data ReadAnswer : Option (List ℕ) → List ℕ → Type 0 where
   numbers : {message answer : List ℕ} → TwoNumbers answer → ReadAnswer (Some message) answer
   unknown : ReadAnswer None no_question
+
+-- which two they are: the number and the place of the fault that reading finds in the message, or in no bytes where the
+-- program doesn't hold it; and 0 and 0 where it finds none
+abbrev pub ReadNumbers : List ℕ → List ℕ → Type 0
+ReadNumbers message answer =
+    let fault = result_err (reading (held_of message)) in
+    TwoPut [] answer (fault_number fault) (fault_place fault) 10

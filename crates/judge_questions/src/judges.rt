@@ -1,5 +1,5 @@
 // The verbs that ask for a judgement: which there are, and the answer to each.
-ghost use Rattle.std.specs.Prelude.{◌≡◌, length, None};
+ghost use Rattle.std.specs.Prelude.{◌≡◌, None};
 ghost use Rattle.judge_questions.specs.Verbs.{Verb};
 
 use answering::{Answer, judgements};
@@ -25,15 +25,12 @@ impl Judge {
         }
     }
 
-    // Puts the answer to a line with such a verb, unless it is no question. `said` is lent for the bytes that the line
-    // says. A line with another word behind the message, or with none, is no question.
-    pub fn answer(self, line: &[u8], said: &mut [u8], answer: &mut Answer) -> Option<()>
-        requires { length answer.old ≡ 0 }
-    {
+    // Puts the answer to a line with such a verb, unless its other words are not one message.
+    fn put_asked(self, line: &[u8], said: &mut [u8], answer: &mut Answer) -> Option<()> {
         if words::count(line) != 2 {
             return None;
         }
-        let (message, _) = hex::decode(words::word(line, 1), said)?;
+        let (message, _) = hex::lend_decoded(words::word(line, 1), said)?;
         let message = messages::held(message);
         match self {
             Judge::Structure => {
@@ -42,5 +39,12 @@ impl Judge {
             Judge::All => judgements::put_verdict(answer, verdict::verdict(message)),
         }
         Some(())
+    }
+
+    // Puts the answer to a line with such a verb, in the place of whatever was put before. `said` is lent for the bytes
+    // that the line says. A line with another word behind the message, or with none, is no question.
+    pub fn answer(self, line: &[u8], said: &mut [u8], answer: &mut Answer) {
+        let put = self.put_asked(line, said, answer);
+        answer.put_unless(put);
     }
 }

@@ -1,14 +1,12 @@
--- Laws of a word that a family knows, and of the answer to `read`. Assumes nothing.
+-- Laws of a word that a family knows. Assumes nothing.
 use Prim.Native.Nat.{ℕ}
 use mathlib.Core.Path.{◌≡◌, sym, ap, subst, ◌∙◌}
 use mathlib.Core.Bool.{Bool, true, false}
 use mathlib.Core.List.{List}
-use Rattle.std.specs.Prelude.{Option, Some, None, is_some}
+use Rattle.std.specs.Prelude.{Option, Some, None}
 use Rattle.alphabet.specs.Lists.{same}
 use Rattle.alphabet.proofs.BoolLaws.{false_true}
 use Rattle.alphabet.proofs.ListLaws.{same_is, same_own}
-use Rattle.answering.specs.Answers.{no_question}
-use Rattle.judge_questions.specs.Readings.{TwoNumbers, ReadAnswer, numbers, unknown}
 use Rattle.questions.specs.Verbs.{Verb}
 
 -- a word that is the same as a verb is one
@@ -22,12 +20,3 @@ other_verb {verb = verb} s f e = false_true (sym f ∙ s ∙ ap (λ w. same w ve
 -- a word that means something to a family whose verbs are verbs is a verb
 pub of_family : {X M Own : Type 0} {word : List ℕ} {meaning : Option M} {m : M} → (Own → Verb word) → ((Own → ⊥) → meaning ≡ None) → meaning ≡ Some m → (Verb word → ⊥) → X
 of_family i u k n = let e = u (λ v. n (i v)) in cc
-
--- the answer to `read`, where a message is said and where none is
-pub read_some : {asked : Option (List ℕ)} {answer : List ℕ} → true ≡ is_some asked → TwoNumbers answer → ReadAnswer asked answer
-read_some {asked = Some message} e q = numbers q
-read_some {asked = None} e q = false_true (sym e)
-
-pub read_none : {asked : Option (List ℕ)} {answer : List ℕ} → false ≡ is_some asked → answer ≡ no_question → ReadAnswer asked answer
-read_none {asked = Some message} e q = false_true e
-read_none {asked = None} e q = subst (λ (l : List ℕ). ReadAnswer None l) (sym q) unknown

@@ -1,13 +1,14 @@
 // The questions that the program knows, by their verbs. A family of verbs has a library of its own, which counts a
 // line's words, decodes them and puts the answer; here stands which family a verb is of. A line with no verb is no
-// question. The buffers are lent by the program, which has room in them: so it is required.
+// question. An answer has its own room, and a line that says more than the lent buffer holds is no question: so no
+// room is required.
 #![tactic(auto)]
 
-ghost use Rattle.std.specs.Prelude.{◌≡◌, [], length, get_or, Some, None, is_some, OnSome};
+ghost use Rattle.std.specs.Prelude.{◌≡◌, [], length, get_or, Some, None, IfSome};
 ghost use Rattle.answering.specs.Answers.{no_question};
 ghost use Rattle.asking.specs.Words.{words as Words·words};
 ghost use Rattle.asking.specs.Hex.{fitting};
-ghost use Rattle.judge_questions.specs.Readings.{read_verb, read_asked, ReadAnswer, TwoNumbers};
+ghost use Rattle.judge_questions.specs.Readings.{read_verb, read_asked, ReadAnswer, ReadNumbers};
 ghost use Rattle.questions.specs.Verbs.{Verb};
 ghost use Rattle.questions.specs.declared.Question.TheVariants.{Read};
 
@@ -57,12 +58,12 @@ impl Question {
         None
     }
 
-    // Puts the answer to a line with such a verb, unless it is no question.
-    fn answer(self, line: &[u8], said: &mut [u8], answer: &mut Answer) -> Option<()>
-        requires { length answer.old ≡ 0 }
-        ensures asked { self ≡ Read
-            → is_some result ≡ is_some (fitting (length said.old) (read_asked (Words·words line.now))) }
-        ensures numbers { self ≡ Read → OnSome result (TwoNumbers answer.new) }
+    // Puts the answer to a line with such a verb, in the place of whatever was put before.
+    fn answer(self, line: &[u8], said: &mut [u8], answer: &mut Answer)
+        ensures read { self ≡ Read
+            → ReadAnswer (fitting (length said.old) (read_asked (Words·words line.now))) answer.new }
+        ensures which { self ≡ Read → IfSome (fitting (length said.old) (read_asked (Words·words line.now)))
+            (λ message. ReadNumbers message answer.new) }
     {
         match self {
             Question::Read => judge_questions::answer_read(line, said, answer),
@@ -75,27 +76,17 @@ impl Question {
     }
 }
 
-// Puts the answer to a line, unless it is no question.
-fn put_known(line: &[u8], said: &mut [u8], answer: &mut Answer) -> Option<()>
-    requires { length answer.old ≡ 0 }
-    ensures unknown { (Verb (get_or (Words·words line.now) 0 []) → ⊥) → result ≡ None }
-    ensures asked { get_or (Words·words line.now) 0 [] ≡ read_verb
-        → is_some result ≡ is_some (fitting (length said.old) (read_asked (Words·words line.now))) }
-    ensures numbers { get_or (Words·words line.now) 0 [] ≡ read_verb → OnSome result (TwoNumbers answer.new) }
-{
-    let question = Question::of(words::word(line, 0))?;
-    question.answer(line, said, answer)
-}
-
 // Puts the answer to a line, in the place of whatever was put before. `said` is lent for the bytes that the line says.
 pub fn answer(line: &[u8], said: &mut [u8], answer: &mut Answer)
     ensures unknown { (Verb (get_or (Words·words line.now) 0 []) → ⊥) → answer.new ≡ no_question }
     ensures read { get_or (Words·words line.now) 0 [] ≡ read_verb
         → ReadAnswer (fitting (length said.old) (read_asked (Words·words line.now))) answer.new }
+    ensures which { get_or (Words·words line.now) 0 [] ≡ read_verb
+        → IfSome (fitting (length said.old) (read_asked (Words·words line.now)))
+        (λ message. ReadNumbers message answer.new) }
 {
-    answer.clear();
-    match put_known(line, said, answer) {
-        Some(()) => {}
+    match Question::of(words::word(line, 0)) {
+        Some(question) => question.answer(line, said, answer),
         None => answer.put_no_question(),
     }
 }

@@ -1,5 +1,6 @@
 // The verbs that write a text into a buffer: which there are, and the answer to each.
-ghost use Rattle.std.specs.Prelude.{◌≡◌, length, None};
+ghost use Rattle.std.specs.Prelude.{◌≡◌, ◌≢◌, ◌≤◌, length, Some, None, IfSome, IfNone};
+ghost use Rattle.asking.specs.Hex.{said, fitting};
 ghost use Rattle.text_questions.specs.Verbs.{Verb};
 
 use alphabet::{Delimiters, Fault};
@@ -15,10 +16,13 @@ pub enum Writing {
 }
 
 // The five delimiters that a word says.
-fn delimiters_of(word: &[u8]) -> Option<Delimiters> {
+fn delimiters_of(word: &[u8]) -> Option<Delimiters>
+    ensures some { IfSome result (λ delimiters. fitting 5 (said word.now) ≡ Some delimiters.bytes) }
+    ensures none { IfNone result (IfSome (fitting 5 (said word.now)) (λ bytes. length bytes ≢ 5)) }
+{
     let mut five = [0; 5];
-    let (bytes, _) = hex::decode(word, &mut five)?;
-    if bytes.len() != 5 {
+    let count = hex::decode(word, &mut five)?;
+    if count != 5 {
         return None;
     }
     Some(Delimiters { bytes: five })
@@ -47,21 +51,33 @@ impl Writing {
         }
     }
 
-    // Puts the answer to a line with such a verb, unless it is no question. `said` is lent for the bytes of the text. A
-    // line whose other words are not those of a text is no question.
-    pub fn answer(self, line: &[u8], said: &mut [u8], answer: &mut Answer) -> Option<()>
-        requires { length answer.old ≡ 0 }
+    // Writes a text into a buffer of so many bytes, and puts what came back. By a call of its own the buffer is filled
+    // once: among the words that are decoded it would be cleared as well, which took as long again.
+    fn put_written(self, answer: &mut Answer, delimiters: Delimiters, text: &[u8], room: usize)
+        requires { room ≤ 65536 }
     {
-        if words::count(line) != 4 {
-            return None;
-        }
-        let (text, _) = hex::decode(words::word(line, 1), said)?;
-        let delimiters = delimiters_of(words::word(line, 2))?;
-        let room = rooms::room_of(words::word(line, 3))?;
         let mut buffer = rooms::untouched();
         let buffer = &mut buffer[..room];
         let written = self.write(delimiters, text, buffer);
         writings::put_written(answer, written, buffer);
+    }
+
+    // Puts the answer to a line with such a verb, unless its other words are not those of a text.
+    fn put_asked(self, line: &[u8], said: &mut [u8], answer: &mut Answer) -> Option<()> {
+        if words::count(line) != 4 {
+            return None;
+        }
+        let (text, _) = hex::lend_decoded(words::word(line, 1), said)?;
+        let delimiters = delimiters_of(words::word(line, 2))?;
+        let room = rooms::room_of(words::word(line, 3))?;
+        self.put_written(answer, delimiters, text, room);
         Some(())
+    }
+
+    // Puts the answer to a line with such a verb, in the place of whatever was put before: `?` where its other words
+    // are not those of a text. `said` is lent for the bytes of the text.
+    pub fn answer(self, line: &[u8], said: &mut [u8], answer: &mut Answer) {
+        let put = self.put_asked(line, said, answer);
+        answer.put_unless(put);
     }
 }

@@ -1,5 +1,4 @@
 -- `frame_answers::runs::put_piece` meets its contract: each call is done with a byte at least, and leaves room for the end of the answer.
-use Prim.Native.Nat.{◌≤◌}
 use mathlib.Core.Path.{◌≡◌}
 use lib.ListN.{length}
 use Rattle.answering.specs.Answers.{Fits}

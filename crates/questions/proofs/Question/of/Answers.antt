@@ -1,5 +1,5 @@
 -- `questions::Question::of` meets its contract: a word that has a family is a verb, and `read` is of the first.
-use Rattle.questions.specs.Verbs.{Verb, read, ack, of_element, of_judgement, of_text_verb, of_frame}
+use Rattle.questions.specs.Verbs.{read, ack, of_element, of_judgement, of_text_verb, of_frame}
 use Rattle.questions.proofs.Families.{same_verb, other_verb, of_family}
 use Rattle.questions.proofs.Question.of.Goals as goal
 

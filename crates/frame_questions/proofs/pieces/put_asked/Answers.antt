@@ -1,10 +1,9 @@
--- `frame_questions::pieces::answer_pieces` meets its contract: the first piece begins within the line.
-use Prim.Native.Nat.{◌≤◌}
+-- `frame_questions::pieces::put_asked` meets its contract: the first piece begins within the line.
 use mathlib.Core.Path.{sym, ◌∙◌}
 use native.Mathlib.Omega.{arith}
 use borrow.Author.Rules.{rules}
 use Rattle.alphabet.proofs.PartLaws.{part_bytes_lem}
-use Rattle.frame_questions.proofs.pieces.answer_pieces.Goals as goal
+use Rattle.frame_questions.proofs.pieces.put_asked.Goals as goal
 
 pub slice_bounds-put_pieces-count : goal.slice_bounds-put_pieces-count
 slice_bounds-put_pieces-count c =
