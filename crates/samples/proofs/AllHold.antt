@@ -36,11 +36,11 @@ texts = (refl, (refl, (refl, (refl, (refl, (refl, tt))))))
 
 numbers : All of_numbers
 unfolding All of_numbers Holds nm_read nm_check nm_value nm_form unsigned all_digits counted bytes_at found lookup_check reading opening message_limit segment_limit first_wrong_delimiter first segments_check segment_checks segments all_but_last split segment_at standing element_of element_at unsplit subcomponent_at component_at repetition_at below part_in part_at field_in state_of
-numbers = (refl, (refl, ((refl, refl), ((refl, refl), ((refl, refl), (refl, ((refl, refl), tt)))))))
+numbers = (refl, (refl, (((_, refl, refl), refl), (((_, refl, refl), refl), (((_, refl, refl), refl), (refl, (((_, refl, refl), refl), tt)))))))
 
 times : All of_times
 unfolding All of_times Holds time_read is_time time_of time_form all_digits fraction_form zone_form valid_date date_of figure_at counted valid_clock clock_of fraction_of offset_of bytes_at found lookup_check reading opening message_limit segment_limit first_wrong_delimiter first segments_check segment_checks segments all_but_last split segment_at standing element_of element_at unsplit subcomponent_at component_at repetition_at below part_in part_at field_in state_of
-times = ((refl, refl), ((refl, refl), ((refl, refl), tt)))
+times = (((_, refl), refl), (((_, refl, refl), refl), (((_, refl), refl), tt)))
 
 states : All of_states
 unfolding All of_states Holds found lookup_check reading opening message_limit segment_limit first_wrong_delimiter first segments_check segment_checks segments all_but_last split segment_at standing element_of element_at unsplit subcomponent_at component_at repetition_at below part_in part_at field_in state_of

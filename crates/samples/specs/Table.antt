@@ -4,12 +4,14 @@ use Rattle.std.specs.Prelude.{ℕ, ◌+◌, ℤ, pos, neg_ℤ, ◌≡◌, Bool, 
 use Prim.Native.String.{String}
 use Rattle.alphabet.specs.Bytes.{ascii}
 use Rattle.alphabet.specs.Answers.{number_of, number_given}
+use Rattle.alphabet.specs.declared.answers.Refusal.{Refusal}
 use Rattle.element.specs.Finding.{found, element_found}
 use Rattle.element.specs.declared.address.Address.{Address}
 use Rattle.element.specs.declared.states.State.{State}
 use Rattle.element.specs.declared.states.State.TheVariants.{Absent, Empty, Present}
-use Rattle.value.specs.Asked.{nm_found, ts_found, number_told}
+use Rattle.value.specs.Asked.{Asked, nm_found, ts_found}
 use Rattle.value.specs.declared.asked.Value.{Value}
+use Rattle.value.specs.declared.asked.NoValue.TheVariants.{NotSaid}
 use Rattle.escaping.specs.Outcomes.{text}
 use Rattle.escaping.specs.Outcomes.{escaping, answer}
 use Rattle.text.specs.Unescape.{unescaping}
@@ -66,6 +68,14 @@ report_of ns = ascii "MSH|^~\\&|||||||ORU^R01" ++ 13 ∷ named ns
 abbrev pub state_in : List ℕ → State
 state_in m = (element_found (found m (in_segment 1))).state
 
+-- the answer is a value that is present
+abbrev pub IsPresent : {T : Type 0} → Asked T → Type 0
+IsPresent {T = T} asked = (value : T) × (asked ≡ Ok (Value.Present value))
+
+-- the answer is that the element is present, and its bytes are refused by this number
+abbrev pub NotSaidBy : {T : Type 0} → ℕ → Asked T → Type 0
+NotSaidBy n asked = (kind : Refusal) × (asked ≡ Err (NotSaid kind)) × (number_of kind ≡ n)
+
 -- what a row says, by the definitions; the room is more than any sample needs
 unfoldable pub Holds : Row → Type 0
 Holds (says written t) = unescaping usual (ascii written) 100 ≡ text (ascii t)
@@ -74,11 +84,11 @@ Holds (is_written t written) = escaping usual (ascii t) 100 ≡ text (ascii writ
 Holds (is_number bytes value decimals) =
     nm_found (with_field bytes) (in_segment 1) ≡ Ok (Value.Present (record { value = value; decimals = decimals }))
 Holds (no_number bytes n) =
-    (number_told (nm_found (with_field bytes) (in_segment 1)) ≡ n) × (state_in (with_field bytes) ≡ Present)
+    NotSaidBy n (nm_found (with_field bytes) (in_segment 1)) × (state_in (with_field bytes) ≡ Present)
 Holds (is_time_row bytes) =
-    (number_told (ts_found (with_field bytes) (in_segment 1)) ≡ 0) × (state_in (with_field bytes) ≡ Present)
+    IsPresent (ts_found (with_field bytes) (in_segment 1)) × (state_in (with_field bytes) ≡ Present)
 Holds (no_time_row bytes n) =
-    (number_told (ts_found (with_field bytes) (in_segment 1)) ≡ n) × (state_in (with_field bytes) ≡ Present)
+    NotSaidBy n (ts_found (with_field bytes) (in_segment 1)) × (state_in (with_field bytes) ≡ Present)
 Holds (has_state s f state) =
     (number_given (found (message_of s) (in_segment f)) ≡ 0)
     × ((element_found (found (message_of s) (in_segment f))).state ≡ state)
