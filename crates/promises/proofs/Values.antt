@@ -25,7 +25,7 @@ use Rattle.grammars.specs.SpeltNumbers.{NmSays, SiSays}
 use Rattle.grammars.specs.SpeltTimes.{DtSays, TmSays, TsSays}
 use Rattle.grammars.proofs.SpeltNumbersLaws as Numbers
 use Rattle.grammars.proofs.SpeltTimesLaws as Times
-use Rattle.promises.specs.Values.{said, StateAlone, absent, empty, null, not_found}
+use Rattle.promises.specs.Values.{said, number_said, time_said, StateAlone, absent, empty, null, not_found}
 
 -- ---- what is asked of an element, by its state
 
@@ -83,23 +83,32 @@ module _ {T : Type 0} (read : Result T Refusal) where
 
 -- ---- the answers
 
+-- an answer is the same as that of its parts
+pub number_parts : (r : Result Number Refusal) → said r ≡ number_said r
+number_parts (Ok n) = refl
+number_parts (Err kind) = refl
+
+pub time_parts : (r : Result Time Refusal) → said r ≡ time_said r
+time_parts (Ok t) = refl
+time_parts (Err kind) = refl
+
 module _ (m : List ℕ) (a : Address) where
   -- "its number": of an element that is present, what its own bytes spell
-  pub nm_spelled : {r : Result Number Refusal} → (element_found (found m a)).state ≡ Present → NmSays (element_bytes m a) r → nm_found m a ≡ said r
-  nm_spelled there s = said_lem (nm_read (element_bytes m a)) (found m a) there ∙ ap said (Numbers.nm_once (Numbers.nm_said (element_bytes m a)) s)
+  pub nm_spelled : {r : Result Number Refusal} → (element_found (found m a)).state ≡ Present → NmSays (element_bytes m a) r → nm_found m a ≡ number_said r
+  nm_spelled {r} there s = said_lem (nm_read (element_bytes m a)) (found m a) there ∙ ap said (Numbers.nm_once (Numbers.nm_said (element_bytes m a)) s) ∙ number_parts r
 
-  pub si_spelled : {r : Result Number Refusal} → (element_found (found m a)).state ≡ Present → SiSays (element_bytes m a) r → si_found m a ≡ said r
-  si_spelled there s = said_lem (si_read (element_bytes m a)) (found m a) there ∙ ap said (Numbers.si_once (Numbers.si_said (element_bytes m a)) s)
+  pub si_spelled : {r : Result Number Refusal} → (element_found (found m a)).state ≡ Present → SiSays (element_bytes m a) r → si_found m a ≡ number_said r
+  si_spelled {r} there s = said_lem (si_read (element_bytes m a)) (found m a) there ∙ ap said (Numbers.si_once (Numbers.si_said (element_bytes m a)) s) ∙ number_parts r
 
   -- "or its time"
-  pub dt_spelled : {r : Result Time Refusal} → (element_found (found m a)).state ≡ Present → DtSays (element_bytes m a) r → dt_found m a ≡ said r
-  dt_spelled there s = said_lem (dt_read (element_bytes m a)) (found m a) there ∙ ap said (Times.dt_once (Times.dt_said (element_bytes m a)) s)
+  pub dt_spelled : {r : Result Time Refusal} → (element_found (found m a)).state ≡ Present → DtSays (element_bytes m a) r → dt_found m a ≡ time_said r
+  dt_spelled {r} there s = said_lem (dt_read (element_bytes m a)) (found m a) there ∙ ap said (Times.dt_once (Times.dt_said (element_bytes m a)) s) ∙ time_parts r
 
-  pub tm_spelled : {r : Result Time Refusal} → (element_found (found m a)).state ≡ Present → TmSays (element_bytes m a) r → tm_found m a ≡ said r
-  tm_spelled there s = said_lem (time_read Tm (element_bytes m a)) (found m a) there ∙ ap said (Times.tm_once (Times.tm_said (element_bytes m a)) s)
+  pub tm_spelled : {r : Result Time Refusal} → (element_found (found m a)).state ≡ Present → TmSays (element_bytes m a) r → tm_found m a ≡ time_said r
+  tm_spelled {r} there s = said_lem (time_read Tm (element_bytes m a)) (found m a) there ∙ ap said (Times.tm_once (Times.tm_said (element_bytes m a)) s) ∙ time_parts r
 
-  pub ts_spelled : {r : Result Time Refusal} → (element_found (found m a)).state ≡ Present → TsSays (element_bytes m a) r → ts_found m a ≡ said r
-  ts_spelled there s = said_lem (time_read Ts (element_bytes m a)) (found m a) there ∙ ap said (Times.ts_once (Times.ts_said (element_bytes m a)) s)
+  pub ts_spelled : {r : Result Time Refusal} → (element_found (found m a)).state ≡ Present → TsSays (element_bytes m a) r → ts_found m a ≡ time_said r
+  ts_spelled {r} there s = said_lem (time_read Ts (element_bytes m a)) (found m a) there ∙ ap said (Times.ts_once (Times.ts_said (element_bytes m a)) s) ∙ time_parts r
 
   -- some answer is always spelled, so these are never about nothing
   pub some_spelled : NmSays (element_bytes m a) (nm_read (element_bytes m a)) × SiSays (element_bytes m a) (si_read (element_bytes m a))
