@@ -41,7 +41,7 @@ impl<'a> Iterator for Walk<'a> {
         if rest.is_empty() {
             return None;
         }
-        let end = reading::segment_end(rest, 0);
+        let end = alphabet::find(rest, CARRIAGE_RETURN);
         let segment = Segment {
             number: self.number,
             start: self.start,
@@ -90,8 +90,8 @@ pub fn segment_around(message: &[u8], place: usize) -> Segment<'_> {
     }
 }
 
-// How many segments a message has: one for each CR. They are walked along, since CR is sought by blocks there: counted
-// over the bytes one by one, `check` of a long message took half as many instructions again.
+// How many segments a message has: one for each CR. They are walked along: counted over the bytes one by one, `check` of
+// a long message took half as many instructions again.
 pub fn count_segments(message: &[u8]) -> usize {
     let is_ended = message.is_empty() || message.ends_with(&[CARRIAGE_RETURN]);
     segments(message)
